@@ -1,0 +1,147 @@
+-- The texts of ids are just those of 64 lower case hex digits, and each names one id.
+use Rattle.std.proofs.Common.{◌≡◌, ℕ, zero, suc, ◌+◌, ◌*◌, ◌-◌, ◌/◌, ◌%◌, ◌<◌, ◌==◌, Bool, true, false, ◌&&◌, ◌||◌, not, cond, nat_lt, List, [], ◌∷◌, length, slice_index, Result, Ok, inl, inr, refl, sym, ap, ◌∙◌, arith}
+use Rattle.std.proofs.lemmas.Bool.{and_parts, cases_lt, eqb-true}
+use Rattle.std.proofs.lemmas.List.Elements.{All-cons, All-head, All-nil, All-tail}
+use Rattle.std.specs.List.{AllPass}
+use Rattle.std.specs.Result.{result_unwrap_or}
+use Rattle.hex.specs.Hex.{IsBytes, decode_of, decode_sized, encode_lower, encode_with, lower_digits}
+use Rattle.hex.proofs.HexLemmas.{decode_of-encode_lower, decode_of-same, decode_sized-encode_lower, decode_sized-ok, length-encode_with}
+use Rattle.hex.specs.declared.error.FromHexError.{FromHexError}
+use Rattle.keep_names.specs.Id.{IsDigest, IsIdText, id_text, is_lower_hex_digit}
+use Rattle.keep_names.specs.declared.id.Id.{Id}
+
+-- the fact of `AllPass is_lower_hex_digit`
+abbrev IsLower : ℕ → Type 0
+IsLower c = is_lower_hex_digit c ≡ true
+
+-- ---- the table of digits, by trying each place
+
+-- a test that holds below n, as a test that computes
+abbrev pub each_below : (ℕ → Bool) → ℕ → Bool
+each_below test zero = true
+each_below test (suc n) = test n && each_below test n
+
+-- a place below n passed the test
+pub each_below-at : (test : ℕ → Bool) (n k : ℕ) → each_below test n ≡ true → k < n → test k ≡ true
+each_below-at test zero k h lt = absurd (omega arith)
+each_below-at test (suc n) k h lt =
+    let parts = and_parts (test n) (each_below test n) h in
+    elim (cases_lt k n) [
+      | inl below ↦ each_below-at test n k parts.1 below
+      | inr top ↦
+          let e : k ≡ n = omega arith in
+          rw e parts.0
+    ]
+
+-- each place of the table has a lower case digit
+lower_at : (d : ℕ) → d < 16 → IsLower (slice_index lower_digits d)
+lower_at d lt = each_below-at (λ k. is_lower_hex_digit (slice_index lower_digits k)) 16 d refl lt
+
+-- the value of a lower case digit
+abbrev digit_value : ℕ → ℕ
+digit_value c = cond (nat_lt c 97) (c - 48) (c - 87)
+
+-- whether c is no lower case digit, or the table has it at its value
+abbrev stands_at_value : ℕ → Bool
+stands_at_value c = not (is_lower_hex_digit c) || (slice_index lower_digits (digit_value c) == c)
+
+lower-small : (c : ℕ) → IsLower c → c < 103
+lower-small c h = grind (arith)
+
+digit_value-small : (c : ℕ) → IsLower c → digit_value c < 16
+digit_value-small c h = grind (arith)
+
+-- the second of two tests, where the first fails
+or_rest : (a b : Bool) → a ≡ true → (not a || b) ≡ true → b ≡ true
+or_rest true b h e = e
+or_rest false b h e = cc h
+
+-- a lower case digit stands in the table at its value
+lower_digits-digit_value : (c : ℕ) → IsLower c → slice_index lower_digits (digit_value c) ≡ c
+lower_digits-digit_value c h =
+    eqb-true (slice_index lower_digits (digit_value c)) c
+    (or_rest (is_lower_hex_digit c) _ h (each_below-at stands_at_value 103 c refl (lower-small c h)))
+
+-- ---- texts
+
+-- a byte in front of bytes
+IsBytes-cons : (b : ℕ) (rest : List ℕ) → b < 256 → IsBytes rest → IsBytes (b ∷ rest)
+IsBytes-cons b rest h hs zero = h
+IsBytes-cons b rest h hs (suc i) = hs i
+
+-- the text of bytes has lower case digits alone
+AllPass-encode_lower : (bytes : List ℕ) → IsBytes bytes → AllPass is_lower_hex_digit (encode_lower bytes)
+unfolding encode_with
+AllPass-encode_lower [] h = All-nil IsLower
+AllPass-encode_lower (b ∷ rest) h =
+    let fits : b < 256 = h 0 in
+    let high = slice_index lower_digits (b / 16) in
+    let low = slice_index lower_digits (b % 16) in
+    All-cons IsLower high (low ∷ encode_lower rest) (lower_at (b / 16) (omega arith))
+    (All-cons IsLower low (encode_lower rest) (lower_at (b % 16) (omega arith)) (AllPass-encode_lower rest (λ i. h (suc i))))
+
+-- lower case digits in pairs are the text of some bytes
+bytes_of_text : (text : List ℕ) → length text % 2 ≡ 0 → AllPass is_lower_hex_digit text
+    → (bytes : List ℕ) × (encode_lower bytes ≡ text) × IsBytes bytes
+unfolding encode_with
+bytes_of_text [] even h = ([], refl, λ i. omega arith)
+bytes_of_text (a ∷ []) even h = absurd (omega arith)
+bytes_of_text (a ∷ b ∷ rest) even h =
+    let after = All-tail IsLower a (b ∷ rest) h in
+    let is_high = All-head IsLower a (b ∷ rest) h in
+    let is_low = All-head IsLower b rest after in
+    let high = digit_value-small a is_high in
+    let low = digit_value-small b is_low in
+    let ih = bytes_of_text rest (omega arith) (All-tail IsLower b rest after) in
+    let front : (digit_value a * 16 + digit_value b) / 16 ≡ digit_value a = omega arith in
+    let back : (digit_value a * 16 + digit_value b) % 16 ≡ digit_value b = omega arith in (
+      (digit_value a * 16 + digit_value b) ∷ ih.0,
+      rw (front, back, lower_digits-digit_value a is_high, lower_digits-digit_value b is_low, ih.1) refl,
+      IsBytes-cons (digit_value a * 16 + digit_value b) ih.0 (omega arith) ih.2,
+    )
+
+-- the text of an id is 64 lower case hex digits
+pub IsIdText-id_text : (id : Id) → IsDigest id → IsIdText (id_text id)
+IsIdText-id_text id h =
+    let size = length-encode_with lower_digits id.0 in
+    let whole : length id.0 ≡ 32 = h.0 in
+    (omega (arith, size, whole), AllPass-encode_lower id.0 h.1)
+
+-- 64 lower case hex digits are the text of an id
+pub id_of_text : (text : List ℕ) → IsIdText text → (id : Id) × IsDigest id × (id_text id ≡ text)
+id_of_text text h =
+    let size : length text ≡ 64 = h.0 in
+    let found = bytes_of_text text (omega arith) h.1 in
+    let long = length-encode_with lower_digits found.0 in
+    let same = ap length found.1 in
+    (record { 0 = found.0 }, (omega (arith, long, same, size), found.2), found.1)
+
+-- ids of one text are one
+pub id_text-exact : (a b : Id) → IsDigest a → IsDigest b → id_text a ≡ id_text b → a ≡ b
+id_text-exact a b ha hb same =
+    ap (λ (bytes : List ℕ). record { 0 = bytes })
+    (decode_of-same (id_text b) a.0 b.0 (ap decode_of (sym same) ∙ decode_of-encode_lower a.0 ha.1) (decode_of-encode_lower b.0 hb.1))
+
+-- ---- reading
+
+-- the text of an id decodes to it
+pub decode_sized-id_text : (id : Id) (text : List ℕ) → IsDigest id → id_text id ≡ text → decode_sized text 32 ≡ Ok id.0
+decode_sized-id_text id text h same = rw (← same) (decode_sized-encode_lower id.0 32 h.0 h.1)
+
+-- lower case digits that decode are the text of what they decode to
+pub id_text-decoded : (text bytes : List ℕ) → AllPass is_lower_hex_digit text → decode_sized text 32 ≡ Ok bytes → encode_lower bytes ≡ text
+id_text-decoded text bytes lower read =
+    let size = decode_sized-ok text 32 bytes read in
+    let found = id_of_text text (size, lower) in
+    let again = decode_sized-id_text found.0 text found.1 found.2 in
+    let same : bytes ≡ found.0.0 = ap (λ (r : Result (List ℕ) FromHexError). result_unwrap_or r []) (sym read ∙ again) in
+    ap encode_lower same ∙ found.2
+
+-- a text of an id decodes
+pub decode_sized-IsIdText : (text : List ℕ) → IsIdText text → (bytes : List ℕ) × (decode_sized text 32 ≡ Ok bytes)
+decode_sized-IsIdText text h =
+    let found = id_of_text text h in
+    (found.0.0, decode_sized-id_text found.0 text found.1 found.2)
+
+-- what `parse_id` rests on
+pub ruleset reading = (IsIdText-id_text, decode_sized-id_text, id_text-decoded, decode_sized-IsIdText)

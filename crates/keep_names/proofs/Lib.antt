@@ -1,0 +1,3 @@
+pub mod IdText
+pub mod Orders
+pub mod Paths

@@ -1,0 +1,4 @@
+pub mod FileName
+pub mod Id
+pub mod Orders
+pub use Rattle.sha2.specs.Sha256

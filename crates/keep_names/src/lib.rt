@@ -1,0 +1,12 @@
+//! Names of a repository's files and blobs: SHA-256 ids, their text, and the path of each file.
+#![tactic(auto)]
+
+mod blob;
+mod file_name;
+mod id;
+#[cfg(test)]
+mod tests;
+
+pub use blob::{BlobId, BlobType};
+pub use file_name::{FileName, Kind, path_of};
+pub use id::{BadId, Id, id_of, parse_id, print_id, text_names_id};
