@@ -1,0 +1,5 @@
+pub mod Held
+pub mod Maps
+pub mod Orders
+pub mod Parts
+pub mod Same

@@ -1,0 +1,14 @@
+//! A repository in memory: bytes by file name, and marks on packs.
+#![tactic(auto)]
+
+mod bytes;
+mod facet;
+mod mark;
+mod repo;
+#[cfg(test)]
+mod tests;
+
+pub use bytes::Bytes;
+pub use facet::Facet;
+pub use mark::Mark;
+pub use repo::Repo;
