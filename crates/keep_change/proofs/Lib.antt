@@ -1,0 +1,11 @@
+pub mod Before
+pub mod Carry
+pub mod Exchange
+pub mod History
+pub mod Law
+pub mod Least
+pub mod Once
+pub mod Place
+pub mod Records
+pub mod Sorted
+pub mod Touching

@@ -1,0 +1,35 @@
+-- The facets of a change, list by list.
+use Rattle.std.proofs.Common.{◌≡◌, Bool, true, false, ◌||◌, map, refl, ap, ◌∙◌}
+use Rattle.std.specs.List.{list_any}
+use Rattle.std.proofs.lemmas.List.{map-append}
+use Rattle.std.proofs.lemmas.List.Folds.{list_any-append}
+use Rattle.std.proofs.lemmas.Simd.{map-map}
+use Rattle.keep_repo.specs.declared.facet.Facet.{Facet}
+use Rattle.keep_repo.specs.declared.facet.Facet.TheVariants.{File, Mark}
+use Rattle.keep_change.specs.declared.change.Change.{Change}
+use Rattle.keep_change.specs.Touch.{written_facets, facets}
+
+or_assoc : (a b c d : Bool) → (a || (b || (c || d))) ≡ (((a || b) || c) || d)
+or_assoc true b c d = refl
+or_assoc false true c d = refl
+or_assoc false false true d = refl
+or_assoc false false false d = refl
+
+or_regroup : (w a b c d : Bool) → (w || (a || (b || (c || d)))) ≡ ((((w || a) || b) || c) || d)
+or_regroup true a b c d = refl
+or_regroup false a b c d = or_assoc a b c d
+
+pub list_any-written : (p : Facet → Bool) (c : Change) → list_any p (written_facets c) ≡
+    (((list_any p (map (λ f. File f.name) c.adds) || list_any p (map (λ f. File f.name) c.drops))
+    || list_any p (map (λ m. Mark m.pack) c.sets)) || list_any p (map (λ m. Mark m.pack) c.clears))
+list_any-written p c = simp (map-append, map-map, list_any-append) (or_assoc
+    (list_any p (map (λ f. File f.name) c.adds)) (list_any p (map (λ f. File f.name) c.drops))
+    (list_any p (map (λ m. Mark m.pack) c.sets)) (list_any p (map (λ m. Mark m.pack) c.clears)))
+
+pub list_any-facets : (p : Facet → Bool) (c : Change) → list_any p (facets c) ≡
+    ((((list_any p (written_facets c) || list_any p (map File c.present)) || list_any p (map File c.absent))
+    || list_any p (map Mark c.marked)) || list_any p (map Mark c.unmarked))
+list_any-facets p c =
+    list_any-append p (written_facets c) _
+    ∙ ap (λ b. list_any p (written_facets c) || b) (simp (map-append, map-map, list_any-append) refl)
+    ∙ or_regroup (list_any p (written_facets c)) (list_any p (map File c.present)) (list_any p (map File c.absent)) (list_any p (map Mark c.marked)) (list_any p (map Mark c.unmarked))

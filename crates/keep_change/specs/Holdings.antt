@@ -1,0 +1,22 @@
+-- Numbered changes, made one after another, by what each facet holds.
+use Rattle.std.specs.Prelude.{ℕ, List, [], ◌∷◌, if◌then◌else◌, Option, Some, None}
+use Rattle.std.specs.Option.{option_map_or}
+use Rattle.keep_change.specs.Change.{Holding, is_met, record_of, replaced, written}
+use Rattle.keep_change.specs.Fold.{Numbered}
+
+-- what each facet holds once these changes are made in turn
+abbrev pub fold_holding : List Numbered → Holding → Holding
+fold_holding [] holding = holding
+fold_holding (n ∷ ns) holding = fold_holding ns (replaced (written n.change) holding)
+
+-- the number of the first change that isn't met in its turn, none where each is
+abbrev pub break_holding : List Numbered → Holding → Option ℕ
+break_holding [] holding = None
+break_holding (n ∷ ns) holding =
+    if is_met holding n.change then break_holding ns (replaced (written n.change) holding) else Some n.number
+
+-- what each facet held before these changes, where it holds this after them: what the first of them that writes it asked for
+abbrev pub value_at : List Numbered → Holding → Holding
+value_at [] end facet = end facet
+value_at (n ∷ ns) end facet =
+    option_map_or (λ w. w.before) (record_of (written n.change) facet) (value_at ns end facet)

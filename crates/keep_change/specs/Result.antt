@@ -1,0 +1,40 @@
+-- The repository that a change makes.
+use Rattle.std.specs.Prelude.{ℕ, List, [], ◌∷◌}
+use Rattle.std.specs.FinMap as map
+use Rattle.keep_names.specs.Orders.{name_cmp, id_cmp}
+use Rattle.keep_repo.specs.Repository.{Repository}
+use Rattle.keep_repo.specs.declared.mark.Mark as the_mark
+use Rattle.keep_change.specs.declared.change.Change.{Change}
+use Rattle.keep_change.specs.declared.change.PackMark.{PackMark}
+use Rattle.keep_change.specs.declared.change.StoredFile.{StoredFile}
+
+-- the files, with these put among them
+abbrev pub put_files : List StoredFile → map.FinMap name_cmp (List ℕ) → map.FinMap name_cmp (List ℕ)
+put_files [] files = files
+put_files (f ∷ fs) files = put_files fs (map.insert files f.name f.bytes)
+
+-- the files without these
+abbrev pub take_files : List StoredFile → map.FinMap name_cmp (List ℕ) → map.FinMap name_cmp (List ℕ)
+take_files [] files = files
+take_files (f ∷ fs) files = take_files fs (map.remove files f.name)
+
+-- the marks, with these put among them
+abbrev pub put_marks : List PackMark → map.FinMap id_cmp the_mark.Mark → map.FinMap id_cmp the_mark.Mark
+put_marks [] marks = marks
+put_marks (m ∷ ms) marks = put_marks ms (map.insert marks m.pack m.mark)
+
+-- the marks without these
+abbrev pub take_marks : List PackMark → map.FinMap id_cmp the_mark.Mark → map.FinMap id_cmp the_mark.Mark
+take_marks [] marks = marks
+take_marks (m ∷ ms) marks = take_marks ms (map.remove marks m.pack)
+
+-- the repository with the written facets replaced, and all others as they were
+abbrev pub result_of : Change → Repository → Repository
+result_of c repository = record {
+  files = take_files c.drops (put_files c.adds repository.files);
+  marks = take_marks c.clears (put_marks c.sets repository.marks);
+}
+
+-- the change that takes this one back: it drops what was added and clears what was set, and the other way round
+abbrev pub reverse_of : Change → Change
+reverse_of c = record c { adds = c.drops; drops = c.adds; sets = c.clears; clears = c.sets }

@@ -1,0 +1,93 @@
+ghost use Rattle.std.specs.Prelude.{◌≡◌, is_some, map};
+ghost use Rattle.std.specs.List.{list_any};
+ghost use Rattle.keep_repo.specs.Facet.{Stored, Marked};
+ghost use Rattle.keep_change.specs.Change.{holds_same};
+ghost use Rattle.keep_change.specs.Form.{ListsInOrder, IsWellFormed};
+ghost use Rattle.keep_change.specs.Touch.{writes, touches, leans_on, before_of};
+
+use crate::change::Change;
+use crate::member::{Member, contains, find};
+use keep_names::{FileName, Id};
+use keep_repo::{Bytes, Facet, Mark};
+
+impl Change {
+    /// Whether the change writes the facet. It takes log n steps for n facets.
+    pub fn writes(&self, facet: Facet) -> bool
+        requires { ListsInOrder self.now }
+        ensures { result ≡ writes self.now facet }
+    {
+        let adds = contains(self.adds.as_slice(), facet);
+        let drops = contains(self.drops.as_slice(), facet);
+        let sets = contains(self.sets.as_slice(), facet);
+        let clears = contains(self.clears.as_slice(), facet);
+        adds | drops | sets | clears
+    }
+
+    /// Whether the facet stands in one of the eight lists. It takes log n steps for n facets.
+    pub fn touches(&self, facet: Facet) -> bool
+        requires { ListsInOrder self.now }
+        ensures { result ≡ touches self.now facet }
+    {
+        let present = contains(self.present.as_slice(), facet);
+        let absent = contains(self.absent.as_slice(), facet);
+        let marked = contains(self.marked.as_slice(), facet);
+        let unmarked = contains(self.unmarked.as_slice(), facet);
+        self.writes(facet) | present | absent | marked | unmarked
+    }
+
+    /// Whether the change touches a facet that the other one writes.
+    pub fn leans_on(&self, other: &Change) -> bool
+        requires { ListsInOrder self.now }
+        ensures { result ≡ leans_on self.now other.now }
+    {
+        let adds = self.touches_some(other.adds.as_slice());
+        let drops = self.touches_some(other.drops.as_slice());
+        let sets = self.touches_some(other.sets.as_slice());
+        let clears = self.touches_some(other.clears.as_slice());
+        adds | drops | sets | clears
+    }
+
+    /// Whether the change drops the file, or clears the mark.
+    pub fn empties(&self, facet: Facet) -> bool
+        requires { IsWellFormed self.now }
+        ensures { result ≡ is_some (before_of self.now facet) }
+    {
+        let drops = contains(self.drops.as_slice(), facet);
+        let clears = contains(self.clears.as_slice(), facet);
+        drops | clears
+    }
+
+    /// Whether the change drops the file of this name with just these bytes.
+    pub fn drops_file(&self, name: FileName, bytes: &Bytes) -> bool
+        requires { IsWellFormed self.now }
+        ensures { result ≡ holds_same (before_of self.now (Facet.File name)) (Some (Stored bytes.now)) }
+    {
+        match find(self.drops.as_slice(), Facet::File(name)) {
+            Some(file) => file.bytes.as_slice() == bytes.as_slice(),
+            None => false,
+        }
+    }
+
+    /// Whether the change clears just this mark of the pack.
+    pub fn clears_mark(&self, pack: Id, mark: Mark) -> bool
+        requires { IsWellFormed self.now }
+        ensures { result ≡ holds_same (before_of self.now (Facet.Mark pack)) (Some (Marked mark)) }
+    {
+        match find(self.clears.as_slice(), Facet::Mark(pack)) {
+            Some(set) => set.mark == mark,
+            None => false,
+        }
+    }
+
+    fn touches_some<M: Member>(&self, members: &[M]) -> bool
+        requires { ListsInOrder self.now }
+        ensures { result ≡ list_any (touches self.now) (map M.facet_of members.now) }
+    {
+        for member in members {
+            if self.touches(member.facet()) {
+                return true;
+            }
+        }
+        false
+    }
+}
