@@ -1,0 +1,20 @@
+-- What an event is about, and what it did.
+use Rattle.std.specs.Prelude.{ℕ}
+use Rattle.keep_change.specs.declared.outline.What.{What}
+use Rattle.keep_change.specs.declared.outline.What.TheVariants as what
+use Rattle.keep_journal.specs.declared.event.Event.{Event}
+use Rattle.keep_journal.specs.declared.event.Event.TheVariants.{Commit, Undo, Redo, Empty}
+
+-- the number of the change that the event is about
+abbrev pub number_of : Event → ℕ
+number_of (Commit n c) = n
+number_of (Undo n) = n
+number_of (Redo n) = n
+number_of (Empty n) = n
+
+-- what was done to the change
+abbrev pub what_of : Event → What
+what_of (Commit n c) = what.Commit
+what_of (Undo n) = what.Undo
+what_of (Redo n) = what.Redo
+what_of (Empty n) = what.Empty

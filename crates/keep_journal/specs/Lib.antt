@@ -1,0 +1,5 @@
+pub mod Event
+pub mod History
+pub mod Kept
+pub mod Recorded
+pub mod Standings

@@ -1,0 +1,43 @@
+ghost use Rattle.std.specs.Prelude.{◌≡◌};
+
+use keep_change::{Change, What};
+
+/// What happened to a repository, each with the number of the change that it is about.
+#[derive(Debug, Drop)]
+pub enum Event {
+    /// The change was made, for the first time.
+    Commit(u64, Change),
+    /// The change was taken back.
+    Undo(u64),
+    /// The change was made again.
+    Redo(u64),
+    /// All changes up to this one became final.
+    Empty(u64),
+}
+
+impl Event {
+    ghost use Rattle.keep_journal.specs.Event.{number_of, what_of};
+
+    /// The number of the change that the event is about.
+    pub fn number(&self) -> u64
+        ensures { result ≡ number_of self.now }
+    {
+        match self {
+            Event::Commit(number, _) => *number,
+            Event::Undo(number) => *number,
+            Event::Redo(number) => *number,
+            Event::Empty(number) => *number,
+        }
+    }
+
+    pub fn what(&self) -> What
+        ensures { result ≡ what_of self.now }
+    {
+        match self {
+            Event::Commit(_, _) => What::Commit,
+            Event::Undo(_) => What::Undo,
+            Event::Redo(_) => What::Redo,
+            Event::Empty(_) => What::Empty,
+        }
+    }
+}

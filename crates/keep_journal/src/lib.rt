@@ -1,0 +1,10 @@
+//! The history of a repository: numbered events, and the standing of each change.
+#![tactic(auto)]
+
+mod event;
+mod history;
+#[cfg(test)]
+mod tests;
+
+pub use event::Event;
+pub use history::{History, Status};
