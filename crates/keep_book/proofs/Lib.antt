@@ -1,0 +1,7 @@
+pub mod Folding
+pub mod Looking
+pub mod Redoing
+pub mod Replying
+pub mod Restoring
+pub mod Steps
+pub mod Undoing

@@ -1,0 +1,114 @@
+-- What is seen of the later changes, one by one.
+use Rattle.std.proofs.Common.{◌≡◌, ℕ, zero, suc, ◌+◌, ◌≤◌, ◌==◌, Bool, true, false, cond, List, [], ◌∷◌, ◌++◌, Option, Some, None, refl, subst, ap, ◌∙◌, arith}
+use Rattle.std.proofs.lemmas.Option.{same_Some}
+use Rattle.std.specs.List.{All, find}
+use Rattle.std.specs.Option.{option_map}
+use Rattle.keep_repo.specs.declared.facet.Facet.{Facet}
+use Rattle.keep_change.specs.Change.{Holding, written}
+use Rattle.keep_change.specs.Fold.{Numbered, first_leaning}
+use Rattle.keep_change.specs.Form.{IsWellFormed}
+use Rattle.keep_change.specs.Holdings.{value_at}
+use Rattle.keep_change.specs.Touch.{before_of, leans_on, writes}
+use Rattle.keep_change.specs.declared.change.Change.{Change}
+use Rattle.keep_change.proofs.Records.{RecordAt, no_record, a_record, record_at}
+use Rattle.keep_journal.specs.History.{change_count, change_of, committed, IsNumbered}
+use Rattle.keep_journal.specs.Kept.{is_kept, later}
+use Rattle.keep_journal.specs.declared.event.Event.{Event}
+use Rattle.keep_journal.proofs.Commits.{some_change}
+use Rattle.keep_journal.proofs.Kept.{later_next, later_none}
+use Rattle.keep_journal.proofs.Statuses.{is_change_from}
+use Rattle.keep_book.specs.Later.{kept_change}
+use Rattle.keep_book.specs.Ledger.{AreWellFormed}
+
+-- ---- well formed
+
+-- what holds of each change holds of the one that is found
+found_change : (P : Change → Type 0) (p : Numbered → Bool) (ns : List Numbered) (c : Change) → All (λ n. P n.change) ns
+    → option_map (λ n. n.change) (find p ns) ≡ Some c → P c
+found_change P p [] c all e = cc e
+found_change P p (n ∷ ns) c all e =
+    first_or_later (p n) (found_change P p ns c (λ k d within. all (suc k) d (omega arith))) e
+  where
+    first_or_later : (b : Bool) → (option_map (λ n. n.change) (find p ns) ≡ Some c → P c) → option_map (λ n. n.change) (cond b (Some n) (find p ns)) ≡ Some c → P c
+    first_or_later true rest is = subst P (same_Some n.change c is) (all zero n (omega arith))
+    first_or_later false rest is = rest is
+
+-- a change of a history whose changes are well formed is well formed
+pub well_formed_change : (es : List Event) (n : ℕ) (c : Change) → AreWellFormed es → change_of es n ≡ Some c → IsWellFormed c
+well_formed_change es n c formed is_c = found_change IsWellFormed (λ m. m.number == n) (committed es) c formed is_c
+
+-- ---- kept changes
+
+kept_if_there : (b : Bool) (o : Option Change) (c : Change) → cond b o None ≡ Some c → (b ≡ true) × (o ≡ Some c)
+kept_if_there true o c e = (refl, e)
+kept_if_there false o c e = cc e
+
+-- a kept change is a change
+pub a_kept_change : (es : List Event) (n : ℕ) (c : Change) → kept_change es n ≡ Some c → (is_kept es n ≡ true) × (change_of es n ≡ Some c)
+a_kept_change es n c e = kept_if_there (is_kept es n) (change_of es n) c e
+
+-- ---- the later changes, one by one
+
+next_out : (b : Bool) (o : Option Change) (c : Change) (ns : List Numbered) → o ≡ Some c → cond b o None ≡ None → (x : Numbered) → cond b (x ∷ []) [] ++ ns ≡ ns
+next_out true o c ns is_c e x = cc (is_c, e)
+next_out false o c ns is_c e x = refl
+
+-- one that isn't kept is none of them
+pub later_without : (es : List Event) (n k : ℕ) → IsNumbered es → k ≡ n + 1 → k ≤ change_count es → kept_change es k ≡ None → later es n ≡ later es k
+later_without es n k numbered next within e =
+    let there = some_change es k numbered (is_change_from es k (omega arith) within) in
+    later_next es n k there.0 numbered next there.1
+    ∙ next_out (is_kept es k) (change_of es k) there.0 (later es k) there.1 e (record { number = k; change = there.0 })
+
+-- and one that is kept is the first of them
+pub later_with : (es : List Event) (n k : ℕ) (c : Change) → IsNumbered es → k ≡ n + 1 → kept_change es k ≡ Some c → later es n ≡ record { number = k; change = c } ∷ later es k
+later_with es n k c numbered next e =
+    let parts = a_kept_change es k c e in
+    later_next es n k c numbered next parts.1
+    ∙ ap (λ b. cond b (record { number = k; change = c } ∷ []) [] ++ later es k) parts.0
+
+-- ---- the first that touches what a change writes
+
+pub leaning_none : (es : List Event) (n : ℕ) (c : Change) → IsNumbered es → change_count es ≤ n → first_leaning c (later es n) ≡ None
+leaning_none es n c numbered end = ap (first_leaning c) (later_none es n numbered end)
+
+pub leaning_without : (es : List Event) (n k : ℕ) (c : Change) → IsNumbered es → k ≡ n + 1 → k ≤ change_count es → kept_change es k ≡ None
+    → first_leaning c (later es n) ≡ first_leaning c (later es k)
+leaning_without es n k c numbered next within e = ap (first_leaning c) (later_without es n k numbered next within e)
+
+pub leaning_past : (es : List Event) (n k : ℕ) (c d : Change) → IsNumbered es → k ≡ n + 1 → kept_change es k ≡ Some d → leans_on d c ≡ false
+    → first_leaning c (later es n) ≡ first_leaning c (later es k)
+leaning_past es n k c d numbered next e not_leaning = ap (first_leaning c) (later_with es n k d numbered next e) ∙ rw not_leaning refl
+
+pub leaning_found : (es : List Event) (n k : ℕ) (c d : Change) → IsNumbered es → k ≡ n + 1 → kept_change es k ≡ Some d → leans_on d c ≡ true
+    → first_leaning c (later es n) ≡ Some k
+leaning_found es n k c d numbered next e leans = ap (first_leaning c) (later_with es n k d numbered next e) ∙ rw leans refl
+
+-- ---- what a facet holds at the place
+
+past_one : (d : Change) (ns : List Numbered) (end : Holding) (k : ℕ) (q : Facet) → writes d q ≡ false → RecordAt (written d) q
+    → value_at (record { number = k; change = d } ∷ ns) end q ≡ value_at ns end q
+past_one d ns end k q e (no_record m a) = rw m refl
+past_one d ns end k q e (a_record w m a at_q) = cc (e, a)
+
+at_one : (d : Change) (ns : List Numbered) (end : Holding) (k : ℕ) (q : Facet) → writes d q ≡ true → RecordAt (written d) q
+    → value_at (record { number = k; change = d } ∷ ns) end q ≡ before_of d q
+at_one d ns end k q e (no_record m a) = cc (e, a)
+at_one d ns end k q e (a_record w m a at_q) = rw m refl
+
+pub value_none : (es : List Event) (n : ℕ) (end : Holding) (q : Facet) → IsNumbered es → change_count es ≤ n → value_at (later es n) end q ≡ end q
+value_none es n end q numbered above = ap (λ ns. value_at ns end q) (later_none es n numbered above)
+
+pub value_without : (es : List Event) (n k : ℕ) (end : Holding) (q : Facet) → IsNumbered es → k ≡ n + 1 → k ≤ change_count es → kept_change es k ≡ None
+    → value_at (later es n) end q ≡ value_at (later es k) end q
+value_without es n k end q numbered next within e = ap (λ ns. value_at ns end q) (later_without es n k numbered next within e)
+
+pub value_past : (es : List Event) (n k : ℕ) (d : Change) (end : Holding) (q : Facet) → IsNumbered es → k ≡ n + 1 → kept_change es k ≡ Some d → writes d q ≡ false
+    → value_at (later es n) end q ≡ value_at (later es k) end q
+value_past es n k d end q numbered next e other =
+    ap (λ ns. value_at ns end q) (later_with es n k d numbered next e) ∙ past_one d (later es k) end k q other (record_at (written d) q)
+
+pub value_found : (es : List Event) (n k : ℕ) (d : Change) (end : Holding) (q : Facet) → IsNumbered es → k ≡ n + 1 → kept_change es k ≡ Some d → writes d q ≡ true
+    → value_at (later es n) end q ≡ before_of d q
+value_found es n k d end q numbered next e here =
+    ap (λ ns. value_at ns end q) (later_with es n k d numbered next e) ∙ at_one d (later es k) end k q here (record_at (written d) q)

@@ -1,0 +1,7 @@
+pub mod Choosing
+pub mod Formed
+pub mod Later
+pub mod Laws
+pub mod Ledger
+pub mod Refusal
+pub mod Reply
