@@ -1,0 +1,78 @@
+-- Each word is the text of at most one value.
+use Rattle.std.proofs.Common.{◌≡◌, ◌≢◌, ℕ, ◌<◌, ◌^◌, inl, inr, List, ◌∷◌, length, slice_index, Result, Ok, Err, Option, Some, IfSome, true, refl, sym, ap, ◌∙◌, arith}
+use Rattle.std.proofs.lemmas.Bool.{cases_lt}
+use Rattle.std.proofs.lemmas.Fmt.{decimal-digits_value, decimal_digit, decimal_nonempty, digits_decimal, first_decimal, parse-decimal}
+use Rattle.std.proofs.lemmas.List.Elements.{All-head}
+use Rattle.std.proofs.lemmas.Str.Parse.{IsNumeralModel, not_in_digits, numerals_by_value, parse_plain, tells_digits}
+use Rattle.std.specs.Fmt.{decimal}
+use Rattle.std.specs.Result.{result_ok}
+use Rattle.std.specs.Str.Parse.{AllDigits, ParsesUnsigned, digits_value}
+use Rattle.keep_names.proofs.IdText.{IsIdText-id_text}
+use Rattle.keep_names.specs.Id.{IsDigest, id_text, is_lower_hex_digit}
+use Rattle.keep_names.specs.declared.id.Id.{Id}
+use Rattle.std.specs.Option.{option_map}
+use Rattle.keep_script.specs.Word.{HasPlainFront, IsTarget, target_text}
+use Rattle.keep_script.specs.declared.word.Target.{Target}
+use Rattle.keep_script.specs.declared.word.Target.TheVariants.{Named, AddedBy}
+
+-- ---- numbers
+
+own : IsNumeralModel (AllDigits 10) (digits_value 10)
+own = numerals_by_value (AllDigits 10) tells_digits
+
+-- zero in front of a printed number is all of it
+zero_alone : (n : ℕ) → n < 2 ^ 64 → slice_index (decimal n) 0 ≡ 48 → length (decimal n) ≡ 1
+zero_alone n small e =
+    elim (cases_lt 0 n) [
+      | inl above ↦
+          let first = first_decimal n above small in
+          absurd (omega (arith, first, e))
+      | inr low ↦
+          let zero_is : n ≡ 0 = omega arith in
+          rw zero_is (rw (decimal_digit 0 (omega arith)) refl)
+    ]
+
+-- a printed number has a plain front
+pub HasPlainFront-decimal : (n : ℕ) (word : List ℕ) → n < 2 ^ 64 → decimal n ≡ word → HasPlainFront word
+HasPlainFront-decimal n word small e =
+    rw (← e) (
+      not_in_digits own (decimal n) 43 (digits_decimal own n small) (λ r. omega arith) 0 (decimal_nonempty n small),
+      zero_alone n small,
+    )
+
+-- what a word of plain front is read as prints as that word
+pub decimal-parsed : {E : Type 0} (word : List ℕ) (r : Result ℕ E) → ParsesUnsigned 64 10 word r → HasPlainFront word
+    → IfSome (result_ok r) (λ n. decimal n ≡ word)
+decimal-parsed {E} word (Ok n) h front =
+    let read = parse_plain own {E = E} 64 word (Ok n) h front.0 in
+    rw read.1 (decimal-digits_value own word read.0.0 read.0.1 front.1 read.0.2)
+decimal-parsed {E} word (Err e) h front = tt
+
+-- and each printed number is read
+pub parsed-decimal : {E : Type 0} (word : List ℕ) (r : Result ℕ E) (n : ℕ) → ParsesUnsigned 64 10 word r → n < 2 ^ 64 → decimal n ≡ word
+    → result_ok r ≡ Some n
+parsed-decimal word r n h small e = ap result_ok (parse-decimal 64 n word r small small (sym e) h)
+
+-- ---- targets
+
+-- no id's text begins with the sign of a change
+pub id_text-at : (id : Id) (rest : List ℕ) → IsDigest id → id_text id ≢ 64 ∷ rest
+id_text-at id rest whole e =
+    let digits = rw e at (IsIdText-id_text id whole).1 in
+    let head : is_lower_hex_digit 64 ≡ true = All-head (λ c. is_lower_hex_digit c ≡ true) 64 rest digits in
+    cc head
+
+-- what follows the sign of a change is its number
+pub target-numbered : (word number : List ℕ) (found : Option ℕ) → word ≡ 64 ∷ number → ((n : ℕ) → n < 2 ^ 64 → decimal n ≡ number → found ≡ Some n)
+    → (target : Target) → IsTarget target → target_text target ≡ word → option_map AddedBy found ≡ Some target
+target-numbered word number found split each (Named id) whole same = absurd (id_text-at id number whole (same ∙ split))
+target-numbered word number found split each (AddedBy n) whole same =
+    let sign : 64 ∷ decimal n ≡ 64 ∷ number = same ∙ split in
+    let digits : decimal n ≡ number = cc in
+    ap (option_map AddedBy) (each n whole digits)
+
+-- and a target without that sign is an id
+pub target-named : (word : List ℕ) (found : Option Id) → ((rest : List ℕ) → word ≢ 64 ∷ rest) → ((id : Id) → IsDigest id → id_text id ≡ word → found ≡ Some id)
+    → (target : Target) → IsTarget target → target_text target ≡ word → option_map Named found ≡ Some target
+target-named word found other each (Named id) whole same = ap (option_map Named) (each id whole same)
+target-named word found other each (AddedBy n) whole same = absurd (other (decimal n) (sym same))

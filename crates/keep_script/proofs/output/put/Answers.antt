@@ -1,0 +1,30 @@
+use Rattle.std.proofs.lemmas.Grind.{common_steps}
+use Rattle.std.proofs.Common.{arith, Bor, ℕ, List, ◌++◌, ◌∙◌, sym, ap, take}
+use Rattle.std.proofs.KnownBytes.{Appends-kept, Appends-trans}
+use Rattle.keep_script.proofs.KnownLemmas.{AppendsPrefix-from, AppendsPrefix-kept, AppendsPrefix-more}
+use Rattle.keep_script.proofs.output.put.Goals as goal
+use Rattle.keep_script.proofs.output.put.Goals.{in-Ok, in-Err+else-ne}
+
+pub returns-in-Ok-eq0-clause-err : goal.returns-in-Ok-eq0-clause-err
+returns-in-Ok-eq0-clause-err g c =
+    let (done, split, appended) = c.loop.invariant in
+    AppendsPrefix-more _ _ _ _ done c.loop.rest.now c.in-Ok-eq0.field-0 split appended c.in-Ok-eq0.ensures.bytes
+
+pub returns-then-ne-clause-err : goal.returns-then-ne-clause-err
+returns-then-ne-clause-err g c =
+    let (done, split, appended) = c.loop.invariant in
+    AppendsPrefix-kept _ _ _ _ done c.loop.rest.now split appended c.in-Err.ensures.bytes
+
+pub loop-preserved : goal.loop-preserved
+loop-preserved g c =
+    let (done, split, appended) = c.loop.invariant in
+    let rest = c.loop.rest.now in
+    elim c.match-write.branch [
+      | in-Ok w ↦ (done ++ take w.in-Ok.count rest, split ∙ rw (ap (λ (r : Bor (List ℕ)). r.now) w.rest-is) (grind (arith, common_steps)), Appends-trans _ _ _ done _ appended w.in-Ok.ensures.bytes)
+      | in-Err+else-ne w ↦ (done, split ∙ ap (λ (r : Bor (List ℕ)). done ++ r.now) (sym w.rest-is), Appends-kept _ _ _ done appended w.in-Err.ensures.bytes)
+    ]
+
+pub returns-clause-err : goal.returns-clause-err
+returns-clause-err g c =
+    let (done, split, appended) = c.loop.invariant in
+    AppendsPrefix-from _ _ _ done c.loop.rest.now split appended

@@ -1,0 +1,13 @@
+-- How a run ends.
+use Rattle.std.specs.Prelude.{ℕ}
+use Rattle.keep_script.specs.declared.status.Status.{Status}
+use Rattle.keep_script.specs.declared.status.Status.TheVariants as ended
+use Rattle.keep_script.specs.declared.status.Stop.{Stop}
+use Rattle.keep_script.specs.declared.status.Stop.TheVariants.{BadLine, ReadFailed, WriteFailed, NoMemory}
+
+-- the status of a run that stops at the line of this number, and why
+abbrev pub status_at : Stop → ℕ → Status
+status_at BadLine number = ended.BadLine number
+status_at ReadFailed number = ended.ReadFailed
+status_at WriteFailed number = ended.WriteFailed
+status_at NoMemory number = ended.NoMemory

@@ -1,0 +1,183 @@
+ghost use Rattle.std.specs.Prelude.{◌≡◌, ◌↔◌, ◌<◌, ◌≤◌, ◌+◌, ◌++◌, [], Err, IfErr, IfOk, IfSome, IsTrue, None, Ok, OnOk, length, option_map, vec_len, false};
+ghost use Rattle.std.specs.Io.KnownBytes.{IsAtEnd, Keeps};
+ghost use Rattle.std.specs.List.{after_first, before_first, position, position_or_len};
+ghost use Rattle.keep_script.specs.Line.{HasLineEnd, TakesLine, is_line_end};
+
+use crate::status::Stop;
+use std::alloc::{AllocError, Global};
+use std::io::{ErrorKind, Read};
+
+/// How many bytes a run reads, and how often it asks for some.
+const MAX_READ: usize = 67_108_864;
+/// How many bytes a line has before its end.
+const MAX_LINE: usize = 1_048_576;
+/// How many bytes it asks for at once.
+const CHUNK: usize = 16_384;
+
+const LINE_END: u8 = b'\n';
+
+/// The lines of a script, from a reader that is asked for many bytes at once.
+#[derive(Debug, Drop)]
+pub(crate) struct Input {
+    alloc: Global,
+    /// What the last read gave.
+    chunk: Vec<u8>,
+    /// How many bytes of that are used.
+    used: usize,
+    bytes_left: usize,
+    turns_left: usize,
+    ghost in_chunk: { used ≤ vec_len chunk },
+}
+
+impl Input {
+    ghost use Rattle.keep_script.specs.Input.{left_of, unread_of};
+
+    /// An input that has read nothing.
+    pub fn new(alloc: Global) -> Result<Input, AllocError>
+        ensures { IfOk result (λ input. unread_of input ≡ []) }
+    {
+        Ok(Input {
+            alloc,
+            chunk: Vec::with_capacity(alloc, CHUNK)?,
+            used: 0,
+            bytes_left: MAX_READ,
+            turns_left: MAX_READ,
+        })
+    }
+
+    /// The next line, without its end, or none at the script's end. The last line may lack its end.
+    ///
+    /// A line that is too long is `BadLine`. After an error the input is not to be used again.
+    pub fn next_line<R: Read>(&mut self, reader: &mut R) -> Result<Option<Vec<u8>>, Stop>
+        ensures line { IfOk result (λ line. TakesLine
+            (left_of self.old (R.remaining reader.old)) (left_of self.new (R.remaining reader.new))
+            (option_map (λ bytes. bytes.items) line)) }
+        ensures end { result ≡ Ok None → IsAtEnd (left_of self.new (R.remaining reader.new)) }
+        ensures short { IfOk result (λ line. IfSome line (λ bytes. vec_len bytes ≤ MAX_LINE)) }
+        ensures too_long { result ≡ Err Stop.BadLine → IfSome (left_of self.old (R.remaining reader.old))
+            (λ bytes. MAX_LINE < length (before_first is_line_end bytes)) }
+    {
+        let mut line = Vec::new(self.alloc);
+        for _ in 0..MAX_READ {
+            if !self.look_ahead(reader)? {
+                return Ok(if line.is_empty() { None } else { Some(line) });
+            }
+            if self.take(&mut line)? {
+                return Ok(Some(line));
+            }
+        }
+        Err(Stop::ReadFailed)
+    }
+
+    fn is_used_up(&self) -> bool
+        ensures { IsTrue result ↔ (unread_of self.now ≡ []) }
+    {
+        self.used == self.chunk.len()
+    }
+
+    /// Reads on where all is used up, and says whether there are unread bytes.
+    fn look_ahead<R: Read>(&mut self, reader: &mut R) -> Result<bool, Stop>
+        ensures kept { OnOk result (Keeps
+            (left_of self.old (R.remaining reader.old)) (left_of self.new (R.remaining reader.new))) }
+        ensures end { result ≡ Ok false → IsAtEnd (left_of self.new (R.remaining reader.new)) }
+        ensures never_bad { (result ≡ Err Stop.BadLine) → ⊥ }
+    {
+        if self.is_used_up() {
+            self.fill(reader)
+        } else {
+            Ok(true)
+        }
+    }
+
+    /// Moves the unread bytes of a line over, and says whether its end was met.
+    fn take(&mut self, line: &mut Vec<u8>) -> Result<bool, Stop>
+        ensures met { IfOk result (λ met. IsTrue met ↔ HasLineEnd (unread_of self.old)) }
+        ensures moved { OnOk result
+            (line.new.items ≡ line.old.items ++ before_first is_line_end (unread_of self.old)) }
+        ensures rest { OnOk result (unread_of self.new ≡ after_first is_line_end (unread_of self.old)) }
+        ensures short { OnOk result (vec_len line.new ≤ MAX_LINE) }
+        ensures too_long { result ≡ Err Stop.BadLine
+            → MAX_LINE < vec_len line.old + length (before_first is_line_end (unread_of self.old)) }
+    {
+        let unread = &self.chunk.as_slice()[self.used..];
+        let length = line_length(unread);
+        gather(line, &unread[..length])?;
+        if length == unread.len() {
+            self.used = self.chunk.len();
+            return Ok(false);
+        }
+        self.used += length + 1;
+        Ok(true)
+    }
+
+    /// Reads on, where all that was read is used up, and says whether more came.
+    fn fill<R: Read>(&mut self, reader: &mut R) -> Result<bool, Stop>
+        requires { unread_of self.old ≡ [] }
+        ensures kept { OnOk result (Keeps
+            (left_of self.old (R.remaining reader.old)) (left_of self.new (R.remaining reader.new))) }
+        ensures end { result ≡ Ok false → IsAtEnd (left_of self.new (R.remaining reader.new)) }
+        ensures never_bad { (result ≡ Err Stop.BadLine) → ⊥ }
+    {
+        let mut chunk = [0; CHUNK];
+        for _ in 0..MAX_READ {
+            if self.bytes_left == 0 || self.turns_left == 0 {
+                return Err(Stop::ReadFailed);
+            }
+            self.turns_left -= 1;
+            let room = self.bytes_left.min(CHUNK);
+            match reader.read(&mut chunk[..room]) {
+                Ok(count) => {
+                    self.keep(&chunk[..count])?;
+                    return Ok(count > 0);
+                }
+                Err(error) => {
+                    if error.kind() != ErrorKind::Interrupted {
+                        return Err(Stop::ReadFailed);
+                    }
+                }
+            }
+        }
+        Err(Stop::ReadFailed)
+    }
+
+    /// Keeps what a read gave, in the place of what the last one gave.
+    fn keep(&mut self, chunk: &[u8]) -> Result<(), AllocError>
+        ensures { OnOk result (unread_of self.new ≡ chunk.now) }
+    {
+        self.used = 0;
+        self.chunk.clear();
+        self.chunk.extend_from_slice(chunk)?;
+        self.bytes_left = self.bytes_left.saturating_sub(chunk.len());
+        Ok(())
+    }
+}
+
+/// How many bytes stand before the first line end, or all where there is none.
+fn line_length(bytes: &[u8]) -> usize
+    ensures place { result ≡ position_or_len is_line_end bytes.now }
+    ensures within { result ≤ length bytes.now }
+{
+    match line_end(bytes) {
+        Some(place) => place,
+        None => bytes.len(),
+    }
+}
+
+fn line_end(bytes: &[u8]) -> Option<usize>
+    ensures { result ≡ position is_line_end bytes.now }
+{
+    bytes.iter().position(|byte| *byte == LINE_END)
+}
+
+/// Appends the piece, where the line has room for it.
+fn gather(line: &mut Vec<u8>, piece: &[u8]) -> Result<(), Stop>
+    ensures ok { OnOk result (line.new.items ≡ line.old.items ++ piece.now) }
+    ensures short { OnOk result (vec_len line.new ≤ MAX_LINE) }
+    ensures too_long { (result ≡ Err Stop.BadLine) ↔ (MAX_LINE < vec_len line.old + length piece.now) }
+{
+    if line.len() > MAX_LINE || piece.len() > MAX_LINE - line.len() {
+        return Err(Stop::BadLine);
+    }
+    line.extend_from_slice(piece)?;
+    Ok(())
+}

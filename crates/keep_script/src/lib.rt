@@ -1,0 +1,18 @@
+//! The script language: one command a line, answered in order, from a reader to a writer.
+#![tactic(auto)]
+
+mod answer;
+mod command;
+mod input;
+mod line;
+mod output;
+mod plan;
+mod script;
+mod session;
+mod status;
+#[cfg(test)]
+mod tests;
+mod word;
+
+pub use script::run;
+pub use status::Status;

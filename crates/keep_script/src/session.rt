@@ -1,0 +1,94 @@
+use crate::answer::{
+    Sizes, commit_text, count_text, history_text, list_text, noted_text, same_text, told_text,
+};
+use crate::command::{Command, parse};
+use crate::plan::{added_by, plan_add, plan_drop};
+use crate::status::Stop;
+use crate::word::Target;
+use keep_book::Book;
+use keep_change::{Change, Planned};
+use keep_names::{FileName, Kind};
+use keep_repo::Repo;
+use std::alloc::{AllocError, Global};
+use std::collections::BTreeMap;
+
+/// What the lines of one run work on: a book, and the repositories that were noted.
+#[derive(Debug, Drop)]
+pub(crate) struct Session {
+    alloc: Global,
+    book: Book,
+    notes: BTreeMap<String, Repo>,
+}
+
+impl Session {
+    /// A book over a repository without files, and no notes.
+    pub fn new(alloc: Global) -> Result<Session, AllocError> {
+        let book = Book::new(alloc, Repo::new(alloc))?;
+        Ok(Session {
+            alloc,
+            book,
+            notes: BTreeMap::new(alloc),
+        })
+    }
+
+    /// Does what the line asks for. The answer is whole lines, none for a line that is passed over.
+    pub fn answer_line(&mut self, line: &[u8]) -> Result<String, Stop> {
+        match parse(self.alloc, line)? {
+            Some(command) => self.answer(command),
+            None => Ok(String::new(self.alloc)),
+        }
+    }
+
+    fn answer(&mut self, command: Command<'_>) -> Result<String, Stop> {
+        let text = match command {
+            Command::Add { kind, bytes } => {
+                let change = plan_add(self.alloc, kind, bytes)?;
+                self.commit(change)?
+            }
+            Command::Drop { kind, target } => {
+                let name = self.find(kind, target)?;
+                let change = plan_drop(self.alloc, self.book.live(), name)?;
+                self.commit(change)?
+            }
+            Command::Undo(n) => told_text(self.alloc, self.book.undo(n))?,
+            Command::Redo(n) => told_text(self.alloc, self.book.redo(n))?,
+            Command::Empty(n) => told_text(self.alloc, self.book.empty(n))?,
+            Command::List => list_text(self.alloc, self.book.live())?,
+            Command::Count => count_text(self.alloc, self.book.live())?,
+            Command::Note(name) => self.note(name)?,
+            Command::Same(name) => self.same(name)?,
+            Command::History => history_text(self.alloc, self.book.history())?,
+        };
+        Ok(text)
+    }
+
+    fn commit(&mut self, change: Change) -> Result<String, AllocError> {
+        let sizes = Sizes::of(&change);
+        let seen = self.book.history().length();
+        let outcome = self.book.commit(Planned { change, seen });
+        commit_text(self.alloc, outcome, sizes)
+    }
+
+    fn find(&self, kind: Kind, target: Target) -> Result<FileName, Stop> {
+        match target {
+            Target::Named(id) => Ok(FileName { kind, id }),
+            Target::AddedBy(n) => added_by(self.book.history(), n, kind).ok_or(Stop::BadLine),
+        }
+    }
+
+    fn note(&mut self, name: &str) -> Result<String, AllocError> {
+        let copy = self.book.repo()?;
+        let key = String::from_str(self.alloc, name)?;
+        self.notes.insert(key, copy)?;
+        noted_text(self.alloc, name)
+    }
+
+    fn same(&self, name: &str) -> Result<String, Stop> {
+        let Some(noted) = self.notes.get(name) else {
+            return Err(Stop::BadLine);
+        };
+        let same = self.book.live().same_as(noted);
+        let text = same_text(self.alloc, name, same)?;
+        Ok(text)
+    }
+}

@@ -1,0 +1,56 @@
+ghost use Rattle.std.specs.Prelude.{◌≡◌};
+ghost use Rattle.keep_script.specs.Status.{status_at};
+ghost use Rattle.keep_script.specs.declared.status.Stop.TheVariants.{NoMemory};
+
+use std::alloc::AllocError;
+use thiserror::Error;
+
+/// How a run ended.
+#[derive(Clone, Copy, Debug, PartialEq, Eq)]
+pub enum Status {
+    /// The script ended, and each line was answered.
+    Done,
+    /// The line of this number, from 1, isn't one of the language.
+    BadLine(u64),
+    /// A read failed, or the script is longer than a run reads.
+    ReadFailed,
+    /// A write failed, so what is written may break off anywhere.
+    WriteFailed,
+    /// The run itself found no memory: for a line, a note or an answer.
+    NoMemory,
+}
+
+/// Why a run ends before its script does.
+#[derive(Clone, Copy, Debug, PartialEq, Eq, Error)]
+pub(crate) enum Stop {
+    #[error("not a line of the language")]
+    BadLine,
+    #[error("the script can't be read on")]
+    ReadFailed,
+    #[error("the answer can't be written")]
+    WriteFailed,
+    #[error("no memory")]
+    NoMemory,
+}
+
+impl Stop {
+    /// How a run ends that stops at the line of this number.
+    pub fn status(self, number: u64) -> Status
+        ensures { result ≡ status_at self number }
+    {
+        match self {
+            Stop::BadLine => Status::BadLine(number),
+            Stop::ReadFailed => Status::ReadFailed,
+            Stop::WriteFailed => Status::WriteFailed,
+            Stop::NoMemory => Status::NoMemory,
+        }
+    }
+}
+
+impl From<AllocError> for Stop {
+    ghost from_gives = { λ _ stop. stop ≡ NoMemory };
+
+    fn from(_error: AllocError) -> Stop {
+        Stop::NoMemory
+    }
+}
