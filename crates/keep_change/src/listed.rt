@@ -19,7 +19,7 @@ impl<T> Model for Listed<T> {
 
 impl<T> Listed<T> {
     /// The list without elements.
-    pub fn new(alloc: Global) -> Self
+    pub(crate) fn new(alloc: Global) -> Self
         ensures { result ≡ [] }
     {
         Listed {

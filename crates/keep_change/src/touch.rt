@@ -3,7 +3,7 @@ ghost use Rattle.std.specs.List.{list_any};
 ghost use Rattle.keep_repo.specs.Facet.{Stored, Marked};
 ghost use Rattle.keep_change.specs.Change.{holds_same};
 ghost use Rattle.keep_change.specs.Form.{ListsInOrder, IsWellFormed};
-ghost use Rattle.keep_change.specs.Touch.{writes, touches, leans_on, before_of};
+ghost use Rattle.keep_change.specs.Touch.{writes, touches, leans_on, before_of, after_of};
 
 use crate::change::Change;
 use crate::member::{Member, contains, find};
@@ -74,6 +74,38 @@ impl Change {
         ensures { result ≡ holds_same (before_of self.now (Facet.Mark pack)) (Some (Marked mark)) }
     {
         match find(self.clears.as_slice(), Facet::Mark(pack)) {
+            Some(set) => set.mark == mark,
+            None => false,
+        }
+    }
+
+    /// Whether the change adds the file, or sets the mark.
+    pub fn fills(&self, facet: Facet) -> bool
+        requires { IsWellFormed self.now }
+        ensures { result ≡ is_some (after_of self.now facet) }
+    {
+        let added = contains(self.adds.as_slice(), facet);
+        let set = contains(self.sets.as_slice(), facet);
+        added | set
+    }
+
+    /// Whether the change adds the file of this name with just these bytes.
+    pub fn adds_file(&self, name: FileName, bytes: &Bytes) -> bool
+        requires { IsWellFormed self.now }
+        ensures { result ≡ holds_same (after_of self.now (Facet.File name)) (Some (Stored bytes.now)) }
+    {
+        match find(self.adds.as_slice(), Facet::File(name)) {
+            Some(added) => added.bytes.as_slice() == bytes.as_slice(),
+            None => false,
+        }
+    }
+
+    /// Whether the change sets just this mark of the pack.
+    pub fn sets_mark(&self, pack: Id, mark: Mark) -> bool
+        requires { IsWellFormed self.now }
+        ensures { result ≡ holds_same (after_of self.now (Facet.Mark pack)) (Some (Marked mark)) }
+    {
+        match find(self.sets.as_slice(), Facet::Mark(pack)) {
             Some(set) => set.mark == mark,
             None => false,
         }
