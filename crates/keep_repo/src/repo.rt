@@ -134,6 +134,14 @@ impl Repo {
         Ok(())
     }
 
+    /// Puts the bytes in the place of those of a file that is there. It takes no memory.
+    pub fn replace_file(&mut self, name: FileName, bytes: Bytes)
+        requires { IsTrue (is_some (map.get self.old.files name)) }
+        ensures { self.new ≡ record self.old { files = map.insert self.old.files name bytes } }
+    {
+        let _ = self.files.insert(name, bytes);
+    }
+
     pub fn remove_file(&mut self, name: FileName)
         ensures { self.new ≡ record self.old { files = map.remove self.old.files name } }
     {
@@ -146,6 +154,14 @@ impl Repo {
     {
         self.marks.insert(pack, mark)?;
         Ok(())
+    }
+
+    /// Puts the mark in the place of one that is there. It takes no memory.
+    pub fn replace_mark(&mut self, pack: Id, mark: Mark)
+        requires { IsTrue (is_some (map.get self.old.marks pack)) }
+        ensures { self.new ≡ record self.old { marks = map.insert self.old.marks pack mark } }
+    {
+        let _ = self.marks.insert(pack, mark);
     }
 
     pub fn remove_mark(&mut self, pack: Id)
