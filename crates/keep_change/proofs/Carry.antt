@@ -16,28 +16,19 @@ use Rattle.keep_change.specs.declared.change.StoredFile.{StoredFile}
 use Rattle.keep_change.specs.Change.{Holding, Written, added, dropped, set, cleared, reversed, written, asked, is_ready, is_met, record_of, replaced}
 use Rattle.keep_change.specs.Fold.{Numbered, fold_of, first_break}
 use Rattle.keep_change.specs.Form.{HasNoFacetTwice}
-use Rattle.keep_change.specs.Holdings.{fold_holding, break_holding}
+use Rattle.keep_change.specs.Holdings.{one_written, each_written, fold_holding, break_holding}
 use Rattle.keep_change.specs.Result.{put_files, take_files, put_marks, take_marks, result_of, reverse_of}
 use Rattle.keep_change.specs.Touch.{written_facets}
 use Rattle.keep_change.proofs.Records.{WritesOnce, RecordAt, no_record, a_record, record_at, facets_of, once_head, once_tail, take_back}
 
 -- ---- one record after another
 
--- the facets once one of them is written
-abbrev pub one_written : Written → Holding → Holding
-one_written w h q = cond (facet_eq w.facet q) w.after (h q)
-
--- and once each record in turn is
-abbrev pub each_written : List Written → Holding → Holding
-each_written [] h = h
-each_written (w ∷ ws) h = each_written ws (one_written w h)
-
-each_written-append : (ws vs : List Written) (h : Holding) → each_written (ws ++ vs) h ≡ each_written vs (each_written ws h)
+pub each_written-append : (ws vs : List Written) (h : Holding) → each_written (ws ++ vs) h ≡ each_written vs (each_written ws h)
 each_written-append [] vs h = refl
 each_written-append (w ∷ ws) vs h = each_written-append ws vs (one_written w h)
 
 -- where each facet has one record, their order is nothing to it
-each_written_once : (ws : List Written) (h : Holding) → WritesOnce ws → (q : Facet) → each_written ws h q ≡ replaced ws h q
+pub each_written_once : (ws : List Written) (h : Holding) → WritesOnce ws → (q : Facet) → each_written ws h q ≡ replaced ws h q
 each_written_once [] h once q = refl
 each_written_once (w ∷ ws) h once q =
     each_written_once ws (one_written w h) (once_tail w ws once) q

@@ -1,8 +1,18 @@
 -- Numbered changes, made one after another, by what each facet holds.
 use Rattle.std.specs.Prelude.{ℕ, List, [], ◌∷◌, if◌then◌else◌, Option, Some, None}
 use Rattle.std.specs.Option.{option_map_or}
-use Rattle.keep_change.specs.Change.{Holding, is_met, record_of, replaced, written}
+use Rattle.keep_repo.specs.Facet.{facet_eq}
+use Rattle.keep_change.specs.Change.{Holding, Written, is_met, record_of, replaced, written}
 use Rattle.keep_change.specs.Fold.{Numbered}
+
+-- what each facet holds once this one is written
+abbrev pub one_written : Written → Holding → Holding
+one_written w holding facet = if facet_eq w.facet facet then w.after else holding facet
+
+-- what each facet holds once these are written, one after another
+abbrev pub each_written : List Written → Holding → Holding
+each_written [] holding = holding
+each_written (w ∷ ws) holding = each_written ws (one_written w holding)
 
 -- what each facet holds once these changes are made in turn
 abbrev pub fold_holding : List Numbered → Holding → Holding

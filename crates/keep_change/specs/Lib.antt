@@ -4,5 +4,6 @@ pub mod Form
 pub mod Holdings
 pub mod Law
 pub mod Outline
+pub mod Outcome
 pub mod Result
 pub mod Touch

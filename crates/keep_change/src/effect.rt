@@ -34,7 +34,7 @@ impl Change {
 }
 
 /// Puts what is added and set, and takes away what is dropped and cleared. What can fail comes first.
-fn exchange(
+pub(crate) fn exchange(
     adds: &[StoredFile],
     drops: &[StoredFile],
     sets: &[PackMark],

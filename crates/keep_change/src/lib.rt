@@ -10,7 +10,9 @@ mod laws;
 mod listed;
 mod meets;
 mod member;
+mod outcome;
 mod outline;
+mod settle;
 #[cfg(test)]
 mod tests;
 mod touch;
@@ -20,4 +22,5 @@ pub use holder::Holder;
 pub use laws::{redo_is_exact, taking_back_restores, undo_is_exact};
 pub use listed::Listed;
 pub use member::Member;
+pub use outcome::Outcome;
 pub use outline::{Outline, What};

@@ -1,4 +1,4 @@
-use crate::{Change, Listed, Outline, PackMark, StoredFile, What};
+use crate::{Change, Listed, Outcome, Outline, PackMark, StoredFile, What};
 use keep_names::{FileName, Id, Kind};
 use keep_repo::{Bytes, Facet, Mark, Repo};
 use std::alloc::{AllocError, Global};
@@ -195,5 +195,57 @@ fn a_mark_is_set_once_and_taken_back(rt: HostRuntime) -> Result<(), Fail> {
     let between = make_and_take_back(&change, &other, &mut repo)?;
     assert_eq!(rt; between, Some((1, Err(Facet::Mark(A)))));
     assert_eq!(rt; (repo.file_count(), repo.mark_count()), (0, 0));
+    Ok(())
+}
+
+/// Leaves in the repository what the changes make of it, one after the other, where both are well
+/// formed.
+fn leave_both(
+    alloc: Global,
+    first: &Change,
+    second: &Change,
+    repo: &mut Repo,
+) -> Result<(), AllocError> {
+    if !first.well_formed() {
+        return Ok(());
+    }
+    if !second.well_formed() {
+        return Ok(());
+    }
+    let outcome = Outcome::new(alloc).then(first)?.then(second)?;
+    outcome.apply(repo)
+}
+
+#[test]
+fn a_file_of_wrong_bytes_is_dropped_and_added_anew(rt: HostRuntime) -> Result<(), Fail> {
+    let alloc = rt.alloc();
+    let first = Lists {
+        drops: &[(INDEX_A, "wrong"), (SNAPSHOT_A, "a")],
+        sets: &[B],
+        ..NONE
+    };
+    let second = Lists {
+        adds: &[(INDEX_A, "a"), (SNAPSHOT_B, "b")],
+        ..NONE
+    };
+    let mut repo = Repo::new(alloc);
+    for (name, text) in [(INDEX_A, "wrong"), (SNAPSHOT_A, "a")] {
+        repo.insert_file(name, Bytes::new(alloc, text.as_bytes().to_vec(alloc)?)?)?;
+    }
+    leave_both(
+        alloc,
+        &change_of(alloc, first)?,
+        &change_of(alloc, second)?,
+        &mut repo,
+    )?;
+    for (name, want) in [
+        (INDEX_A, Some("a")),
+        (SNAPSHOT_A, None),
+        (SNAPSHOT_B, Some("b")),
+    ] {
+        let found = repo.get(name).map(|bytes| bytes.as_slice());
+        assert_eq!(rt; found, want.map(|text| text.as_bytes()));
+    }
+    assert_eq!(rt; (repo.mark_count(), repo.is_marked(B)), (1, true));
     Ok(())
 }
