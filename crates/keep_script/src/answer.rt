@@ -1,6 +1,6 @@
 use keep_book::{Refusal, Told};
 use keep_change::{Change, What};
-use keep_journal::History;
+use keep_journal::Event;
 use keep_names::{FileName, Kind};
 use keep_repo::Repo;
 use std::alloc::{AllocError, Global};
@@ -67,19 +67,8 @@ pub(crate) fn count_text(alloc: Global, repo: &Repo) -> Result<String, AllocErro
     format!(in alloc; "files {files} marks {marks}\n")
 }
 
-/// Each file in the order of names, and then the counts.
-pub(crate) fn list_text(alloc: Global, repo: &Repo) -> Result<String, AllocError> {
-    let (names, _) = repo.list()?;
-    let mut text = String::new(alloc);
-    for name in &names {
-        push_file(&mut text, repo, *name)?;
-    }
-    let counts = count_text(alloc, repo)?;
-    text.push_str(counts.as_str())?;
-    Ok(text)
-}
-
-fn push_file(text: &mut String, repo: &Repo, name: FileName) -> Result<(), AllocError> {
+/// The line of `list` for a file of the repository.
+pub(crate) fn file_line(alloc: Global, repo: &Repo, name: FileName) -> Result<String, AllocError> {
     let length = match repo.get(name) {
         Some(bytes) => bytes.as_slice().len(),
         None => 0,
@@ -89,7 +78,7 @@ fn push_file(text: &mut String, repo: &Repo, name: FileName) -> Result<(), Alloc
     } else {
         ""
     };
-    writeln!(text, "{name} {length}{marked}")
+    format!(in alloc; "{name} {length}{marked}\n")
 }
 
 pub(crate) fn noted_text(alloc: Global, name: &str) -> Result<String, AllocError> {
@@ -101,16 +90,15 @@ pub(crate) fn same_text(alloc: Global, name: &str, same: bool) -> Result<String,
     format!(in alloc; "same {name} {answer}\n")
 }
 
-/// Each event with its number, and the number of its change.
-pub(crate) fn history_text(alloc: Global, history: &History) -> Result<String, AllocError> {
-    let mut text = String::new(alloc);
-    for (place, event) in history.events().iter().enumerate() {
-        let number = place + 1;
-        let what = word_of(event.what());
-        let change = event.number();
-        writeln!(&mut text, "{number} {what} {change}")?;
-    }
-    Ok(text)
+/// The line of `history` for the event of this number.
+pub(crate) fn event_line(
+    alloc: Global,
+    number: usize,
+    event: &Event,
+) -> Result<String, AllocError> {
+    let what = word_of(event.what());
+    let change = event.number();
+    format!(in alloc; "{number} {what} {change}\n")
 }
 
 fn word_of(what: What) -> &'static str {

@@ -5,6 +5,7 @@ mod answer;
 mod command;
 mod input;
 mod line;
+mod listing;
 mod output;
 mod plan;
 mod script;

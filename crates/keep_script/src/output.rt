@@ -1,12 +1,22 @@
 ghost use Rattle.std.specs.Prelude.{◌≡◌, IfErr, OnErr, OnOk};
 ghost use Rattle.std.specs.Io.KnownBytes.{Appends};
-ghost use Rattle.keep_script.specs.Known.{AppendsPrefix};
+ghost use Rattle.keep_script.specs.Known.{AppendsPrefix, Grows};
 
 use crate::status::Stop;
 use std::io::{ErrorKind, Write};
 
+/// Writes all of the text, and lets it go.
+pub(crate) fn put_text<W: Write>(writer: &mut W, text: String) -> Result<(), Stop>
+    ensures ok { OnOk result (Appends (W.contents writer.old) (W.contents writer.new) text.bytes.items) }
+    ensures err { OnErr result (AppendsPrefix (W.contents writer.old) (W.contents writer.new) text.bytes.items) }
+    ensures reason { IfErr result (λ stop. stop ≡ Stop.WriteFailed) }
+    ensures grows { Grows (W.contents writer.old) (W.contents writer.new) }
+{
+    put(writer, text.as_str().as_bytes())
+}
+
 /// Writes all of the bytes.
-pub(crate) fn put<W: Write>(writer: &mut W, bytes: &[u8]) -> Result<(), Stop>
+fn put<W: Write>(writer: &mut W, bytes: &[u8]) -> Result<(), Stop>
     ensures ok { OnOk result (Appends (W.contents writer.old) (W.contents writer.new) bytes.now) }
     ensures err { OnErr result (AppendsPrefix (W.contents writer.old) (W.contents writer.new) bytes.now) }
     ensures reason { IfErr result (λ stop. stop ≡ Stop.WriteFailed) }

@@ -4,7 +4,7 @@ ghost use Rattle.keep_script.specs.Known.{Grows};
 
 use crate::answer::bad_line_text;
 use crate::input::Input;
-use crate::output::put;
+use crate::output::put_text;
 use crate::session::Session;
 use crate::status::{Status, Stop};
 use std::alloc::{AllocError, Global};
@@ -14,6 +14,9 @@ use std::io::{Read, Write};
 ///
 /// A line has at most 1,048,576 bytes before its end. The reader is given up after 67,108,864
 /// bytes or reads. Whatever ends the run, the lines before were answered.
+///
+/// The answers to `list` and `history` are written line by line. Where one finds no memory midway,
+/// its first lines are written already, and the run ends as `NoMemory`.
 pub fn run<R: Read, W: Write>(alloc: Global, reader: &mut R, writer: &mut W) -> Status
     ensures end { result ≡ Status.Done → IsAtEnd (R.remaining reader.new) }
     ensures grows { Grows (W.contents writer.old) (W.contents writer.new) }
@@ -64,8 +67,7 @@ fn answer_next<R: Read, W: Write>(
     let Some(line) = input.next_line(reader)? else {
         return Ok(false);
     };
-    let text = session.answer_line(line.as_slice())?;
-    put(writer, text.as_str().as_bytes())?;
+    session.answer_line(line.as_slice(), writer)?;
     Ok(true)
 }
 
@@ -77,7 +79,7 @@ fn refuse<W: Write>(alloc: Global, number: u64, writer: &mut W) -> Status
     let Ok(text) = bad_line_text(alloc, number) else {
         return Status::NoMemory;
     };
-    match put(writer, text.as_str().as_bytes()) {
+    match put_text(writer, text) {
         Ok(()) => Status::BadLine(number),
         Err(stop) => stop.status(number),
     }

@@ -1,7 +1,11 @@
-use crate::answer::{
-    Sizes, commit_text, count_text, history_text, list_text, noted_text, same_text, told_text,
-};
+ghost use Rattle.std.specs.Prelude.{◌≡◌, codes};
+ghost use Rattle.keep_script.specs.Command.{command_text};
+ghost use Rattle.keep_script.specs.Known.{Grows};
+
+use crate::answer::{Sizes, commit_text, count_text, noted_text, same_text, told_text};
 use crate::command::{Command, parse};
+use crate::listing::{write_history, write_list};
+use crate::output::put_text;
 use crate::plan::{added_by, plan_add, plan_drop};
 use crate::status::Stop;
 use crate::word::Target;
@@ -11,6 +15,7 @@ use keep_names::{FileName, Kind};
 use keep_repo::Repo;
 use std::alloc::{AllocError, Global};
 use std::collections::BTreeMap;
+use std::io::Write;
 
 /// What the lines of one run work on: a book, and the repositories that were noted.
 #[derive(Debug, Drop)]
@@ -31,15 +36,24 @@ impl Session {
         })
     }
 
-    /// Does what the line asks for. The answer is whole lines, none for a line that is passed over.
-    pub fn answer_line(&mut self, line: &[u8]) -> Result<String, Stop> {
+    /// Does what the line asks for, and writes the answer: whole lines, none for a line that is
+    /// passed over. An error may come after some of the lines.
+    pub fn answer_line<W: Write>(&mut self, line: &[u8], writer: &mut W) -> Result<(), Stop>
+        ensures list { line.now ≡ codes "list" → self.new ≡ self.old }
+        ensures history { line.now ≡ codes "history" → self.new ≡ self.old }
+        ensures grows { Grows (W.contents writer.old) (W.contents writer.new) }
+    {
         match parse(self.alloc, line)? {
-            Some(command) => self.answer(command),
-            None => Ok(String::new(self.alloc)),
+            Some(command) => self.answer(command, writer),
+            None => Ok(()),
         }
     }
 
-    fn answer(&mut self, command: Command<'_>) -> Result<String, Stop> {
+    fn answer<W: Write>(&mut self, command: Command<'_>, writer: &mut W) -> Result<(), Stop>
+        ensures list { command_text command.entry ≡ codes "list" → self.new ≡ self.old }
+        ensures history { command_text command.entry ≡ codes "history" → self.new ≡ self.old }
+        ensures grows { Grows (W.contents writer.old) (W.contents writer.new) }
+    {
         let text = match command {
             Command::Add { kind, bytes } => {
                 let change = plan_add(self.alloc, kind, bytes)?;
@@ -53,13 +67,13 @@ impl Session {
             Command::Undo(n) => told_text(self.alloc, self.book.undo(n))?,
             Command::Redo(n) => told_text(self.alloc, self.book.redo(n))?,
             Command::Empty(n) => told_text(self.alloc, self.book.empty(n))?,
-            Command::List => list_text(self.alloc, self.book.live())?,
+            Command::List => return write_list(self.alloc, self.book.live(), writer),
             Command::Count => count_text(self.alloc, self.book.live())?,
             Command::Note(name) => self.note(name)?,
             Command::Same(name) => self.same(name)?,
-            Command::History => history_text(self.alloc, self.book.history())?,
+            Command::History => return write_history(self.alloc, self.book.history(), writer),
         };
-        Ok(text)
+        put_text(writer, text)
     }
 
     fn commit(&mut self, change: Change) -> Result<String, AllocError> {

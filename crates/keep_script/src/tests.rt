@@ -47,6 +47,12 @@ const BAD_LINES: [&str; 16] = [
     "backup web",
 ];
 
+/// A script whose answers to `list` and `history` have several lines.
+const LISTING: &str = "add pack -\nadd index 61\nlist\nundo 1\nhistory";
+
+const LISTED: &str =
+    "ok 1 at 1 +1 -0 *0 ~0\nok 2 at 2 +1 -0 *0 ~0\npack e3b0c44298fc1c149afbf4c8996fb92427ae41e4649b934ca495991b7852b855 0\nindex ca978112ca1bbdcafac231b39a23dc4da786eff8147c4e72b9807785afee48bb 1\nfiles 2 marks 0\nok 1 at 3\n1 commit 1\n2 commit 2\n3 undo 1\n";
+
 /// Gives one byte a read, each after a read that was interrupted, and may fail at the end.
 #[derive(Drop)]
 struct Slow<'a> {
@@ -108,6 +114,29 @@ impl Write for Narrow {
         self.held.push(buf[0])?;
         self.room -= 1;
         Ok(1)
+    }
+
+    fn flush(&mut self) -> io::Result<()> {
+        Ok(())
+    }
+}
+
+/// Takes what it is given at once, where that is one line.
+#[derive(Drop)]
+struct ByLine {
+    held: Vec<u8>,
+}
+
+impl Write for ByLine {
+    fn write(&mut self, buf: &[u8]) -> io::Result<usize> {
+        let Some((last, before)) = buf.split_last() else {
+            return Ok(0);
+        };
+        if *last != b'\n' || before.contains(last) {
+            return Err(io::Error::from(ErrorKind::Other));
+        }
+        self.held.extend_from_slice(buf)?;
+        Ok(buf.len())
     }
 
     fn flush(&mut self) -> io::Result<()> {
@@ -229,5 +258,32 @@ fn failures_end_the_run(rt: HostRuntime) {
             &answered[..room.min(answered.len())]
         };
         assert!(rt; writer.held.as_slice() == held, "at {room}");
+    }
+}
+
+#[test]
+fn lines_are_written_one_by_one(rt: HostRuntime) {
+    let mut writer = ByLine {
+        held: Vec::new(rt.alloc()),
+    };
+    let status = run(rt.alloc(), &mut LISTING.as_bytes(), &mut writer);
+    assert_eq!(rt; status, Status::Done);
+    assert!(rt; writer.held.as_slice() == LISTED.as_bytes());
+}
+
+#[test]
+fn listings_may_break_off(rt: HostRuntime) {
+    let alloc = rt.alloc();
+    for room in [44, 60, 116, 150, 189, 216, 240] {
+        let mut writer = Narrow {
+            held: Vec::new(alloc),
+            room,
+        };
+        let status = run(alloc, &mut LISTING.as_bytes(), &mut writer);
+        assert_eq!(rt; status, Status::WriteFailed, "at {room}");
+        assert!(rt;
+            writer.held.as_slice() == &LISTED.as_bytes()[..room],
+            "at {room}"
+        );
     }
 }
