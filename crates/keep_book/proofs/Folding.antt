@@ -1,16 +1,15 @@
 -- Folds of two lists of changes, and what an event leaves of the folds that make the state.
-use Rattle.std.proofs.Common.{◌≡◌, ℕ, ◌+◌, ◌<◌, ◌≤◌, ◌==◌, Bool, true, false, not, ◌&&◌, ◌||◌, cond, List, [], ◌∷◌, ◌++◌, Option, Some, None, Result, Ok, Err, inl, inr, ◌⊎◌, refl, sym, ap, ◌∙◌, subst, arith, append-nil}
+use Rattle.std.proofs.Common.{◌≡◌, ℕ, ◌+◌, ◌<◌, ◌≤◌, ◌==◌, Bool, true, false, not, ◌&&◌, ◌||◌, cond, List, [], ◌∷◌, ◌++◌, Option, None, Result, Ok, Err, inl, inr, ◌⊎◌, refl, sym, ap, ◌∙◌, subst, arith, append-nil}
 use Rattle.std.specs.Prelude.{nat_lt, nat_le}
 use Rattle.std.proofs.lemmas.Bool.{and_right, lt-leb}
 use Rattle.std.proofs.lemmas.Bool.Decides.{nat_tests}
-use Rattle.std.proofs.lemmas.List.Elements.{filter-append}
 use Rattle.keep_repo.specs.Repository.{Repository, held}
 use Rattle.keep_change.specs.Change.{is_met}
 use Rattle.keep_change.specs.Fold.{Numbered, fold_of, first_break}
 use Rattle.keep_change.specs.Result.{result_of}
 use Rattle.keep_change.specs.declared.change.Change.{Change}
 use Rattle.keep_change.proofs.Law.{no_break}
-use Rattle.keep_journal.specs.History.{IsNumbered, committed, change_count, final_after, final_number, in_force_after, is_change, is_in_force}
+use Rattle.keep_journal.specs.History.{IsNumbered, change_count, final_after, final_number, in_force_after, is_change, is_in_force}
 use Rattle.keep_journal.specs.Kept.{chosen, is_kept, kept, kept_with, later, opening_of, others, state_of}
 use Rattle.keep_journal.specs.declared.event.Event.{Event}
 use Rattle.keep_journal.specs.declared.event.Event.TheVariants.{Commit, Undo, Redo, Empty}

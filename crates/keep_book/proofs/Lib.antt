@@ -1,3 +1,4 @@
+pub mod Emptying
 pub mod Folding
 pub mod Looking
 pub mod Redoing

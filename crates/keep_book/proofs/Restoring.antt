@@ -1,16 +1,13 @@
 -- The undo of the last commit.
-use Rattle.std.proofs.Common.{◌≡◌, ℕ, ◌+◌, ◌<◌, ◌≤◌, Bool, true, false, not, cond, ◌&&◌, ◌||◌, List, [], ◌∷◌, ◌++◌, None, refl, sym, ap, ◌∙◌, subst, arith, eqb, append-nil}
+use Rattle.std.proofs.Common.{◌≡◌, ℕ, ◌+◌, ◌<◌, ◌≤◌, Bool, true, false, not, ◌&&◌, List, [], ◌∷◌, ◌++◌, refl, ◌∙◌, arith, eqb, append-nil}
 use Rattle.std.specs.Prelude.{nat_lt}
 use Rattle.std.proofs.lemmas.Bool.Decides.{nat_tests}
-use Rattle.keep_repo.specs.Repository.{Repository}
-use Rattle.keep_change.specs.Fold.{Numbered, fold_of, first_break}
 use Rattle.keep_change.specs.declared.change.Change.{Change}
 use Rattle.keep_journal.specs.History.{IsNumbered, change_count, final_number, is_in_force}
-use Rattle.keep_journal.specs.Kept.{chosen, is_kept, kept, others, opening_of}
+use Rattle.keep_journal.specs.Kept.{is_kept, kept, others}
 use Rattle.keep_journal.specs.declared.event.Event.{Event}
-use Rattle.keep_journal.specs.declared.event.Event.TheVariants.{Commit, Undo}
+use Rattle.keep_journal.specs.declared.event.Event.TheVariants.{Commit}
 use Rattle.keep_journal.proofs.Chosen.{chosen-Commit, chosen_agree_on}
-use Rattle.keep_journal.proofs.Commits.{change_count-Commit}
 use Rattle.keep_journal.proofs.Kept.{is_kept-Commit, kept-Undo, opening_of-Commit, opening_of-Undo}
 use Rattle.keep_journal.proofs.Commits.{final_number-push}
 use Rattle.keep_book.specs.Laws.{CommitThenUndo}

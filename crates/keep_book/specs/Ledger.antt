@@ -22,3 +22,8 @@ pub record IsLive (first : Repository) (es : List Event) (live : Repository) : T
   pub formed : AreWellFormed es
   pub unbroken : first_break (kept es) (opening_of es first) ≡ None
   pub state : live ≡ state_of es first
+
+-- what the book keeps is what the definitions make of its events: beside the live repository, the opening after the last emptying
+pub record IsKept (first : Repository) (es : List Event) (opening live : Repository) : Type 0 where
+  pub is_live : IsLive first es live
+  pub opened : opening ≡ opening_of es first

@@ -10,6 +10,7 @@ ghost use Rattle.keep_book.specs.Reply.{Replies, TakesBack, ledger_after, Run};
 
 use crate::checks::{check_commit, check_empty, check_redo, check_undo};
 use crate::limits::MAX_EVENTS;
+use crate::opening::outcome_up_to;
 use crate::recording::record;
 use crate::refusal::Refusal;
 use crate::request::Request;
@@ -24,9 +25,12 @@ use std::marker::Model;
 /// A repository under numbered changes.
 #[derive(Debug, Drop)]
 pub struct Book {
-    /// The repository that the book was made with. With the number up to which changes are final
-    /// it stands for the opening, so that emptying the trash takes no memory.
+    alloc: Global,
+    /// The repository that the book was made with.
     first: Repo,
+    /// What the last emptying left: the changes that are final, made of the first repository.
+    opening: Repo,
+    /// What the changes that can still be undone make of the opening.
     live: Repo,
     history: History,
 }
@@ -34,7 +38,7 @@ pub struct Book {
 impl Model for Book {
     ghost use Rattle.std.specs.Coded.{codes};
     ghost use Rattle.keep_repo.specs.Repository.{coded_repository};
-    ghost use Rattle.keep_book.specs.Ledger.{Ledger, IsLive};
+    ghost use Rattle.keep_book.specs.Ledger.{Ledger, IsKept};
 
     ghost Value = { Ledger };
 
@@ -42,7 +46,7 @@ impl Model for Book {
 
     ghost view = { λ b. record { first = b.first; events = b.history.events } };
 
-    ghost invariant = { λ b. IsLive b.first b.history.events b.live };
+    ghost invariant = { λ b. IsKept b.first b.history.events b.opening b.live };
 }
 
 impl Book {
@@ -50,9 +54,12 @@ impl Book {
     pub fn new(alloc: Global, opening: Repo) -> Result<Book, AllocError>
         ensures { IfOk result (λ book. book ≡ record { first = opening; events = [] }) }
     {
+        let first = opening.copy()?;
         let live = opening.copy()?;
         Ok(Book {
-            first: opening,
+            alloc,
+            first,
+            opening,
             live,
             history: History::new(alloc),
         })
@@ -128,7 +135,7 @@ impl Book {
         Ok(record(&mut self.history, Event::Redo(n), n))
     }
 
-    /// Makes all changes up to n final. It is refused as `Unknown`, `Final`, `Full` or `Memory`,
+    /// Makes all changes up to n final, and moves the opening over those in force. It is refused as `Unknown`, `Final`, `Full` or `Memory`,
     /// the first of these that holds, and nothing is changed then.
     pub fn empty(&mut self, n: u64) -> Result<Told, Refusal>
         ensures reply { Replies self.old (Request.Empty n) result }
@@ -136,7 +143,9 @@ impl Book {
         ensures state { state_of self.new.events self.new.first ≡ state_of self.old.events self.old.first }
     {
         check_empty(&self.history, n)?;
+        let outcome = outcome_up_to(self.alloc, &self.history, n)?;
         self.history.reserve()?;
+        outcome.apply(&mut self.opening)?;
         Ok(record(&mut self.history, Event::Empty(n), n))
     }
 

@@ -6,6 +6,7 @@ mod checks;
 mod later;
 mod laws;
 mod limits;
+mod opening;
 mod place;
 mod plain;
 mod recording;

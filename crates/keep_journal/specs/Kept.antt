@@ -33,6 +33,10 @@ earlier es n = chosen (λ m. is_kept es m && nat_lt m n) es
 abbrev pub later : List Event → ℕ → List Numbered
 later es n = chosen (λ m. is_kept es m && nat_lt n m) es
 
+-- those of them up to change n
+abbrev pub up_to : List Event → ℕ → List Numbered
+up_to es n = chosen (λ m. is_kept es m && nat_le m n) es
+
 -- the opening: what the last emptying moved it to, the fold of the final changes in force
 abbrev pub opening_of : List Event → Repository → Repository
 opening_of es first = fold_of (chosen (λ m. is_in_force es m && nat_le m (final_number es)) es) first

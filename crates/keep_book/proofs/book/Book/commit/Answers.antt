@@ -2,6 +2,7 @@
 use Rattle.std.proofs.Common.{◌≡◌, ◌+◌, sym, ap, ◌∙◌}
 use Rattle.std.proofs.lemmas.Result.{err_from_is_err_and}
 use Rattle.keep_journal.specs.History.{change_count}
+use Rattle.keep_journal.proofs.Kept.{opening_of-Commit}
 use Rattle.keep_book.proofs.Replying.{refused, accepted, answers_told, answers_memory, same_error}
 use Rattle.keep_book.proofs.Steps.{live-Commit}
 use Rattle.keep_book.proofs.book.Book.commit.Goals as goal
@@ -10,7 +11,7 @@ pub returns-in_err-check_commit-clause-reply : goal.returns-in_err-check_commit-
 returns-in_err-check_commit-clause-reply c =
     let p = err_from_is_err_and c.from_residual.result c.from_residual.ensures.1 in
     rw (p.1, p.2, ← c.self.view_is) (
-      λ formed. rw (sym c.self.invariant.state) (refused _ _ _ (c.in_err-check_commit.ensures.formed formed)),
+      λ formed. rw (sym c.self.invariant.is_live.state) (refused _ _ _ (c.in_err-check_commit.ensures.formed formed)),
       λ malformed. same_error _ _ (c.in_err-check_commit.ensures.malformed malformed),
     )
 
@@ -18,7 +19,7 @@ pub returns-in_err-reserve-clause-reply : goal.returns-in_err-reserve-clause-rep
 returns-in_err-reserve-clause-reply c =
     let p = err_from_is_err_and c.from_residual-in_err-reserve.result c.from_residual-in_err-reserve.ensures.1 in
     rw (p.1, p.2, ← c.self.view_is) (
-      λ formed. rw (sym c.self.invariant.state) (answers_memory _ _ (accepted _ (c.in_ok-check_commit.ensures.formed formed))),
+      λ formed. rw (sym c.self.invariant.is_live.state) (answers_memory _ _ (accepted _ (c.in_ok-check_commit.ensures.formed formed))),
       λ malformed. absurd (malformed c.in_ok-check_commit.ensures.well_formed),
     )
 
@@ -26,7 +27,7 @@ pub returns-in_err-apply-clause-reply : goal.returns-in_err-apply-clause-reply
 returns-in_err-apply-clause-reply c =
     let p = err_from_is_err_and c.from_residual-in_err-apply.result c.from_residual-in_err-apply.ensures.1 in
     rw (p.1, p.2, ← c.self.view_is) (
-      λ formed. rw (sym c.self.invariant.state) (answers_memory _ _ (accepted _ (c.in_ok-check_commit.ensures.formed formed))),
+      λ formed. rw (sym c.self.invariant.is_live.state) (answers_memory _ _ (accepted _ (c.in_ok-check_commit.ensures.formed formed))),
       λ malformed. absurd (malformed c.in_ok-check_commit.ensures.well_formed),
     )
 
@@ -35,14 +36,18 @@ invariant_of-self-2 c =
     let next : c.change_count-number.result + 1 ≡ change_count c.self.inside.history.events + 1 =
     ap (λ k. k + 1) (c.change_count-number.ensures.exact ∙ ap change_count c.in_ok-reserve.ensures.same) in
     rw (c.record.ensures.events, c.in_ok-reserve.ensures.same, c.in_ok-apply.ensures.ok)
-    (live-Commit c.self.inside.history.events c.self.inside.first c.self.inside.live (c.change_count-number.result + 1) c.args.planned.change
-    c.self.invariant next c.in_ok-check_commit.ensures.well_formed c.in_ok-check_commit.ensures.met)
+    (record {
+      is_live = live-Commit c.self.inside.history.events c.self.inside.first c.self.inside.live (c.change_count-number.result + 1) c.args.planned.change
+          c.self.invariant.is_live next c.in_ok-check_commit.ensures.well_formed c.in_ok-check_commit.ensures.met;
+      opened = c.self.invariant.opened
+          ∙ sym (opening_of-Commit c.self.inside.history.events (c.change_count-number.result + 1) c.args.planned.change c.self.inside.first c.self.invariant.is_live.numbered next);
+    })
 
 pub returns-clause-reply : goal.returns-clause-reply
 returns-clause-reply c =
     let number = c.change_count-number.ensures.exact in
     rw (← c.self.view_is) (
-      λ formed. rw (sym c.self.invariant.state) (answers_told _ _ _ (accepted _ (c.in_ok-check_commit.ensures.formed formed))
+      λ formed. rw (sym c.self.invariant.is_live.state) (answers_told _ _ _ (accepted _ (c.in_ok-check_commit.ensures.formed formed))
           (rw (← c.in_ok-reserve.ensures.same, ← number) c.record.ensures.told)),
       λ malformed. absurd (malformed c.in_ok-check_commit.ensures.well_formed),
     )

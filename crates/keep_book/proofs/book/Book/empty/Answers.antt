@@ -1,7 +1,9 @@
 -- Emptying moves the opening, and leaves the live repository.
-use Rattle.std.proofs.Common.{arith}
+use Rattle.std.proofs.Common.{arith, ◌∙◌}
 use Rattle.std.proofs.lemmas.Result.{err_from_is_err_and}
 use Rattle.keep_journal.proofs.Kept.{state_of-Empty}
+use Rattle.keep_repo.specs.Repository.{held}
+use Rattle.keep_book.proofs.Emptying.{moved}
 use Rattle.keep_book.proofs.Replying.{refused, accepted, answers_told, answers_memory, can_empty}
 use Rattle.keep_book.proofs.Steps.{live-Empty}
 use Rattle.keep_book.proofs.book.Book.empty.Goals as goal
@@ -20,7 +22,11 @@ pub invariant_of-self-2 : goal.invariant_of-self-2
 invariant_of-self-2 c =
     let can = can_empty c.self.inside.history.events c.args.n (accepted _ c.in_ok-check_empty.ensures) in
     rw (c.record.ensures.events, c.in_ok-reserve.ensures.same)
-    (live-Empty c.self.inside.history.events c.self.inside.first c.self.inside.live c.args.n c.self.invariant can.change (omega (arith, can.above)))
+    (record {
+      is_live = live-Empty c.self.inside.history.events c.self.inside.first c.self.inside.live c.args.n c.self.invariant.is_live can.change (omega (arith, can.above));
+      opened = moved c.self.inside.history.events c.self.inside.first c.self.inside.opening c.apply.new.repo c.args.n c.self.invariant.is_live.numbered c.self.invariant.is_live.formed (omega (arith, can.above)) c.self.invariant.opened
+          (c.in_ok-apply.ensures.ok ∙ c.in_ok-outcome.ensures (held c.self.inside.opening));
+    })
 
 pub returns-clause-reply : goal.returns-clause-reply
 returns-clause-reply c =
@@ -30,4 +36,4 @@ pub returns-clause-state : goal.returns-clause-state
 returns-clause-state c =
     let can = can_empty c.self.inside.history.events c.args.n (accepted _ c.in_ok-check_empty.ensures) in
     rw (c.record.ensures.events, c.in_ok-reserve.ensures.same, ← c.self.view_is)
-    (state_of-Empty c.self.inside.history.events c.args.n c.self.inside.first c.self.invariant.numbered (omega (arith, can.above)))
+    (state_of-Empty c.self.inside.history.events c.args.n c.self.inside.first c.self.invariant.is_live.numbered (omega (arith, can.above)))
