@@ -1,3 +1,4 @@
+pub mod HexText
 pub mod IdText
 pub mod Orders
 pub mod Paths

@@ -4,7 +4,7 @@ use Rattle.std.proofs.lemmas.Fmt.{hex_byte}
 use Rattle.std.proofs.lemmas.Bool.{eqb-true}
 use Rattle.std.specs.Fmt.{digit_glyph, digits, format_spec, padded_integral}
 use Rattle.hex.specs.Hex.{IsBytes, encode_lower, encode_with, lower_digits}
-use Rattle.keep_names.proofs.IdText.{each_below-at}
+use Rattle.keep_names.proofs.HexText.{each_below-at}
 
 -- a printed digit is the table's
 glyph-lower_digits : (d : ℕ) → d < 16 → digit_glyph false d ≡ slice_index lower_digits d
