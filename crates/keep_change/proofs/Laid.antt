@@ -17,7 +17,7 @@ use Rattle.keep_change.specs.declared.change.Change.{Change}
 use Rattle.keep_change.specs.Change.{Holding, Written, added, dropped, set, cleared, written, replaced}
 use Rattle.keep_change.specs.Form.{HasNoFacetTwice}
 use Rattle.keep_change.specs.Holdings.{one_written, each_written}
-use Rattle.keep_change.specs.Outcome.{Left, laid}
+use Rattle.keep_change.specs.Outcome.{Left, laid, nothing_left}
 use Rattle.keep_change.proofs.Carry.{each_written-append, each_written_once, writes_once}
 
 -- what is left of files and of marks, together
@@ -53,9 +53,9 @@ laid-mark l pack before after h = λ i q. at q i where
       ∙ or_cond (option_map Marked) (eq_by_cmp id_cmp pack other) after (finite.get l.marks other) (h (Mark other))
 
 -- where nothing is left all is as it was
-pub laid-nothing : (h : Holding) → laid (record { files = finite.empty; marks = finite.empty }) h ≡ h
-laid-nothing h = λ i q. at q i where
-  at : (q : Facet) → laid (record { files = finite.empty; marks = finite.empty }) h q ≡ h q
+pub laid_nothing : (h : Holding) → laid nothing_left h ≡ h
+laid_nothing h = λ i q. at q i where
+  at : (q : Facet) → laid nothing_left h q ≡ h q
   at (File name) = ap (λ o. option_map_or (option_map Stored) o (h (File name))) (finite.get-empty name_cmp name)
   at (Mark pack) = ap (λ o. option_map_or (option_map Marked) o (h (Mark pack))) (finite.get-empty id_cmp pack)
 

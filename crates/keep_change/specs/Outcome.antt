@@ -19,6 +19,10 @@ pub record Left : Type 0 where
   pub files : map.FinMap name_cmp (Option (List ℕ))
   pub marks : map.FinMap id_cmp (Option the_mark.Mark)
 
+-- what no change leaves
+abbrev pub nothing_left : Left
+nothing_left = record { files = map.empty; marks = map.empty }
+
 -- what each facet holds once this is left, where all others are as they were
 abbrev pub laid : Left → Holding → Holding
 laid left holding (File name) = option_map_or (option_map Stored) (map.get left.files name) (holding (File name))

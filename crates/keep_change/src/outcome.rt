@@ -4,7 +4,7 @@ ghost use Rattle.keep_repo.specs.Repository.{held};
 ghost use Rattle.keep_change.specs.Change.{Holding, added, dropped, set, cleared, written, replaced};
 ghost use Rattle.keep_change.specs.Form.{HasNoFacetTwice};
 ghost use Rattle.keep_change.specs.Holdings.{each_written};
-ghost use Rattle.keep_change.specs.Outcome.{laid};
+ghost use Rattle.keep_change.specs.Outcome.{laid, nothing_left};
 
 use crate::change::{Change, PackMark, StoredFile};
 use crate::effect::exchange;
@@ -39,7 +39,7 @@ impl Model for Outcome {
 impl Outcome {
     /// That of no change.
     pub fn new(alloc: Global) -> Outcome
-        ensures { (holding : Holding) → laid result holding ≡ holding }
+        ensures { result ≡ nothing_left }
     {
         Outcome {
             alloc,

@@ -2,13 +2,15 @@
 use Rattle.std.proofs.Common.{refl, sym, ap, ◌∙◌, arith, ◌+◌}
 use Rattle.keep_change.specs.Change.{replaced, written}
 use Rattle.keep_change.specs.Holdings.{fold_holding}
+use Rattle.keep_change.specs.Outcome.{laid}
+use Rattle.keep_change.proofs.Laid.{laid_nothing}
 use Rattle.keep_book.proofs.Emptying.{fold_with, fold_without, up_to_final}
 use Rattle.keep_book.proofs.opening.outcome_up_to.Goals as goal
 use Rattle.keep_book.proofs.opening.outcome_up_to.Goals.{in-Some+in_ok-outcome, in_default}
 
 pub loop-before-init : goal.loop-before-init
 loop-before-init c =
-    λ holding. c.new-outcome.ensures holding
+    λ holding. ap (λ left. laid left holding) c.new-outcome.ensures ∙ laid_nothing holding
     ∙ sym (rw c.final_number-before.ensures.exact (ap (λ ns. fold_holding ns holding) (up_to_final c.args.history.now.events c.requires.numbered)))
 
 pub loop-before-preserved : goal.loop-before-preserved

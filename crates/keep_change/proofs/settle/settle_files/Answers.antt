@@ -6,7 +6,7 @@ use Rattle.keep_repo.proofs.Held.{held-insert_file, held-remove_file}
 use Rattle.keep_repo.proofs.Maps.{get_made, one_removed}
 use Rattle.keep_repo.specs.Repository.{Repository, held}
 use Rattle.keep_change.specs.Outcome.{files_left, laid}
-use Rattle.keep_change.proofs.Laid.{laid-nothing}
+use Rattle.keep_change.proofs.Laid.{laid_nothing}
 use Rattle.keep_change.proofs.Settled.{none_left, settled-file, there_after_insert, there_after_remove}
 use Rattle.keep_change.proofs.settle.settle_files.Goals as goal
 
@@ -47,5 +47,5 @@ loop-name-preserved c =
 pub returns : goal.returns
 returns c =
     let none = none_left c.pop_first.result c.loop-name.files.entries c.pop_first.ensures.variant.1 c.in_default.not-Some in
-    sym (ap (λ es. laid (record { files = files_left es; marks = empty }) (held c.loop-name.repo)) none ∙ laid-nothing (held c.loop-name.repo))
+    sym (ap (λ es. laid (record { files = files_left es; marks = empty }) (held c.loop-name.repo)) none ∙ laid_nothing (held c.loop-name.repo))
     ∙ c.loop-name.invariant.laid

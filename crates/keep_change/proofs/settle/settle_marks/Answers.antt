@@ -6,7 +6,7 @@ use Rattle.keep_repo.proofs.Held.{held-insert_mark, held-remove_mark}
 use Rattle.keep_repo.proofs.Maps.{get_made, one_removed}
 use Rattle.keep_repo.specs.Repository.{Repository, held}
 use Rattle.keep_change.specs.Outcome.{marks_left, laid}
-use Rattle.keep_change.proofs.Laid.{laid-nothing}
+use Rattle.keep_change.proofs.Laid.{laid_nothing}
 use Rattle.keep_change.proofs.Settled.{none_left, settled-mark, there_after_insert, there_after_remove}
 use Rattle.keep_change.proofs.settle.settle_marks.Goals as goal
 
@@ -47,5 +47,5 @@ loop-pack-preserved c =
 pub returns : goal.returns
 returns c =
     let none = none_left c.pop_first.result c.loop-pack.marks.entries c.pop_first.ensures.variant.1 c.in_default.not-Some in
-    sym (ap (λ es. laid (record { files = empty; marks = marks_left es }) (held c.loop-pack.repo)) none ∙ laid-nothing (held c.loop-pack.repo))
+    sym (ap (λ es. laid (record { files = empty; marks = marks_left es }) (held c.loop-pack.repo)) none ∙ laid_nothing (held c.loop-pack.repo))
     ∙ c.loop-pack.invariant.laid
