@@ -1,34 +1,30 @@
--- Folds of two lists of changes, and what an event leaves of the folds that make the state.
-use Rattle.std.proofs.Common.{◌≡◌, ℕ, ◌+◌, ◌<◌, ◌≤◌, ◌==◌, Bool, true, false, not, ◌&&◌, ◌||◌, cond, List, [], ◌∷◌, ◌++◌, Option, None, Result, Ok, Err, inl, inr, ◌⊎◌, refl, sym, ap, ◌∙◌, subst, arith, append-nil}
+-- Folds of two lists of changes, and what an event leaves of the fold of those in force.
+use Rattle.std.proofs.Common.{◌≡◌, ℕ, ◌+◌, ◌<◌, ◌==◌, Bool, true, false, not, ◌&&◌, ◌||◌, cond, List, [], ◌∷◌, ◌++◌, None, refl, ap, ◌∙◌, subst, arith}
 use Rattle.std.specs.Prelude.{nat_lt, nat_le}
-use Rattle.std.proofs.lemmas.Bool.{and_right, lt-leb}
+use Rattle.std.proofs.lemmas.Bool.{eq-eqb, ne_eqb}
 use Rattle.std.proofs.lemmas.Bool.Decides.{nat_tests}
+use Rattle.std.proofs.lemmas.List.Elements.{All-push}
 use Rattle.keep_repo.specs.Repository.{Repository, held}
 use Rattle.keep_change.specs.Change.{is_met}
 use Rattle.keep_change.specs.Fold.{Numbered, fold_of, first_break}
+use Rattle.keep_change.specs.Form.{IsWellFormed}
 use Rattle.keep_change.specs.Result.{result_of}
 use Rattle.keep_change.specs.declared.change.Change.{Change}
 use Rattle.keep_change.proofs.Law.{no_break}
-use Rattle.keep_journal.specs.History.{IsNumbered, change_count, final_after, final_number, in_force_after, is_change, is_in_force}
-use Rattle.keep_journal.specs.Kept.{chosen, is_kept, kept, kept_with, later, opening_of, others, state_of}
+use Rattle.keep_journal.specs.History.{IsNumbered, committed, change_count, final_number, is_change, is_in_force}
+use Rattle.keep_journal.specs.Kept.{chosen, is_kept, kept, kept_with, opening_of, others, state_of}
 use Rattle.keep_journal.specs.declared.event.Event.{Event}
 use Rattle.keep_journal.specs.declared.event.Event.TheVariants.{Commit, Undo, Redo, Empty}
-use Rattle.keep_journal.proofs.Chosen.{chosen-Commit, chosen-Empty, chosen-Redo, chosen-Undo, chosen_agree, chosen_split}
-use Rattle.keep_journal.proofs.Commits.{IsNumbered-push, final_number-push, is_in_force-push}
+use Rattle.keep_journal.proofs.Chosen.{chosen-Commit, chosen-Empty, chosen-Redo, chosen-Undo, chosen_agree, chosen_agree_on, chosen_split}
+use Rattle.keep_journal.proofs.Commits.{IsNumbered-push, committed-Commit, committed-Empty, committed-Redo, committed-Undo, is_in_force-push}
+use Rattle.keep_journal.proofs.Kept.{state_of-fold}
 use Rattle.keep_journal.proofs.Statuses.{is_change_parts}
-use Rattle.keep_journal.proofs.Kept.{kept-Commit, kept-Empty, kept-Redo, kept-Undo, kept_split, opening_of-Commit, opening_of-Empty, opening_of-Redo, opening_of-Undo}
 use Rattle.keep_book.specs.Choosing.{chooses, IsDefined}
-use Rattle.keep_book.specs.Later.{Passes}
-use Rattle.keep_book.specs.Reply.{Answers}
-use Rattle.keep_book.specs.declared.plain.Choice.TheVariants.{Final}
-use Rattle.keep_book.specs.declared.refusal.Refusal.{Refusal}
-use Rattle.keep_book.specs.declared.refusal.Refusal.TheVariants.{Memory}
-use Rattle.keep_book.specs.declared.told.Told.{Told}
-use Rattle.keep_book.proofs.Replying.{accepted, refused, same_error}
+use Rattle.keep_book.specs.declared.choice.Choice.TheVariants.{With, Without}
 
 -- ---- folds of two lists, one after the other
 
-break_append : (xs ys : List Numbered) (r : Repository) → first_break xs r ≡ None → first_break (xs ++ ys) r ≡ first_break ys (fold_of xs r)
+pub break_append : (xs ys : List Numbered) (r : Repository) → first_break xs r ≡ None → first_break (xs ++ ys) r ≡ first_break ys (fold_of xs r)
 break_append [] ys r none = refl
 break_append (x ∷ xs) ys r none =
     let parts = no_break (is_met (held r) x.change) (first_break xs (result_of x.change r)) x.number none in
@@ -40,114 +36,125 @@ break_front (x ∷ xs) ys r none =
     let parts = no_break (is_met (held r) x.change) (first_break (xs ++ ys) (result_of x.change r)) x.number none in
     rw parts.0 (break_front xs ys (result_of x.change r) parts.1)
 
--- ---- the final changes, after one more event
+-- ---- tests, f whether a change is in force
 
-same_old : (f : Bool) (top n m : ℕ) → top < n → ((n == m || f) && nat_le m top) ≡ (f && nat_le m top)
-same_old true top n m above = grind (arith, nat_tests)
-same_old false top n m above = grind (arith, nat_tests)
+without_old : (f : Bool) (top n m : ℕ) → top < n → ((f && not (m == n)) && nat_le m top) ≡ (f && nat_le m top)
+without_old true top n m above = grind (arith, nat_tests)
+without_old false top n m above = refl
 
-undone_old : (f : Bool) (top n m : ℕ) → top < n → ((not (n == m) && f) && nat_le m top) ≡ (f && nat_le m top)
-undone_old true top n m above = grind (arith, nat_tests)
-undone_old false top n m above = grind (arith, nat_tests)
+without_new : (f : Bool) (top n m : ℕ) → ((f && not (m == n)) && nat_lt top m) ≡ ((f && nat_lt top m) && not (m == n))
+without_new true top n m = grind (arith, nat_tests)
+without_new false top n m = refl
 
-old_front : (f : Bool) (top n m : ℕ) → top ≤ n → ((f && nat_le m n) && nat_le m top) ≡ (f && nat_le m top)
-old_front true top n m above = grind (arith, nat_tests)
-old_front false top n m above = refl
+with_old : (f : Bool) (top n m : ℕ) → top < n → ((f || m == n) && nat_le m top) ≡ (f && nat_le m top)
+with_old true top n m above = refl
+with_old false top n m above = grind (arith, nat_tests)
 
-old_back : (f : Bool) (top n m : ℕ) → ((f && nat_le m n) && nat_lt top m) ≡ ((f && nat_lt top m) && nat_le m n)
-old_back true top n m = grind (arith, nat_tests)
-old_back false top n m = refl
+with_new : (f : Bool) (top n m : ℕ) → top < n → ((f || m == n) && nat_lt top m) ≡ ((f && nat_lt top m) || m == n)
+with_new true top n m above = grind (arith, nat_tests)
+with_new false top n m above = grind (arith, nat_tests)
 
-final-push : (es : List Event) (e : Event) (m : ℕ)
-    → chooses (es ++ e ∷ []) Final m ≡ (in_force_after m (is_in_force es m) e && nat_le m (final_after (final_number es) e))
-final-push es e m = rw (is_in_force-push es e m, final_number-push es e) refl
+undone_test : (f : Bool) (n m : ℕ) → (not (n == m) && f) ≡ (f && not (m == n))
+undone_test true n m = grind (arith, nat_tests)
+undone_test false n m = grind (arith, nat_tests)
 
-final-Commit : (es : List Event) (n : ℕ) (c : Change) → IsNumbered es → n ≡ change_count es + 1
-    → chosen (chooses (es ++ Commit n c ∷ []) Final) (es ++ Commit n c ∷ []) ≡ chosen (chooses es Final) es
-final-Commit es n c h next =
-    let top = h.last_final in
-    let test : ℕ → Bool = chooses (es ++ Commit n c ∷ []) Final in
-    let new : test n ≡ false = final-push es (Commit n c) n ∙ and_right (n == n || is_in_force es n) (nat_le n (final_number es)) (lt-leb n (final_number es) (omega arith)) in
+redone_test : (f : Bool) (n m : ℕ) → (n == m || f) ≡ (f || m == n)
+redone_test true n m = grind (arith, nat_tests)
+redone_test false n m = grind (arith, nat_tests)
+
+-- ---- from the first repository, and from the opening
+
+-- the changes in force that are final can be made of the first repository
+opened : (es : List Event) (first : Repository) → IsDefined first es → first_break (chosen (λ m. is_in_force es m && nat_le m (final_number es)) es) first ≡ None
+opened es first is =
+    break_front (chosen (λ m. is_in_force es m && nat_le m (final_number es)) es) (kept es) first
+    (subst (λ ns. first_break ns first ≡ None) (chosen_split (is_in_force es) es (final_number es) is.numbered) is.unbroken)
+
+-- where the same final changes are taken, the first break is the first of those from the opening
+break_opened : (test : ℕ → Bool) (es : List Event) (first : Repository) → IsDefined first es
+    → ((m : ℕ) → (test m && nat_le m (final_number es)) ≡ (is_in_force es m && nat_le m (final_number es)))
+    → first_break (chosen test es) first ≡ first_break (chosen (λ m. test m && nat_lt (final_number es) m) es) (opening_of es first)
+break_opened test es first is same =
+    let old : List Numbered = chosen (λ m. is_in_force es m && nat_le m (final_number es)) es in
+    let new : List Numbered = chosen (λ m. test m && nat_lt (final_number es) m) es in
+    ap (λ ns. first_break ns first) (chosen_split test es (final_number es) is.numbered)
+    ∙ ap (λ ns. first_break (ns ++ new) first) (chosen_agree (λ m. test m && nat_le m (final_number es)) (λ m. is_in_force es m && nat_le m (final_number es)) es same)
+    ∙ break_append old new first (opened es first is)
+
+pub break_without : (es : List Event) (first : Repository) (n : ℕ) → IsDefined first es → final_number es < n
+    → first_break (chosen (chooses es (Without n)) es) first ≡ first_break (others es n) (opening_of es first)
+break_without es first n is above =
+    break_opened (chooses es (Without n)) es first is (λ m. without_old (is_in_force es m) (final_number es) n m above)
+    ∙ ap (λ ns. first_break ns (opening_of es first))
+    (chosen_agree (λ m. chooses es (Without n) m && nat_lt (final_number es) m) (λ m. is_kept es m && not (m == n)) es (λ m. without_new (is_in_force es m) (final_number es) n m))
+
+pub break_with : (es : List Event) (first : Repository) (n : ℕ) → IsDefined first es → final_number es < n
+    → first_break (chosen (chooses es (With n)) es) first ≡ first_break (kept_with es n) (opening_of es first)
+break_with es first n is above =
+    break_opened (chooses es (With n)) es first is (λ m. with_old (is_in_force es m) (final_number es) n m above)
+    ∙ ap (λ ns. first_break ns (opening_of es first))
+    (chosen_agree (λ m. chooses es (With n) m && nat_lt (final_number es) m) (λ m. is_kept es m || m == n) es (λ m. with_new (is_in_force es m) (final_number es) n m above))
+
+-- ---- those in force, after one more event
+
+in_force-Commit : (es : List Event) (n : ℕ) (c : Change) → IsNumbered es → n ≡ change_count es + 1
+    → chosen (is_in_force (es ++ Commit n c ∷ [])) (es ++ Commit n c ∷ []) ≡ chosen (is_in_force es) es ++ record { number = n; change = c } ∷ []
+in_force-Commit es n c numbered next =
+    let test : ℕ → Bool = is_in_force (es ++ Commit n c ∷ []) in
+    let new : test n ≡ true = is_in_force-push es (Commit n c) n ∙ ap (λ b. b || is_in_force es n) (eq-eqb n n refl) in
     chosen-Commit test es n c
     ∙ ap (λ b. chosen test es ++ cond b (record { number = n; change = c } ∷ []) []) new
-    ∙ append-nil (chosen test es)
-    ∙ chosen_agree test (chooses es Final) es (λ m. final-push es (Commit n c) m ∙ same_old (is_in_force es m) (final_number es) n m (omega arith))
+    ∙ ap (λ ns. ns ++ record { number = n; change = c } ∷ [])
+    (chosen_agree_on test (is_in_force es) es numbered (λ m low high. is_in_force-push es (Commit n c) m ∙ ap (λ b. b || is_in_force es m) (ne_eqb n m (λ e. omega arith))))
 
-final-Undo : (es : List Event) (n : ℕ) → final_number es < n
-    → chosen (chooses (es ++ Undo n ∷ []) Final) (es ++ Undo n ∷ []) ≡ chosen (chooses es Final) es
-final-Undo es n above =
-    chosen-Undo (chooses (es ++ Undo n ∷ []) Final) es n
-    ∙ chosen_agree (chooses (es ++ Undo n ∷ []) Final) (chooses es Final) es
-    (λ m. final-push es (Undo n) m ∙ undone_old (is_in_force es m) (final_number es) n m above)
+in_force-Undo : (es : List Event) (n : ℕ) → chosen (is_in_force (es ++ Undo n ∷ [])) (es ++ Undo n ∷ []) ≡ chosen (chooses es (Without n)) es
+in_force-Undo es n =
+    chosen-Undo (is_in_force (es ++ Undo n ∷ [])) es n
+    ∙ chosen_agree (is_in_force (es ++ Undo n ∷ [])) (chooses es (Without n)) es (λ m. is_in_force-push es (Undo n) m ∙ undone_test (is_in_force es m) n m)
 
-final-Redo : (es : List Event) (n : ℕ) → final_number es < n
-    → chosen (chooses (es ++ Redo n ∷ []) Final) (es ++ Redo n ∷ []) ≡ chosen (chooses es Final) es
-final-Redo es n above =
-    chosen-Redo (chooses (es ++ Redo n ∷ []) Final) es n
-    ∙ chosen_agree (chooses (es ++ Redo n ∷ []) Final) (chooses es Final) es
-    (λ m. final-push es (Redo n) m ∙ same_old (is_in_force es m) (final_number es) n m above)
+in_force-Redo : (es : List Event) (n : ℕ) → chosen (is_in_force (es ++ Redo n ∷ [])) (es ++ Redo n ∷ []) ≡ chosen (chooses es (With n)) es
+in_force-Redo es n =
+    chosen-Redo (is_in_force (es ++ Redo n ∷ [])) es n
+    ∙ chosen_agree (is_in_force (es ++ Redo n ∷ [])) (chooses es (With n)) es (λ m. is_in_force-push es (Redo n) m ∙ redone_test (is_in_force es m) n m)
 
-final-Empty : (es : List Event) (n : ℕ) → IsNumbered es → final_number es ≤ n
-    → chosen (chooses (es ++ Empty n ∷ []) Final) (es ++ Empty n ∷ []) ≡ chosen (chooses es Final) es ++ chosen (λ m. is_kept es m && nat_le m n) es
-final-Empty es n h above =
-    chosen-Empty (chooses (es ++ Empty n ∷ []) Final) es n
-    ∙ chosen_agree (chooses (es ++ Empty n ∷ []) Final) (λ m. is_in_force es m && nat_le m n) es (final-push es (Empty n))
-    ∙ chosen_split (λ m. is_in_force es m && nat_le m n) es (final_number es) h
-    ∙ ap (λ xs. xs ++ chosen (λ m. (is_in_force es m && nat_le m n) && nat_lt (final_number es) m) es)
-    (chosen_agree (λ m. (is_in_force es m && nat_le m n) && nat_le m (final_number es)) (chooses es Final) es (λ m. old_front (is_in_force es m) (final_number es) n m above))
-    ∙ ap (λ xs. chosen (chooses es Final) es ++ xs)
-    (chosen_agree (λ m. (is_in_force es m && nat_le m n) && nat_lt (final_number es) m) (λ m. is_kept es m && nat_le m n) es (λ m. old_back (is_in_force es m) (final_number es) n m))
+in_force-Empty : (es : List Event) (n : ℕ) → chosen (is_in_force (es ++ Empty n ∷ [])) (es ++ Empty n ∷ []) ≡ chosen (is_in_force es) es
+in_force-Empty es n =
+    chosen-Empty (is_in_force (es ++ Empty n ∷ [])) es n
+    ∙ chosen_agree (is_in_force (es ++ Empty n ∷ [])) (is_in_force es) es (is_in_force-push es (Empty n))
 
 -- ---- the state stays defined
 
-pub defined-Commit : (es : List Event) (first : Repository) (n : ℕ) (c : Change) → IsDefined first es → n ≡ change_count es + 1 → is_met (held (state_of es first)) c ≡ true
+pub defined-Commit : (es : List Event) (first : Repository) (n : ℕ) (c : Change) → IsDefined first es → n ≡ change_count es + 1 → IsWellFormed c → is_met (held (state_of es first)) c ≡ true
     → IsDefined first (es ++ Commit n c ∷ [])
-defined-Commit es first n c is next met =
-    let one : List Numbered = record { number = n; change = c } ∷ [] in
-    let last : first_break one (state_of es first) ≡ None = rw met refl in
+defined-Commit es first n c is next formed met =
+    let it : Numbered = record { number = n; change = c } in
+    let there : is_met (held (fold_of (chosen (is_in_force es) es) first)) c ≡ true = subst (λ r. is_met (held r) c ≡ true) (state_of-fold es first is.numbered) met in
+    let last : first_break (it ∷ []) (fold_of (chosen (is_in_force es) es) first) ≡ None = rw there refl in
     record {
       numbered = IsNumbered-push es (Commit n c) is.numbered next;
-      opened = rw (final-Commit es n c is.numbered next) is.opened;
-      unbroken = rw (kept-Commit es n c is.numbered next, opening_of-Commit es n c first is.numbered next)
-          (break_append (kept es) one (opening_of es first) is.unbroken ∙ last);
+      formed = rw (committed-Commit es n c) (All-push (λ m. IsWellFormed m.change) (committed es) it is.formed formed);
+      unbroken = rw (in_force-Commit es n c is.numbered next) (break_append (chosen (is_in_force es) es) (it ∷ []) first is.unbroken ∙ last);
     }
 
 pub defined-Undo : (es : List Event) (first : Repository) (n : ℕ) → IsDefined first es → is_change es n ≡ true → final_number es < n → first_break (others es n) (opening_of es first) ≡ None
     → IsDefined first (es ++ Undo n ∷ [])
 defined-Undo es first n is change above none = record {
   numbered = IsNumbered-push es (Undo n) is.numbered (is_change_parts es n change);
-  opened = rw (final-Undo es n above) is.opened;
-  unbroken = rw (kept-Undo es n, opening_of-Undo es n first above) none;
+  formed = rw (committed-Undo es n) is.formed;
+  unbroken = rw (in_force-Undo es n) (break_without es first n is above ∙ none);
 }
 
 pub defined-Redo : (es : List Event) (first : Repository) (n : ℕ) → IsDefined first es → is_change es n ≡ true → final_number es < n → first_break (kept_with es n) (opening_of es first) ≡ None
     → IsDefined first (es ++ Redo n ∷ [])
 defined-Redo es first n is change above none = record {
   numbered = IsNumbered-push es (Redo n) is.numbered (is_change_parts es n change);
-  opened = rw (final-Redo es n above) is.opened;
-  unbroken = rw (kept-Redo es n above, opening_of-Redo es n first above) none;
+  formed = rw (committed-Redo es n) is.formed;
+  unbroken = rw (in_force-Redo es n) (break_with es first n is above ∙ none);
 }
 
-pub defined-Empty : (es : List Event) (first : Repository) (n : ℕ) → IsDefined first es → is_change es n ≡ true → final_number es ≤ n
-    → IsDefined first (es ++ Empty n ∷ [])
-defined-Empty es first n is change above =
-    let newly : List Numbered = chosen (λ m. is_kept es m && nat_le m n) es in
-    let whole : first_break (newly ++ later es n) (opening_of es first) ≡ None = subst (λ ns. first_break ns (opening_of es first) ≡ None) (kept_split es n is.numbered) is.unbroken in
-    let front : first_break newly (opening_of es first) ≡ None = break_front newly (later es n) (opening_of es first) whole in
-    record {
-      numbered = IsNumbered-push es (Empty n) is.numbered (is_change_parts es n change);
-      opened = rw (final-Empty es n is.numbered above) (break_append (chosen (chooses es Final) es) newly first is.opened ∙ front);
-      unbroken = rw (kept-Empty es n above, opening_of-Empty es n first is.numbered above)
-          (sym (break_append newly (later es n) (opening_of es first) front) ∙ whole);
-    }
-
--- ---- replies, memory aside
-
-pub accepted_or : (r : Option Refusal) → (◌≡◌ {A = Result (Unit {0}) Refusal} (Ok tt) (Err Memory) ⊎ Passes r (Ok tt)) → r ≡ None
-accepted_or r (inl same) = cc same
-accepted_or r (inr passes) = accepted r passes
-
-pub refused_or : (r : Option Refusal) (e : Refusal) (told : Told) → (◌≡◌ {A = Result (Unit {0}) Refusal} (Err e) (Err Memory) ⊎ Passes r (Err e))
-    → (◌≡◌ {A = Result Told Refusal} (Err e) (Err Memory) ⊎ Answers r told (Err e))
-refused_or r e told (inl same) = inl (same_error e Memory same)
-refused_or r e told (inr passes) = inr (refused r e told passes)
+pub defined-Empty : (es : List Event) (first : Repository) (n : ℕ) → IsDefined first es → is_change es n ≡ true → IsDefined first (es ++ Empty n ∷ [])
+defined-Empty es first n is change = record {
+  numbered = IsNumbered-push es (Empty n) is.numbered (is_change_parts es n change);
+  formed = rw (committed-Empty es n) is.formed;
+  unbroken = rw (in_force-Empty es n) is.unbroken;
+}

@@ -1,7 +1,8 @@
 -- What a check says of the reply.
 use Rattle.std.proofs.Common.{◌≡◌, ℕ, ◌<◌, Bool, true, false, Option, Some, None, Result, Ok, Err, refl, ap, subst, arith, inl, inr, ◌⊎◌, List, length}
-use Rattle.std.specs.Prelude.{MatchOption, OnOk, nat_le}
+use Rattle.std.specs.Prelude.{MatchOption, OnOk, nat_le, nat_lt, ◌&&◌}
 use Rattle.std.specs.Option.{option_map}
+use Rattle.std.proofs.lemmas.Bool.{lt-ltb}
 use Rattle.std.proofs.lemmas.Bool.Decides.{nat_tests}
 use Rattle.std.specs.Cmp.{first_so}
 use Rattle.keep_repo.specs.Repository.{Repository}
@@ -14,10 +15,10 @@ use Rattle.keep_journal.proofs.Statuses.{a_change_in_force}
 use Rattle.keep_journal.specs.declared.event.Event.{Event}
 use Rattle.keep_book.specs.Later.{Passes}
 use Rattle.keep_book.specs.Ledger.{Ledger}
-use Rattle.keep_book.specs.Reply.{Answers, TakesBack, undo_refusal, empty_refusal, is_full, told_of, ledger_after}
+use Rattle.keep_book.specs.Reply.{Answers, TakesBack, undo_refusal, redo_refusal, empty_refusal, is_full, told_of, ledger_after}
 use Rattle.keep_book.specs.declared.limits.TheConstants.{MAX_EVENTS}
 use Rattle.keep_book.specs.declared.refusal.Refusal.{Refusal}
-use Rattle.keep_book.specs.declared.refusal.Refusal.TheVariants.{Memory, LeanedOn}
+use Rattle.keep_book.specs.declared.refusal.Refusal.TheVariants.{Blocked, Memory, LeanedOn}
 use Rattle.keep_book.specs.declared.request.Request.TheVariants.{Undo}
 use Rattle.keep_book.specs.declared.told.Told.{Told}
 use Rattle.keep_book.proofs.Undoing.{above_final_lt}
@@ -43,10 +44,22 @@ pub answers_memory : (r : Option Refusal) (told : Told) → r ≡ None → Answe
 answers_memory None told none = inr refl
 answers_memory (Some refusal) told none = cc none
 
-can_be : (es : List Event) (n : ℕ) (broken : Option ℕ) → is_change es n ≡ true → final_number es < n → is_kept es n ≡ true → is_full es ≡ false → undo_refusal es n broken ≡ option_map LeanedOn broken
+-- an undo of a change in force, where there is room, is refused only where the others can't be made
+pub can_be : (es : List Event) (n : ℕ) (broken : Option ℕ) → is_change es n ≡ true → final_number es < n → is_kept es n ≡ true → is_full es ≡ false → undo_refusal es n broken ≡ option_map LeanedOn broken
 can_be es n broken change above in_it room =
     let not_final : nat_le n (final_number es) ≡ false = grind (arith, nat_tests) in
     let in_force : is_in_force es n ≡ true = first_so _ _ in_it in
+    rw (change, not_final, in_force, room) refl
+
+not_in_force : (f k : Bool) → k ≡ true → (f && k) ≡ false → f ≡ false
+not_in_force true k e h = cc (e, h)
+not_in_force false k e h = refl
+
+-- and a redo of an undone one only where those with it can't be
+pub can_be_again : (es : List Event) (n : ℕ) (broken : Option ℕ) → is_change es n ≡ true → final_number es < n → is_kept es n ≡ false → is_full es ≡ false → redo_refusal es n broken ≡ option_map Blocked broken
+can_be_again es n broken change above out room =
+    let not_final : nat_le n (final_number es) ≡ false = grind (arith, nat_tests) in
+    let in_force : is_in_force es n ≡ false = not_in_force (is_in_force es n) (nat_lt (final_number es) n) (lt-ltb (final_number es) n above) out in
     rw (change, not_final, in_force, room) refl
 
 -- what an emptying that isn't refused knows
@@ -61,7 +74,7 @@ can_empty es n none = split (is_change es n) refl (nat_le n (final_number es)) r
   split true k true fe = cc (rw (k, fe) at none)
   split true k false fe = record { change = k; above = above_final_lt (final_number es) n fe }
 
-full_below : (es : List Event) → length es < MAX_EVENTS → is_full es ≡ false
+pub full_below : (es : List Event) → length es < MAX_EVENTS → is_full es ≡ false
 full_below es room = grind (arith, nat_tests)
 
 -- the reply to an undo of a change in force, where there is room, depends on the others alone

@@ -1,22 +1,26 @@
--- Which changes a plain book makes, and what it keeps true.
-use Rattle.std.specs.Prelude.{◌≡◌, ℕ, ◌==◌, nat_le, Bool, not, ◌&&◌, ◌||◌, List, None}
+-- Which changes a plain book makes, what they make, and what it keeps true.
+use Rattle.std.specs.Prelude.{◌≡◌, ℕ, ◌==◌, Bool, not, ◌&&◌, ◌||◌, List, None}
 use Rattle.keep_repo.specs.Repository.{Repository}
-use Rattle.keep_change.specs.Fold.{first_break}
-use Rattle.keep_journal.specs.History.{IsNumbered, is_in_force, final_number}
-use Rattle.keep_journal.specs.Kept.{chosen, is_kept, kept, opening_of}
+use Rattle.keep_change.specs.Fold.{first_break, fold_of}
+use Rattle.keep_journal.specs.History.{IsNumbered, is_in_force}
+use Rattle.keep_journal.specs.Kept.{chosen}
 use Rattle.keep_journal.specs.declared.event.Event.{Event}
-use Rattle.keep_book.specs.declared.plain.Choice.{Choice}
-use Rattle.keep_book.specs.declared.plain.Choice.TheVariants.{Final, Kept, Without, With}
+use Rattle.keep_book.specs.Ledger.{AreWellFormed}
+use Rattle.keep_book.specs.declared.choice.Choice.{Choice}
+use Rattle.keep_book.specs.declared.choice.Choice.TheVariants.{InForce, Without, With}
 
 -- whether the choice takes change m
 abbrev pub chooses : List Event → Choice → ℕ → Bool
-chooses es Final m = is_in_force es m && nat_le m (final_number es)
-chooses es Kept m = is_kept es m
-chooses es (Without n) m = is_kept es m && not (m == n)
-chooses es (With n) m = is_kept es m || m == n
+chooses es InForce m = is_in_force es m
+chooses es (Without n) m = is_in_force es m && not (m == n)
+chooses es (With n) m = is_in_force es m || m == n
 
--- the events are numbered, and the state is defined: the final changes in force can be made of the first repository, and the others of the opening
+-- what the chosen changes among these make, in order, of the first repository
+abbrev pub made_of : List Event → Choice → List Event → Repository → Repository
+made_of es choice among first = fold_of (chosen (chooses es choice) among) first
+
+-- the events are numbered, the changes are well formed, and all that are in force, final or not, can be made of the first repository
 pub record IsDefined (first : Repository) (es : List Event) : Type 0 where
   pub numbered : IsNumbered es
-  pub opened : first_break (chosen (chooses es Final) es) first ≡ None
-  pub unbroken : first_break (kept es) (opening_of es first) ≡ None
+  pub formed : AreWellFormed es
+  pub unbroken : first_break (chosen (is_in_force es) es) first ≡ None

@@ -1,5 +1,4 @@
 ghost use Rattle.std.specs.Prelude.{◌≡◌, ◌<◌, ◌==◌, nat_le, true, not, ◌&&◌, [], ◌∷◌, length, OnOk};
-ghost use Rattle.keep_repo.specs.Repository.{held};
 ghost use Rattle.keep_change.specs.Change.{is_met};
 ghost use Rattle.keep_change.specs.Form.{IsWellFormed, least_unmet};
 ghost use Rattle.keep_change.specs.Touch.{facets};
@@ -11,17 +10,21 @@ ghost use Rattle.keep_book.specs.Reply.{first_of, is_full, is_full_for, commit_r
 use crate::later::{blocked_by, leaned_on};
 use crate::limits::{MAX_CHANGES, MAX_EVENTS, MAX_FACETS};
 use crate::refusal::Refusal;
-use keep_change::{Change, Planned};
+use keep_change::{Change, Holder, Planned};
 use keep_journal::{History, Status};
 use keep_repo::Repo;
 
 /// Why the book refuses the commit, memory aside.
-pub(crate) fn check_commit(history: &History, live: &Repo, planned: &Planned) -> Result<(), Refusal>
+pub(crate) fn check_commit<H: Holder>(
+    history: &History,
+    holder: &H,
+    planned: &Planned,
+) -> Result<(), Refusal>
     ensures malformed { ¬ IsWellFormed planned.now.change → result ≡ Err Refusal.Malformed }
     ensures formed { IsWellFormed planned.now.change →
-        Passes (commit_refusal history.now.events planned.now (least_unmet (held live.now) planned.now.change)) result }
+        Passes (commit_refusal history.now.events planned.now (least_unmet (H.holding holder.now) planned.now.change)) result }
     ensures well_formed { OnOk result (IsWellFormed planned.now.change) }
-    ensures met { OnOk result (is_met (held live.now) planned.now.change ≡ true) }
+    ensures met { OnOk result (is_met (H.holding holder.now) planned.now.change ≡ true) }
     ensures room { OnOk result (change_count history.now.events < MAX_CHANGES) }
 {
     let change = &planned.change;
@@ -30,7 +33,7 @@ pub(crate) fn check_commit(history: &History, live: &Repo, planned: &Planned) ->
     }
     check_room_for(history, change)?;
     check_seen(history, planned)?;
-    match change.meets(live) {
+    match change.meets(holder) {
         Ok(()) => Ok(()),
         Err(facet) => Err(Refusal::Unmet(facet)),
     }

@@ -3,9 +3,11 @@
 
 mod book;
 mod checks;
+mod choice;
 mod later;
 mod laws;
 mod limits;
+mod made;
 mod opening;
 mod place;
 mod plain;

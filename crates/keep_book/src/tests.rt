@@ -1,7 +1,7 @@
 use crate::{Book, Refusal, Request, Told};
 use keep_change::{Change, Listed, PackMark, Planned, StoredFile};
 use keep_names::{FileName, Id, Kind, id_of};
-use keep_repo::{Bytes, Mark, Repo};
+use keep_repo::{Bytes, Facet, Mark, Repo};
 use std::alloc::{AllocError, Global};
 use std::collections::VecDeque;
 use std::test::Fail;
@@ -139,5 +139,36 @@ fn requests_are_served_in_order(rt: HostRuntime) -> Result<(), Fail> {
         assert_eq!(rt; answer.as_str(), *want);
     }
     assert!(rt; book.ask(Request::Redo(1)).is_err());
+    Ok(())
+}
+
+#[test]
+fn each_refusal_has_its_word_and_its_number(rt: HostRuntime) -> Result<(), Fail> {
+    let alloc = rt.alloc();
+    let name = FileName {
+        kind: Kind::Index,
+        id: id_of(b"a"),
+    };
+    let file = "Unmet index ca978112ca1bbdcafac231b39a23dc4da786eff8147c4e72b9807785afee48bb";
+    let mark = "Unmet mark 0101010101010101010101010101010101010101010101010101010101010101";
+    let table = [
+        (Refusal::Malformed, "Malformed", Some(12)),
+        (Refusal::Unknown, "Unknown", Some(24)),
+        (Refusal::Final, "Final", Some(25)),
+        (Refusal::NotInForce, "NotInForce", Some(26)),
+        (Refusal::InForce, "InForce", Some(26)),
+        (Refusal::Full, "Full", Some(27)),
+        (Refusal::Stale(5), "Stale 5", Some(28)),
+        (Refusal::Unmet(Facet::File(name)), file, Some(30)),
+        (Refusal::Unmet(Facet::Mark(A)), mark, Some(30)),
+        (Refusal::LeanedOn(7), "LeanedOn 7", Some(31)),
+        (Refusal::Blocked(9), "Blocked 9", Some(32)),
+        (Refusal::Memory, "Memory", None),
+    ];
+    for (refusal, word, number) in &table {
+        let printed = format!(in alloc; "{refusal}")?;
+        assert_eq!(rt; printed.as_str(), *word);
+        assert_eq!(rt; refusal.number(), *number);
+    }
     Ok(())
 }

@@ -103,30 +103,62 @@ fn is_same_reply(
     }
 }
 
-/// 300 requests, and then the emptying of each number in turn, from 0 to well above the last change.
+/// Whether both books replied the same, and have the same repository now.
+fn agree(
+    alloc: Global,
+    book: &Book,
+    plain: &PlainBook,
+    reply: &Result<Told, Refusal>,
+    plain_reply: &Result<Told, Refusal>,
+) -> Result<bool, AllocError> {
+    let same_reply = is_same_reply(alloc, reply, plain_reply)?;
+    let repo = plain.repo()?;
+    Ok(same_reply && book.live().same_as(&repo))
+}
+
+/// Whether both say and do the same at the redo, the undo and the redo of each number, from 0 to
+/// well above the last change.
+fn agree_on_each_change(
+    alloc: Global,
+    book: &mut Book,
+    plain: &mut PlainBook,
+) -> Result<bool, AllocError> {
+    let mut same = true;
+    for n in 0..100 {
+        let (reply, plain_reply) = (book.redo(n), plain.redo(n));
+        same &= agree(alloc, book, plain, &reply, &plain_reply)?;
+        let (reply, plain_reply) = (book.undo(n), plain.undo(n));
+        same &= agree(alloc, book, plain, &reply, &plain_reply)?;
+        let (reply, plain_reply) = (book.redo(n), plain.redo(n));
+        same &= agree(alloc, book, plain, &reply, &plain_reply)?;
+    }
+    Ok(same)
+}
+
+/// 300 requests. After each hundred the redo, the undo and the redo of each number, and at last the
+/// emptying of each.
 #[test]
 fn both_books_reply_the_same(rt: HostRuntime) -> Result<(), Fail> {
     let alloc = rt.alloc();
     let mut book = Book::new(alloc, Repo::new(alloc))?;
     let mut plain = PlainBook::new(alloc, Repo::new(alloc));
     let mut seed = 2026;
-    for _ in 0..300 {
+    for asked in 1..=300 {
         seed = next_seed(seed);
         let count = book.history().change_count();
         let length = book.history().length();
         let reply = book.ask(some_request(alloc, seed, count, length)?);
         let plain_reply = plain.ask(some_request(alloc, seed, count, length)?);
-        assert!(rt; is_same_reply(alloc, &reply, &plain_reply)?);
-        let repo = plain.repo()?;
-        assert!(rt; book.live().same_as(&repo));
+        assert!(rt; agree(alloc, &book, &plain, &reply, &plain_reply)?);
+        if asked % 100 == 0 {
+            assert!(rt; agree_on_each_change(alloc, &mut book, &mut plain)?);
+        }
     }
     let count = book.history().change_count();
     assert!(rt; count > 20 && count < 99);
     for n in 0..100 {
         let (reply, plain_reply) = (book.empty(n), plain.empty(n));
-        assert!(rt; is_same_reply(alloc, &reply, &plain_reply)?);
-        let repo = plain.repo()?;
-        assert!(rt; book.live().same_as(&repo));
+        assert!(rt; agree(alloc, &book, &plain, &reply, &plain_reply)?);
     }
     assert!(rt; book.history().final_number() == count);
     Ok(())

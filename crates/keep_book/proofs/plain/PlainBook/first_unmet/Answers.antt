@@ -1,13 +1,22 @@
--- The opening is that of the book's own events.
-use Rattle.std.proofs.Common.{◌≡◌, sym, ap, ◌∙◌, subst}
-use Rattle.keep_change.specs.Fold.{first_break}
-use Rattle.keep_journal.specs.Kept.{chosen, opening_of}
+-- The changes so far are met, and the next one is met or is the first that isn't.
+use Rattle.std.proofs.Common.{sym}
 use Rattle.keep_book.specs.Choosing.{chooses}
-use Rattle.keep_book.specs.Ledger.{Ledger}
+use Rattle.keep_book.proofs.Making.{broken_at, formed_so_far, unbroken_upto}
 use Rattle.keep_book.proofs.plain.PlainBook.first_unmet.Goals as goal
 
-pub returns : goal.returns
-returns c =
-    let opened = subst (λ (b : Ledger). c.in_ok-repo.repo ≡ opening_of b.events b.first) (sym c.self.view_is) c.in_ok-repo.ensures in
-    rw (← c.self.view_is) (c.in_ok-broken.ensures.broken
-    ∙ ap (first_break (chosen (chooses c.self.inside.history.events c.args.choice) c.self.inside.history.events)) opened)
+pub invariant_of-made : goal.invariant_of-made
+invariant_of-made c = record { formed = rw c.events-events.ensures.exact (formed_so_far c.self.inside.history.events c.loop-index.index c.self.invariant.formed) }
+
+pub returns-in-Some : goal.returns-in-Some
+returns-in-Some c =
+    let events = c.self.inside.history.events in
+    rw (← c.self.view_is) (sym (broken_at (chooses events c.args.choice) events c.loop-index.index c.index-events-index.result c.self.inside.first c.in-Some.unmet
+    (rw c.events-events.ensures.exact at c.loop-index-test.true) (rw c.events-events.ensures.exact at c.index-events-index.is)
+    c.loop-index.invariant (rw c.events-events.ensures.exact at (sym c.in-Some.ensures))))
+
+pub loop-index-preserved : goal.loop-index-preserved
+loop-index-preserved c =
+    let events = c.self.inside.history.events in
+    unbroken_upto (chooses events c.args.choice) events c.loop-index.index c.index-events-index.result c.self.inside.first
+    (rw c.events-events.ensures.exact at c.loop-index-test.true) (rw c.events-events.ensures.exact at c.index-events-index.is)
+    c.loop-index.invariant (rw c.events-events.ensures.exact at (sym c.in_default.ensures))

@@ -1,17 +1,8 @@
--- What the check found leaves the state defined.
-use Rattle.std.proofs.Common.{◌≡◌, None, sym, subst}
-use Rattle.keep_change.specs.Fold.{first_break}
-use Rattle.keep_journal.specs.Kept.{others, opening_of}
-use Rattle.keep_book.specs.Ledger.{Ledger}
-use Rattle.keep_book.specs.Reply.{undo_refusal}
-use Rattle.keep_book.proofs.Folding.{accepted_or, defined-Undo}
-use Rattle.keep_book.proofs.Undoing.{can_undo}
+-- The reply depends on the others alone.
+use Rattle.keep_book.proofs.Replying.{taken_back, left_by_undo}
 use Rattle.keep_book.proofs.plain.PlainBook.undo.Goals as goal
 
-pub invariant_of-self-2 : goal.invariant_of-self-2
-invariant_of-self-2 c =
-    let none = subst (λ (b : Ledger). undo_refusal b.events c.args.n (first_break (others b.events c.args.n) (opening_of b.events b.first)) ≡ None)
-    (sym c.self.view_is) (accepted_or _ c.in_ok-check_undo.ensures) in
-    let can = can_undo c.self.inside.history.events c.args.n _ none in
-    rw (c.record.ensures.events, c.in_ok-reserve.ensures.same)
-    (defined-Undo c.self.inside.history.events c.self.inside.first c.args.n c.self.invariant can.change can.above can.unbroken)
+pub returns-clause-exact : goal.returns-clause-exact
+returns-clause-exact c in_it room =
+    taken_back c.args.self.now c.args.n c.take_back.result _ in_it room c.take_back.ensures.reply
+    (left_by_undo c.args.self.now c.args.n c.take_back.result c.take_back.new.self in_it c.take_back.ensures.after)

@@ -2,7 +2,7 @@
 use Rattle.std.proofs.Common.{◌≡◌, drop, false}
 use Rattle.std.specs.Prelude.{fold}
 use Rattle.keep_journal.specs.History.{in_force_after}
-use Rattle.keep_book.proofs.plain.is_in_force.Given as goal
+use Rattle.keep_book.proofs.choice.is_in_force.Given as goal
 
 abbrev pub invariant-loop-event : goal.invariant-loop-event
 invariant-loop-event l =
