@@ -3,7 +3,7 @@ use Rattle.std.proofs.Common.{◌≡◌, ℕ, Bool, true, false, cond, List, [],
 use Rattle.std.specs.BTreeMap.{is_at}
 use Rattle.std.specs.Cmp.{IsTotalOrder}
 use Rattle.std.specs.FinMap.{FinMap, IsAntisymmetric, empty, get, get-empty, get-insert, insert}
-use Rattle.std.specs.List.{list_all}
+use Rattle.std.specs.List.{cons_option, list_all}
 use Rattle.std.specs.Map.{lookup}
 use Rattle.std.specs.Option.{option_map, option_map_or}
 use Rattle.std.proofs.lemmas.Bool.{and_from}
@@ -20,9 +20,7 @@ use Rattle.keep_repo.specs.declared.mark.Mark as the_mark
 use Rattle.keep_repo.proofs.Held.{is_filled-File, is_filled-Mark}
 use Rattle.keep_repo.proofs.Maps.{get_made}
 use Rattle.keep_change.specs.Change.{added, set, is_as_written, holds_same}
-use Rattle.keep_change.specs.declared.change.PackMark.{PackMark}
-use Rattle.keep_change.specs.declared.change.StoredFile.{StoredFile}
-use Rattle.keep_change.specs.Outcome.{files_left, marks_left, laid, lacking, lacking_files, lacking_marks}
+use Rattle.keep_change.specs.Outcome.{files_left, marks_left, laid, lacking_files, lacking_marks}
 use Rattle.keep_change.specs.Result.{put_files, put_marks}
 use Rattle.keep_change.proofs.Settled.{AreThere}
 
@@ -97,31 +95,31 @@ module _ {K V : Type 0} {R : K → K → Ordering} (total : IsTotalOrder R) (exa
 
 -- ---- the files and marks that a repository lacks
 
-all_files_put : (t : FileName → Bool) (es : List (FileName × Option (List ℕ))) (m : FinMap name_cmp (List ℕ))
-    → put_files (lacking t (λ name bytes. record { name = name; bytes = bytes }) es) m ≡ put_lacking t es m
+all_files_put : (r : Repository) (es : List (FileName × Option (List ℕ))) (m : FinMap name_cmp (List ℕ))
+    → put_files (lacking_files r es) m ≡ put_lacking (λ name. is_filled r (File name)) es m
 unfolding put_lacking
-all_files_put t [] m = refl
-all_files_put t ((k, None) ∷ es) m = all_files_put t es m
-all_files_put t ((k, Some v) ∷ es) m = split (t k) (all_files_put t es m) (all_files_put t es (insert m k v)) where
-  rest : List StoredFile
-  rest = lacking t (λ name bytes. record { name = name; bytes = bytes }) es
+all_files_put r [] m = refl
+all_files_put r ((k, None) ∷ es) m = all_files_put r es m
+all_files_put r ((k, Some v) ∷ es) m = split (is_filled r (File k)) (all_files_put r es m) (all_files_put r es (insert m k v)) where
+  t : FileName → Bool
+  t name = is_filled r (File name)
 
-  split : (b : Bool) → put_files rest m ≡ put_lacking t es m → put_files rest (insert m k v) ≡ put_lacking t es (insert m k v)
-      → put_files (cond b rest (record { name = k; bytes = v } ∷ rest)) m ≡ cond b (put_lacking t es m) (put_lacking t es (insert m k v))
+  split : (b : Bool) → put_files (lacking_files r es) m ≡ put_lacking t es m → put_files (lacking_files r es) (insert m k v) ≡ put_lacking t es (insert m k v)
+      → put_files (cons_option (cond b None (Some (record { name = k; bytes = v }))) (lacking_files r es)) m ≡ cond b (put_lacking t es m) (put_lacking t es (insert m k v))
   split true same more = same
   split false same more = more
 
-all_marks_put : (t : Id → Bool) (es : List (Id × Option the_mark.Mark)) (m : FinMap id_cmp the_mark.Mark)
-    → put_marks (lacking t (λ pack mark. record { pack = pack; mark = mark }) es) m ≡ put_lacking t es m
+all_marks_put : (r : Repository) (ms : List (Id × Option the_mark.Mark)) (m : FinMap id_cmp the_mark.Mark)
+    → put_marks (lacking_marks r ms) m ≡ put_lacking (λ pack. is_filled r (Mark pack)) ms m
 unfolding put_lacking
-all_marks_put t [] m = refl
-all_marks_put t ((k, None) ∷ es) m = all_marks_put t es m
-all_marks_put t ((k, Some v) ∷ es) m = split (t k) (all_marks_put t es m) (all_marks_put t es (insert m k v)) where
-  rest : List PackMark
-  rest = lacking t (λ pack mark. record { pack = pack; mark = mark }) es
+all_marks_put r [] m = refl
+all_marks_put r ((k, None) ∷ es) m = all_marks_put r es m
+all_marks_put r ((k, Some v) ∷ es) m = split (is_filled r (Mark k)) (all_marks_put r es m) (all_marks_put r es (insert m k v)) where
+  t : Id → Bool
+  t pack = is_filled r (Mark pack)
 
-  split : (b : Bool) → put_marks rest m ≡ put_lacking t es m → put_marks rest (insert m k v) ≡ put_lacking t es (insert m k v)
-      → put_marks (cond b rest (record { pack = k; mark = v } ∷ rest)) m ≡ cond b (put_lacking t es m) (put_lacking t es (insert m k v))
+  split : (b : Bool) → put_marks (lacking_marks r es) m ≡ put_lacking t es m → put_marks (lacking_marks r es) (insert m k v) ≡ put_lacking t es (insert m k v)
+      → put_marks (cons_option (cond b None (Some (record { pack = k; mark = v }))) (lacking_marks r es)) m ≡ cond b (put_lacking t es m) (put_lacking t es (insert m k v))
   split true same more = same
   split false same more = more
 
@@ -131,7 +129,7 @@ files_lack r [] = refl
 files_lack r ((k, None) ∷ es) = files_lack r es
 files_lack r ((k, Some v) ∷ es) = split (held r (File k)) refl (files_lack r es) where
   split : (o : Option Content) → held r (File k) ≡ o → list_all (is_as_written (held r)) (map added (lacking_files r es)) ≡ true
-      → list_all (is_as_written (held r)) (map added (cond (is_some o) (lacking_files r es) (record { name = k; bytes = v } ∷ lacking_files r es))) ≡ true
+      → list_all (is_as_written (held r)) (map added (cons_option (cond (is_some o) None (Some (record { name = k; bytes = v }))) (lacking_files r es))) ≡ true
   split None is rest = and_from _ _ (ap (λ o. holds_same o None) is) rest
   split (Some x) is rest = rest
 
@@ -140,7 +138,7 @@ marks_lack r [] = refl
 marks_lack r ((k, None) ∷ es) = marks_lack r es
 marks_lack r ((k, Some v) ∷ es) = split (held r (Mark k)) refl (marks_lack r es) where
   split : (o : Option Content) → held r (Mark k) ≡ o → list_all (is_as_written (held r)) (map set (lacking_marks r es)) ≡ true
-      → list_all (is_as_written (held r)) (map set (cond (is_some o) (lacking_marks r es) (record { pack = k; mark = v } ∷ lacking_marks r es))) ≡ true
+      → list_all (is_as_written (held r)) (map set (cons_option (cond (is_some o) None (Some (record { pack = k; mark = v }))) (lacking_marks r es))) ≡ true
   split None is rest = and_from _ _ (ap (λ o. holds_same o None) is) rest
   split (Some x) is rest = rest
 
@@ -151,12 +149,12 @@ filled_up r es ms = record { files = put_files (lacking_files r es) r.files; mar
 -- all that is to be filled is there then
 pub files_there : (r : Repository) (es : List (FileName × Option (List ℕ))) → AreThere name_total name_exact (files_left es) (put_files (lacking_files r es) r.files)
 files_there r es = λ q v found.
-    ap (λ m. is_some (get m q)) (all_files_put (λ name. is_filled r (File name)) es r.files)
+    ap (λ m. is_some (get m q)) (all_files_put r es r.files)
     ∙ filled name_total name_exact (λ name. is_filled r (File name)) es r.files (λ p e. sym (is_filled-File r p) ∙ e) q v (sym (get_made name_total es q) ∙ found)
 
 pub marks_there : (r : Repository) (ms : List (Id × Option the_mark.Mark)) → AreThere id_total id_exact (marks_left ms) (put_marks (lacking_marks r ms) r.marks)
 marks_there r ms = λ q v found.
-    ap (λ m. is_some (get m q)) (all_marks_put (λ pack. is_filled r (Mark pack)) ms r.marks)
+    ap (λ m. is_some (get m q)) (all_marks_put r ms r.marks)
     ∙ filled id_total id_exact (λ pack. is_filled r (Mark pack)) ms r.marks (λ p e. sym (is_filled-Mark r p) ∙ e) q v (sym (get_made id_total ms q) ∙ found)
 
 -- the files are left so, and then the marks
@@ -167,14 +165,14 @@ laid_in_turn r es ms = λ i q. at q i where
   file_as_it_was : (q : FileName) (o : Option (Option (List ℕ))) → get (files_left es) q ≡ o
       → option_map_or (option_map Stored) o (held (filled_up r es ms) (File q)) ≡ option_map_or (option_map Stored) o (held r (File q))
   file_as_it_was q None none =
-      ap (option_map Stored) (ap (λ m. get m q) (all_files_put (λ name. is_filled r (File name)) es r.files)
+      ap (option_map Stored) (ap (λ m. get m q) (all_files_put r es r.files)
       ∙ untouched name_total name_exact (λ name. is_filled r (File name)) es r.files q (sym (get_made name_total es q) ∙ none))
   file_as_it_was q (Some after) is = refl
 
   mark_as_it_was : (q : Id) (o : Option (Option the_mark.Mark)) → get (marks_left ms) q ≡ o
       → option_map_or (option_map Marked) o (held (filled_up r es ms) (Mark q)) ≡ option_map_or (option_map Marked) o (held r (Mark q))
   mark_as_it_was q None none =
-      ap (option_map Marked) (ap (λ m. get m q) (all_marks_put (λ pack. is_filled r (Mark pack)) ms r.marks)
+      ap (option_map Marked) (ap (λ m. get m q) (all_marks_put r ms r.marks)
       ∙ untouched id_total id_exact (λ pack. is_filled r (Mark pack)) ms r.marks q (sym (get_made id_total ms q) ∙ none))
   mark_as_it_was q (Some after) is = refl
 

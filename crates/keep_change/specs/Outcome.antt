@@ -1,5 +1,6 @@
 -- What changes that are made one after another leave.
-use Rattle.std.specs.Prelude.{ℕ, Bool, List, [], ◌∷◌, Option, Some, None, if◌then◌else◌, refl}
+use Rattle.std.specs.Prelude.{ℕ, List, Option, Some, None, if◌then◌else◌, refl}
+use Rattle.std.specs.List.{filter_map}
 use Rattle.std.specs.Option.{option_map, option_map_or}
 use Rattle.std.specs.Coded.{Coded, code_by, coded_ℕ, coded_list, coded_option, coded×}
 use Rattle.std.specs.FinMap as map
@@ -35,19 +36,21 @@ files_left = map.from_entries
 abbrev pub marks_left : List (Id × Option the_mark.Mark) → map.FinMap id_cmp (Option the_mark.Mark)
 marks_left = map.from_entries
 
--- those that are to be filled and aren't
-abbrev pub lacking : {K V X : Type 0} → (K → Bool) → (K → V → X) → List (K × Option V) → List X
-lacking is_there make [] = []
-lacking is_there make ((k, None) ∷ es) = lacking is_there make es
-lacking is_there make ((k, Some v) ∷ es) = if is_there k then lacking is_there make es else make k v ∷ lacking is_there make es
+-- the file, where it is to be left and the repository hasn't got it
+abbrev pub lacking_file : Repository → FileName × Option (List ℕ) → Option StoredFile
+lacking_file r (name, None) = None
+lacking_file r (name, Some bytes) = if is_filled r (File name) then None else Some (record { name = name; bytes = bytes })
 
--- the files to be left that the repository hasn't
 abbrev pub lacking_files : Repository → List (FileName × Option (List ℕ)) → List StoredFile
-lacking_files r es = lacking (λ name. is_filled r (File name)) (λ name bytes. record { name = name; bytes = bytes }) es
+lacking_files r es = filter_map (lacking_file r) es
 
--- the marks to be left that the repository hasn't
+-- the mark, where it is to be left and the repository hasn't got it
+abbrev pub lacking_mark : Repository → Id × Option the_mark.Mark → Option PackMark
+lacking_mark r (pack, None) = None
+lacking_mark r (pack, Some mark) = if is_filled r (Mark pack) then None else Some (record { pack = pack; mark = mark })
+
 abbrev pub lacking_marks : Repository → List (Id × Option the_mark.Mark) → List PackMark
-lacking_marks r es = lacking (λ pack. is_filled r (Mark pack)) (λ pack mark. record { pack = pack; mark = mark }) es
+lacking_marks r es = filter_map (lacking_mark r) es
 
 -- what is left is two maps
 abbrev pub coded_left : Coded Left
