@@ -2,6 +2,7 @@
 #![tactic(auto)]
 
 ghost use Rattle.std.specs.Prelude.{◌≡◌};
+ghost use Rattle.std.specs.Io.KnownBytes.{IsAtEnd};
 ghost use Rattle.keep_main.specs.Code.{code_of};
 
 use keep_script::{Status, run};
@@ -25,7 +26,9 @@ fn exit_code(status: Status) -> u8
 }
 
 /// Runs the script, and writes out what the writer keeps back.
-fn answer<R: io::Read, W: Write>(alloc: Global, reader: &mut R, writer: &mut W) -> Status {
+fn answer<R: io::Read, W: Write>(alloc: Global, reader: &mut R, writer: &mut W) -> Status
+    ensures { result ≡ Status.Done → IsAtEnd (R.remaining reader.new) }
+{
     let status = run(alloc, reader, writer);
     match writer.flush() {
         Ok(()) => status,

@@ -43,7 +43,8 @@ pub fn parse_id(text: &str) -> Result<Id, BadId>
     }
 }
 
-fn is_lower_hex(text: &str) -> bool
+/// Whether all of the text is lower case hex digits. The empty text is.
+pub fn is_lower_hex(text: &str) -> bool
     ensures { IsTrue result ↔ AllPass spec.is_lower_hex_digit text.now }
 {
     text.bytes().all(is_lower_hex_digit)

@@ -9,4 +9,4 @@ mod tests;
 
 pub use blob::{BlobId, BlobType};
 pub use file_name::{FileName, Kind, path_of};
-pub use id::{BadId, Id, id_of, parse_id, print_id, text_names_id};
+pub use id::{BadId, Id, id_of, is_lower_hex, parse_id, print_id, text_names_id};

@@ -1,3 +1,5 @@
+ghost use Rattle.std.specs.Prelude.{◌≡◌, length};
+
 use keep_book::{Refusal, Told};
 use keep_change::{Change, What};
 use keep_journal::Event;
@@ -15,7 +17,14 @@ pub(crate) struct Sizes {
 }
 
 impl Sizes {
-    pub fn of(change: &Change) -> Sizes {
+    pub fn of(change: &Change) -> Sizes
+        ensures { result ≡ record {
+          adds = length change.now.adds;
+          drops = length change.now.drops;
+          sets = length change.now.sets;
+          clears = length change.now.clears;
+        } }
+    {
         Sizes {
             adds: change.adds.as_slice().len(),
             drops: change.drops.as_slice().len(),

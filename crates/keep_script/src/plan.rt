@@ -1,3 +1,6 @@
+ghost use Rattle.std.specs.Prelude.{◌≡◌, [], ◌∷◌, IfOk};
+ghost use Rattle.keep_script.specs.Plan.{added_file, added_in, bytes_in, dropped_file, first_of};
+
 use keep_change::{Change, Listed, StoredFile};
 use keep_journal::History;
 use keep_names::{FileName, Kind, id_of};
@@ -5,7 +8,9 @@ use keep_repo::{Bytes, Repo};
 use std::alloc::{AllocError, Global};
 
 /// The change that adds one file of these bytes, under their SHA-256.
-pub(crate) fn plan_add(alloc: Global, kind: Kind, bytes: Vec<u8>) -> Result<Change, AllocError> {
+pub(crate) fn plan_add(alloc: Global, kind: Kind, bytes: Vec<u8>) -> Result<Change, AllocError>
+    ensures { IfOk result (λ change. change ≡ added_file kind bytes.items) }
+{
     let id = id_of(bytes.as_slice());
     let name = FileName { kind, id };
     let bytes = Bytes::new(alloc, bytes)?;
@@ -16,24 +21,48 @@ pub(crate) fn plan_add(alloc: Global, kind: Kind, bytes: Vec<u8>) -> Result<Chan
 
 /// The change that drops the file as it is in this repository. Where it isn't there the change
 /// asks for one without bytes, so that it isn't met.
-pub(crate) fn plan_drop(alloc: Global, repo: &Repo, name: FileName) -> Result<Change, AllocError> {
-    let bytes = match repo.get(name) {
-        Some(held) => held.clone()?,
-        None => Bytes::new(alloc, Vec::new(alloc))?,
-    };
+pub(crate) fn plan_drop(alloc: Global, repo: &Repo, name: FileName) -> Result<Change, AllocError>
+    ensures { IfOk result (λ change. change ≡ dropped_file repo.now name) }
+{
+    let bytes = bytes_of(alloc, repo, name)?;
     let mut change = Change::new(alloc);
     change.drops = one_file(alloc, StoredFile { name, bytes })?;
     Ok(change)
 }
 
-/// The least file of this kind among those that change n added, final or not.
-pub(crate) fn added_by(history: &History, n: u64, kind: Kind) -> Option<FileName> {
-    let change = history.change(n)?;
-    let mut names = change.adds.as_slice().iter().map(|file| file.name);
-    names.find(|name| name.kind == kind)
+/// The file's bytes, none where it isn't there.
+fn bytes_of(alloc: Global, repo: &Repo, name: FileName) -> Result<Bytes, AllocError>
+    ensures { IfOk result (λ bytes. bytes ≡ bytes_in repo.now name) }
+{
+    match repo.get(name) {
+        Some(held) => held.clone(),
+        None => Bytes::new(alloc, Vec::new(alloc)),
+    }
 }
 
-fn one_file(alloc: Global, file: StoredFile) -> Result<Listed<StoredFile>, AllocError> {
+/// The least file of this kind among those that change n added, final or not. It is the first,
+/// since the adds of a committed change are in order.
+pub(crate) fn added_by(history: &History, n: u64, kind: Kind) -> Option<FileName>
+    ensures { result ≡ added_in history.now.events n kind }
+{
+    first_of(history.change(n)?.adds.as_slice(), kind)
+}
+
+/// The first of these files that has the kind.
+fn first_of(files: &[StoredFile], kind: Kind) -> Option<FileName>
+    ensures { result ≡ first_of kind files.now }
+{
+    for file in files {
+        if file.name.kind == kind {
+            return Some(file.name);
+        }
+    }
+    None
+}
+
+fn one_file(alloc: Global, file: StoredFile) -> Result<Listed<StoredFile>, AllocError>
+    ensures { IfOk result (λ files. files ≡ file ∷ []) }
+{
     let mut files = Vec::with_capacity(alloc, 1)?;
     files.push(file)?;
     Ok(Listed::from_vec(files))

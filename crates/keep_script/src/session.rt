@@ -1,4 +1,5 @@
-ghost use Rattle.std.specs.Prelude.{◌≡◌, codes};
+ghost use Rattle.std.specs.Prelude.{◌≡◌, IfOk, [], codes};
+ghost use Rattle.keep_repo.specs.Repository.{empty_repository};
 ghost use Rattle.keep_script.specs.Command.{command_text};
 ghost use Rattle.keep_script.specs.Known.{Grows};
 
@@ -27,7 +28,9 @@ pub(crate) struct Session {
 
 impl Session {
     /// A book over a repository without files, and no notes.
-    pub fn new(alloc: Global) -> Result<Session, AllocError> {
+    pub fn new(alloc: Global) -> Result<Session, AllocError>
+        ensures { IfOk result (λ session. session.book ≡ record { first = empty_repository; events = [] }) }
+    {
         let book = Book::new(alloc, Repo::new(alloc))?;
         Ok(Session {
             alloc,

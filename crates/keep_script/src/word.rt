@@ -4,12 +4,11 @@ ghost use Rattle.std.specs.List.{AllPass};
 ghost use Rattle.hex.specs.Hex.{IsBytes};
 ghost use Rattle.keep_names.specs.FileName.{kind_text};
 ghost use Rattle.keep_names.specs.declared.file_name.Kind.{Kind};
-ghost use Rattle.keep_names.specs.Id.{is_lower_hex_digit};
 ghost use Rattle.keep_script.specs.Word.{HasPlainFront, IsName, IsTarget, hex_text, is_name_byte, target_text};
 ghost use Rattle.keep_script.specs.declared.word.Target.{Target};
 
 use hex::FromHexError;
-use keep_names::{Id, Kind, parse_id};
+use keep_names::{Id, Kind, is_lower_hex, parse_id};
 use std::alloc::{AllocError, Global};
 
 /// Which file a line means: one by its name, or the one that a change added.
@@ -88,13 +87,6 @@ pub(crate) fn parse_hex(alloc: Global, word: &str) -> Result<Option<Vec<u8>>, Al
             _ => Ok(None),
         },
     }
-}
-
-fn is_lower_hex(word: &str) -> bool
-    ensures { IsTrue result ↔ AllPass is_lower_hex_digit word.now }
-{
-    word.bytes()
-        .all(|byte| matches!(byte, b'0'..=b'9' | b'a'..=b'f'))
 }
 
 /// A file by its 64 digits, or `@` and the number of the change that added it.
