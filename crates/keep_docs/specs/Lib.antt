@@ -1,0 +1,5 @@
+pub mod Config
+pub mod Doc
+pub mod Fields
+pub mod Lists
+pub mod Sound

@@ -1,0 +1,119 @@
+ghost use Rattle.std.specs.Prelude.{◌≡◌, ◌≤◌, false, IfOk, IsUtf8};
+ghost use Rattle.serde_json.specs.Data.{Data, depth};
+ghost use Rattle.serde_json.specs.Find as find;
+ghost use Rattle.serde_json.specs.Read.{max_depth};
+ghost use Rattle.serde_json.specs.View.{items_view, members_view, number_view, view};
+ghost use Rattle.serde_json.specs.Written.{compact_text};
+ghost use Rattle.serde_json.specs.Written as written;
+ghost use Rattle.keep_docs.specs.Doc.{Answers, doc_of};
+ghost use Rattle.keep_docs.specs.Sound.{AreSound, HasSound, IsSound, IsWhole};
+ghost use Rattle.keep_docs.specs.declared.doc.DocError.TheVariants.{Memory};
+
+use serde_json::{Map, Number, Value};
+use std::alloc::{AllocError, Global};
+use thiserror::Error;
+
+/// Why bytes weren't read as a document.
+#[derive(Clone, Copy, Debug, PartialEq, Eq, Error)]
+pub enum DocError {
+    /// The bytes aren't one JSON text in UTF-8, nest deeper than 127 levels, or have a number that no float
+    /// comes near.
+    #[error("NotJson")]
+    NotJson,
+    /// A number is no whole one, or fits neither an i64 nor a u64.
+    #[error("BadNumber")]
+    BadNumber,
+    /// Memory ran out.
+    #[error("Memory")]
+    Memory,
+}
+
+/// Reads a document (RFC 8259). Of equal keys in an object the last stays, and only numbers of what stays
+/// count.
+pub fn read_doc(alloc: Global, bytes: &[u8]) -> Result<Value, DocError>
+    ensures read { Answers Memory view (doc_of bytes.now) result }
+    ensures sound { IfOk result (λ value. IsSound (view value)) }
+{
+    let value = match Value::from_slice(alloc, bytes) {
+        Ok(value) => value,
+        Err(error) => {
+            if error.is_memory() {
+                return Err(DocError::Memory);
+            }
+            return Err(DocError::NotJson);
+        }
+    };
+    if has_float(&value) {
+        return Err(DocError::BadNumber);
+    }
+    Ok(value)
+}
+
+/// The text of a document: compact, the keys of each object in byte order, numbers in decimal.
+#[tactic(auto, using(crate::proofs::FieldLemmas::written_reads_back))]
+pub fn write_doc(alloc: Global, value: &Value) -> Result<Vec<u8>, AllocError>
+    ensures text { IfOk result (λ bytes. written.has_float (view value.now) ≡ false
+        → bytes.items ≡ compact_text (view value.now)) }
+    ensures utf8 { IfOk result (λ bytes. IsUtf8 bytes.items) }
+    ensures reads_back { IfOk result (λ bytes. written.has_float (view value.now) ≡ false
+        → depth (view value.now) ≤ max_depth → doc_of bytes.items ≡ Ok (view value.now)) }
+{
+    value.to_vec(alloc)
+}
+
+// Whether the number is neither a u64 nor an i64.
+fn is_float(number: Number) -> bool
+    ensures value { result ≡ find.is_float (number_view number) }
+    ensures sound { result ≡ false → IsWhole (number_view number) }
+{
+    match number.as_u64() {
+        Some(_) => false,
+        None => number.as_i64().is_none(),
+    }
+}
+
+// Whether a number of the value is neither a u64 nor an i64.
+#[cycle(has_float)]
+fn has_float(value: &Value) -> bool
+    ensures value { result ≡ written.has_float (view value.now) }
+    ensures sound { result ≡ false → IsSound (view value.now) }
+{
+    match value {
+        Value::Null | Value::Bool(_) | Value::String(_) => false,
+        Value::Number(number) => is_float(*number),
+        Value::Array(items) => items_have_float(items),
+        Value::Object(members) => members_have_float(members),
+    }
+}
+
+#[cycle(has_float)]
+fn items_have_float(items: &Vec<Value>) -> bool
+    ensures value { result ≡ written.items_have_float (items_view items.now.items) }
+    ensures sound { result ≡ false → AreSound (items_view items.now.items) }
+{
+    for item in items {
+        if has_float(item) {
+            return true;
+        }
+    }
+    false
+}
+
+#[cycle(has_float)]
+fn members_have_float(members: &Map<String, Value>) -> bool
+    ensures value { result ≡ written.members_have_float (members_view members.now.entries) }
+    ensures sound { result ≡ false → HasSound (members_view members.now.entries) }
+{
+    for (_, member) in members.iter() {
+        if has_float(member) {
+            return true;
+        }
+    }
+    false
+}
+
+/// Which values have a text that reads back as themselves: those whose texts are UTF-8, whose keys ascend and
+/// whose numbers are whole and fit, nested to at most 127 levels.
+pub fn sound_values_read_back()
+    ensures { (d : Data) → IsSound d → depth d ≤ max_depth → doc_of (compact_text d) ≡ Ok d }
+{}

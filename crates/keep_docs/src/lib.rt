@@ -1,0 +1,19 @@
+//! Documents of a repository: JSON texts read exactly and written in one spelling, and what their shapes are
+//! read with.
+#![tactic(auto)]
+
+mod config;
+mod doc;
+mod fields;
+mod lists;
+mod made;
+#[cfg(test)]
+mod tests;
+
+pub use config::{Config, ConfigError, read_config};
+pub use doc::{DocError, read_doc, sound_values_read_back, write_doc};
+pub use fields::{
+    id_at, list_at, list_or_null_at, optional_id_at, optional_str_at, str_at, u32_at, u64_at,
+};
+pub use lists::{ids, texts};
+pub use made::{id_value, ids_value, others, put, texts_value};
