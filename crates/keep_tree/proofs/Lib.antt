@@ -1,0 +1,6 @@
+pub mod Answered
+pub mod Carried
+pub mod Depth
+pub mod Distinct
+pub mod Inverse
+pub mod ReadBack

@@ -1,0 +1,4 @@
+pub mod Names
+pub mod Shape
+pub mod Tree
+pub mod Written

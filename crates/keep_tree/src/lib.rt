@@ -1,0 +1,14 @@
+//! Trees of a repository: what a folder holds, read exactly and written in one spelling.
+#![tactic(auto)]
+
+mod names;
+mod node;
+#[cfg(test)]
+mod tests;
+mod tree;
+mod written;
+
+pub use names::is_name;
+pub use node::{Node, NodeKind};
+pub use tree::{Tree, TreeError, read_tree};
+pub use written::{trees_read_back, write_tree};
