@@ -1,0 +1,3 @@
+pub mod ReadFits
+pub mod ReadNumbers
+pub mod RoundTrip

@@ -1,0 +1,14 @@
+//! Indexes: which blobs the packs of a repository hold, and where in them.
+#![tactic(auto)]
+
+mod index;
+mod index_error;
+mod reading;
+#[cfg(test)]
+mod tests;
+mod writing;
+
+pub use index::{Index, IndexedBlob, IndexedPack};
+pub use index_error::IndexError;
+pub use reading::read_index;
+pub use writing::{write_index, written_indexes_read_back};

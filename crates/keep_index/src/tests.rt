@@ -1,0 +1,147 @@
+use crate::{IndexError, IndexedBlob, read_index, write_index};
+use keep_docs::DocError;
+use keep_names::{BlobId, BlobType, id_of};
+use std::test::Fail;
+
+// The index of two packs. The first is that of the one data blob `hello`, the second is empty. The ids are
+// those of sha256sum.
+const TWO_PACKS: &str = "{\"packs\":[{\"blobs\":[\
+    {\"id\":\"2cf24dba5fb0a30e26e83b2ac5b9e29e1b161e5c1fa7425e73043362938b9824\",\
+    \"length\":5,\"offset\":0,\"type\":\"data\"}],\
+    \"id\":\"c0e2a68284db86dd99505b6953361370ceda0114114201c2aa19c31289f760b5\"},\
+    {\"blobs\":[],\"id\":\"df3f619804a92fdb4057192dc43dd748ea778adc52bc498ce80524c014b81119\"}]}";
+
+// The same index as another program may write it.
+const TWO_PACKS_BY_ANOTHER: &str = " {\"supersedes\": [\"x\"], \"packs\": [{\
+    \"id\": \"c0e2a68284db86dd99505b6953361370ceda0114114201c2aa19c31289f760b5\", \"size\": 46,\
+    \"blobs\": [{\"type\": \"data\", \"offset\": 0, \"length\": 5, \"uncompressed_length\": 9,\
+    \"id\": \"2cf24dba5fb0a30e26e83b2ac5b9e29e1b161e5c1fa7425e73043362938b9824\"}]},\
+    {\"id\": \"df3f619804a92fdb4057192dc43dd748ea778adc52bc498ce80524c014b81119\", \"blobs\": null}]} ";
+
+const PACK: &str = "\"id\":\"c0e2a68284db86dd99505b6953361370ceda0114114201c2aa19c31289f760b5\"";
+
+const HELLO: &str = "\"id\":\"2cf24dba5fb0a30e26e83b2ac5b9e29e1b161e5c1fa7425e73043362938b9824\"";
+
+#[test]
+fn the_empty_index_is_read_and_written(rt: HostRuntime) -> Result<(), Fail> {
+    let alloc = rt.alloc();
+    for text in ["{\"packs\":null,\"supersedes\":[]}", "{\"packs\":[]}", "{}"] {
+        let index = read_index(alloc, text.as_bytes())?;
+        assert!(rt; index.packs.is_empty(), "{text}");
+        assert_eq!(rt;
+            write_index(alloc, &index)?.as_slice(),
+            b"{\"packs\":[]}".as_slice(),
+            "{text}"
+        );
+    }
+    Ok(())
+}
+
+#[test]
+fn an_index_is_read_and_written(rt: HostRuntime) -> Result<(), Fail> {
+    let alloc = rt.alloc();
+    let index = read_index(alloc, TWO_PACKS_BY_ANOTHER.as_bytes())?;
+    assert_eq!(rt;
+        write_index(alloc, &index)?.as_slice(),
+        TWO_PACKS.as_bytes()
+    );
+    assert_eq!(rt; read_index(alloc, TWO_PACKS.as_bytes()), Ok(index));
+    Ok(())
+}
+
+#[test]
+fn a_tree_is_listed_with_its_place(rt: HostRuntime) -> Result<(), Fail> {
+    let alloc = rt.alloc();
+    let blob = BlobId {
+        id: id_of(b"hello"),
+        blob_type: BlobType::Tree,
+    };
+    for (offset, length) in [(1, u32::MAX), (u64::MAX, 2)] {
+        let text = format!(in alloc;
+            "{{\"packs\":[{{\"blobs\":[{{{HELLO},\"length\":{length},\"offset\":{offset},\
+            \"type\":\"tree\"}}],{PACK}}}]}}"
+        )?;
+        let index = read_index(alloc, text.as_bytes())?;
+        assert_eq!(rt; index.packs.len(), 1);
+        let entry = IndexedBlob {
+            blob,
+            offset,
+            length,
+        };
+        assert_eq!(rt; index.packs[0].blobs.as_slice(), [entry].as_slice());
+        assert_eq!(rt; write_index(alloc, &index)?.as_slice(), text.as_bytes());
+    }
+    Ok(())
+}
+
+#[test]
+fn what_is_no_document_is_refused(rt: HostRuntime) {
+    for (text, error) in [
+        ("{\"packs\":[}", DocError::NotJson),
+        ("{\"packs\":[],\"supersedes\":[1.5]}", DocError::BadNumber),
+        ("[1.5]", DocError::BadNumber),
+    ] {
+        let refused = Some(IndexError::Doc(error));
+        assert_eq!(rt;
+            read_index(rt.alloc(), text.as_bytes()).err(),
+            refused,
+            "{text}"
+        );
+    }
+}
+
+#[test]
+fn other_shapes_are_refused(rt: HostRuntime) {
+    for text in [
+        "null",
+        "[]",
+        "{\"packs\":{}}",
+        "{\"packs\":[null]}",
+        "{\"packs\":[{\"blobs\":[]}]}",
+    ] {
+        let refused = Some(IndexError::BadIndex);
+        assert_eq!(rt;
+            read_index(rt.alloc(), text.as_bytes()).err(),
+            refused,
+            "{text}"
+        );
+    }
+}
+
+#[test]
+fn other_blobs_are_refused(rt: HostRuntime) -> Result<(), Fail> {
+    let alloc = rt.alloc();
+    for members in [
+        "\"length\":4294967296,\"offset\":0,\"type\":\"data\"",
+        "\"length\":-1,\"offset\":0,\"type\":\"data\"",
+        "\"offset\":0,\"type\":\"data\"",
+        "\"length\":0,\"type\":\"data\"",
+        "\"length\":0,\"offset\":\"0\",\"type\":\"data\"",
+        "\"length\":0,\"offset\":0,\"type\":\"blob\"",
+        "\"length\":0,\"offset\":0",
+        "\"length\":0,\"offset\":0,\"type\":\"data\",\"id\":\"2cf2\"",
+    ] {
+        let text = format!(in alloc;
+            "{{\"packs\":[{{{PACK},\"blobs\":[{{{HELLO},{members}}}]}}]}}"
+        )?;
+        assert_eq!(rt;
+            read_index(alloc, text.as_bytes()).err(),
+            Some(IndexError::BadIndex),
+            "{text}"
+        );
+    }
+    Ok(())
+}
+
+#[test]
+fn refusals_print_their_names(rt: HostRuntime) -> Result<(), Fail> {
+    for (error, name) in [
+        (IndexError::Doc(DocError::NotJson), "NotJson"),
+        (IndexError::Doc(DocError::BadNumber), "BadNumber"),
+        (IndexError::BadIndex, "BadIndex"),
+        (IndexError::Doc(DocError::Memory), "Memory"),
+    ] {
+        assert_eq!(rt; format!(in rt.alloc(); "{error}")?.as_str(), name);
+    }
+    Ok(())
+}
