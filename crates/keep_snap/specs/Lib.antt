@@ -1,0 +1,4 @@
+pub mod Facts
+pub mod Snap
+pub mod Time
+pub mod Written

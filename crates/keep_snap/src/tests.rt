@@ -1,0 +1,242 @@
+use crate::{Month, Snap, SnapError, facts, parse_time, read_snap, write_snap};
+use keep_docs::DocError;
+use keep_names::parse_id;
+use std::test::Fail;
+
+// A snapshot with each field, and members of its own beside them.
+const WHOLE: &str = "{\"time\":\"2022-09-01T12:34:56.123456789+02:00\",\
+    \"parent\":\"2cf24dba5fb0a30e26e83b2ac5b9e29e1b161e5c1fa7425e73043362938b9824\",\
+    \"tree\":\"ca978112ca1bbdcafac231b39a23dc4da786eff8147c4e72b9807785afee48bb\",\
+    \"paths\":[\"/home\",\"/etc\"],\"hostname\":\"web\",\"username\":\"root\",\"uid\":1000,\"gid\":100,\
+    \"excludes\":[\"*.o\"],\"tags\":[\"b\",\"a\"],\
+    \"original\":\"2cf24dba5fb0a30e26e83b2ac5b9e29e1b161e5c1fa7425e73043362938b9824\",\
+    \"program_version\":\"restic 0.14.0\"}";
+
+const WHOLE_WRITTEN: &str = "{\"excludes\":[\"*.o\"],\"gid\":100,\"hostname\":\"web\",\
+    \"original\":\"2cf24dba5fb0a30e26e83b2ac5b9e29e1b161e5c1fa7425e73043362938b9824\",\
+    \"parent\":\"2cf24dba5fb0a30e26e83b2ac5b9e29e1b161e5c1fa7425e73043362938b9824\",\
+    \"paths\":[\"/home\",\"/etc\"],\"program_version\":\"restic 0.14.0\",\"tags\":[\"b\",\"a\"],\
+    \"time\":\"2022-09-01T12:34:56.123456789+02:00\",\
+    \"tree\":\"ca978112ca1bbdcafac231b39a23dc4da786eff8147c4e72b9807785afee48bb\",\"uid\":1000,\
+    \"username\":\"root\"}";
+
+const TREE: &str = "ca978112ca1bbdcafac231b39a23dc4da786eff8147c4e72b9807785afee48bb";
+
+#[test]
+fn times_are_instants_and_days(rt: HostRuntime) -> Result<(), Fail> {
+    for (text, instant, day, week) in [
+        ("1970-01-01T00:00:01+00:01", -59_000_000_000i128, 0, -3),
+        (
+            "2024-03-03T08:00:00Z",
+            1_709_452_800_000_000_000,
+            19785,
+            19779,
+        ),
+        (
+            "2022-09-01T12:34:56.123456789+02:00",
+            1_662_028_496_123_456_789,
+            19236,
+            19233,
+        ),
+        (
+            "2000-02-29T23:59:59-23:59",
+            951_955_139_000_000_000,
+            11016,
+            11015,
+        ),
+        (
+            "2024-02-29T00:00:00.5+23:59",
+            1_709_078_460_500_000_000,
+            19782,
+            19779,
+        ),
+        (
+            "0000-01-01T00:00:00-00:00",
+            -62_167_219_200_000_000_000,
+            -719528,
+            -719533,
+        ),
+        (
+            "9999-12-30T22:00:00.999999999Z",
+            253_402_207_200_999_999_999,
+            2932895,
+            2932892,
+        ),
+        (
+            "9999-12-31T21:59:00+23:59",
+            253_402_207_200_000_000_000,
+            2932896,
+            2932892,
+        ),
+    ] {
+        let time = parse_time(text).ok_or(text)?;
+        assert_eq!(rt; time.instant, instant, "{text}");
+        assert_eq!(rt; time.day, day, "{text}");
+        assert_eq!(rt; time.week, week, "{text}");
+    }
+    Ok(())
+}
+
+#[test]
+fn months_and_years_are_those_written(rt: HostRuntime) -> Result<(), Fail> {
+    let time = parse_time("2023-12-31T23:30:00-02:00").ok_or("a time")?;
+    assert_eq!(rt;
+        time.month,
+        Month {
+            year: 2023,
+            month: 12
+        }
+    );
+    assert_eq!(rt; time.year, 2023);
+    Ok(())
+}
+
+#[test]
+fn what_is_no_time_is_refused(rt: HostRuntime) {
+    for text in [
+        "",
+        "2024-02-30T00:00:00Z",
+        "1900-02-29T00:00:00Z",
+        "2023-02-29T00:00:00Z",
+        "2024-00-01T00:00:00Z",
+        "2024-13-01T00:00:00Z",
+        "2024-01-00T00:00:00Z",
+        "2024-04-31T00:00:00Z",
+        "2024-03-03T24:00:00Z",
+        "2024-03-03T08:60:00Z",
+        "2024-03-03T08:00:60Z",
+        "2024-03-03T08:00:00",
+        "2024-03-03T08:00:00z",
+        "2024-03-03t08:00:00Z",
+        "2024-03-03 08:00:00Z",
+        "2024-03-03T08:00:00.Z",
+        "2024-03-03T08:00:00,5Z",
+        "2024-03-03T08:00:00.1234567890Z",
+        "2024-03-03T08:00:00+24:00",
+        "2024-03-03T08:00:00+00:60",
+        "2024-03-03T08:00:00+0000",
+        "2024-03-03T08:00:00Z ",
+        "+024-03-03T08:00:00Z",
+        "2024-3-03T008:00:00Z",
+        "9999-12-30T22:00:01Z",
+        "9999-12-31T22:00:00+23:59",
+    ] {
+        assert_eq!(rt; parse_time(text), None, "{text}");
+    }
+}
+
+#[test]
+fn what_is_no_snapshot_is_refused(rt: HostRuntime) -> Result<(), Fail> {
+    let alloc = rt.alloc();
+    let (time, paths) = ("\"time\":\"2024-03-03T08:00:00Z\"", "\"paths\":[\"/\"]");
+    let bad_time = "\"time\":\"2024-02-30T00:00:00Z\"";
+    for (fields, refusal) in [
+        (format!(in alloc; "{paths}")?, SnapError::BadSnapshot),
+        (format!(in alloc; "{time}")?, SnapError::BadSnapshot),
+        (
+            format!(in alloc; "{time},\"paths\":null,\"dir\":\"/\"")?,
+            SnapError::BadSnapshot,
+        ),
+        (
+            format!(in alloc; "{time},\"paths\":[\"/\",1]")?,
+            SnapError::BadSnapshot,
+        ),
+        (
+            format!(in alloc; "{time},\"dir\":1")?,
+            SnapError::BadSnapshot,
+        ),
+        (
+            format!(in alloc; "{time},{paths},\"hostname\":null")?,
+            SnapError::BadSnapshot,
+        ),
+        (
+            format!(in alloc; "{time},{paths},\"username\":1")?,
+            SnapError::BadSnapshot,
+        ),
+        (
+            format!(in alloc; "{time},{paths},\"tags\":\"a\"")?,
+            SnapError::BadSnapshot,
+        ),
+        (
+            format!(in alloc; "{time},{paths},\"original\":null")?,
+            SnapError::BadSnapshot,
+        ),
+        (
+            format!(in alloc; "{bad_time},\"paths\":1")?,
+            SnapError::BadSnapshot,
+        ),
+        (format!(in alloc; "{bad_time},{paths}")?, SnapError::BadTime),
+        (
+            format!(in alloc; "{bad_time},{paths},\"x\":1.5")?,
+            SnapError::Doc(DocError::BadNumber),
+        ),
+        (
+            format!(in alloc; "{bad_time},{paths},")?,
+            SnapError::Doc(DocError::NotJson),
+        ),
+    ] {
+        let text = format!(in alloc; "{{\"tree\":\"{TREE}\",{fields}}}")?;
+        assert_eq!(rt;
+            read_snap(alloc, text.as_bytes()).err(),
+            Some(refusal),
+            "{fields}"
+        );
+    }
+    Ok(())
+}
+
+#[test]
+fn a_snapshot_is_written_back_without_loss(rt: HostRuntime) -> Result<(), Fail> {
+    let alloc = rt.alloc();
+    let snap = read_snap(alloc, WHOLE.as_bytes())?;
+    assert_eq!(rt;
+        write_snap(alloc, &snap)?.as_slice(),
+        WHOLE_WRITTEN.as_bytes()
+    );
+    Ok(())
+}
+
+#[test]
+fn a_dir_stands_for_the_paths(rt: HostRuntime) -> Result<(), Fail> {
+    let alloc = rt.alloc();
+    let rest = "\"time\":\"2015-01-08T21:40:19Z\",\"tree\":";
+    let text = format!(in alloc; "{{\"dir\":\"/tmp\",\"tags\":null,{rest}\"{TREE}\"}}")?;
+    let written = format!(in alloc; "{{\"dir\":\"/tmp\",\"paths\":[\"/tmp\"],{rest}\"{TREE}\"}}")?;
+    let snap = read_snap(alloc, text.as_bytes())?;
+    assert_eq!(rt; write_snap(alloc, &snap)?.as_slice(), written.as_bytes());
+    Ok(())
+}
+
+#[test]
+fn facts_are_told(rt: HostRuntime) -> Result<(), Fail> {
+    let alloc = rt.alloc();
+    let mut snap: Snap = read_snap(alloc, WHOLE.as_bytes())?;
+    snap.username = None;
+    let told = facts(alloc, &snap, parse_id(TREE)?)?;
+    assert_eq!(rt; told.name, parse_id(TREE)?);
+    assert_eq!(rt; told.instant, 1_662_028_496_123_456_789);
+    assert_eq!(rt; told.week, 19233);
+    assert_eq!(rt; told.host.as_str(), "web");
+    assert_eq!(rt; told.user.as_str(), "");
+    assert_eq!(rt; told.paths.len(), 2);
+    assert_eq!(rt; told.tags.len(), 2);
+    assert_eq!(rt; told.tree, snap.tree);
+    snap.time = String::from_str(alloc, "today")?;
+    assert_eq!(rt;
+        facts(alloc, &snap, told.name).err(),
+        Some(SnapError::BadTime)
+    );
+    Ok(())
+}
+
+#[test]
+fn refusals_print_their_words(rt: HostRuntime) -> Result<(), Fail> {
+    for (refusal, word) in [
+        (SnapError::Doc(DocError::NotJson), "NotJson"),
+        (SnapError::BadSnapshot, "BadSnapshot"),
+        (SnapError::BadTime, "BadTime"),
+    ] {
+        assert_eq!(rt; format!(in rt.alloc(); "{refusal}")?.as_str(), word);
+    }
+    Ok(())
+}
