@@ -1,0 +1,68 @@
+//! Reads its input as a document, or as a pack that it hashes too, and says how much there was. So the time
+//! that reading takes can be measured.
+#![tactic(auto)]
+
+mod document;
+mod input;
+mod pack;
+mod task;
+#[cfg(test)]
+mod tests;
+
+use crate::document::measure;
+use crate::input::read_all;
+use crate::pack::summarize;
+use crate::task::{Task, task_named};
+use anyhow::Result;
+use std::env;
+use std::process::ExitCode;
+
+/// The exit status of an input that can't be read.
+const REFUSED: u8 = 1;
+/// The exit status of a command line that isn't understood.
+const BAD_OPTIONS: u8 = 2;
+
+/// The task that the command line names, if it is one word that names one.
+fn task_asked(rt: &HostRuntime) -> Result<Option<Task>> {
+    let mut words = env::args(rt)?;
+    let _program = words.next();
+    let (Some(word), None) = (words.next(), words.next()) else {
+        return Ok(None);
+    };
+    Ok(task_named(&word))
+}
+
+/// Reads the input, and tells of it in a line.
+fn tell(rt: &HostRuntime, task: Task) -> Result<()> {
+    let alloc = rt.alloc();
+    let bytes = read_all(alloc, rt.stdin())?;
+    match task {
+        Task::Document => {
+            let count = measure(alloc, &bytes)?;
+            println!(rt; "read {count}")?;
+        }
+        Task::Pack => {
+            let summary = summarize(alloc, &bytes)?;
+            let count = bytes.len();
+            println!(rt;
+                "pack {} entries {} bytes {count}",
+                summary.id, summary.entries
+            )?;
+        }
+    }
+    Ok(())
+}
+
+fn main(rt: HostRuntime) -> ExitCode {
+    let Ok(Some(task)) = task_asked(&rt) else {
+        let _ = eprintln!(rt; "usage: keep_bench document|pack < INPUT");
+        return ExitCode::from(BAD_OPTIONS);
+    };
+    match tell(&rt, task) {
+        Ok(()) => ExitCode::SUCCESS,
+        Err(error) => {
+            let _ = eprintln!(rt; "keep_bench: {error}");
+            ExitCode::from(REFUSED)
+        }
+    }
+}
