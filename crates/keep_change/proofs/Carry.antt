@@ -1,8 +1,10 @@
 -- What changes make of whole repositories, by what their facets hold.
 use Rattle.std.proofs.Common.{◌≡◌, ℕ, ◌+◌, ◌≤◌, Bool, true, false, cond, ◌||◌, List, [], ◌∷◌, ◌++◌, map, Option, Some, None, if◌then◌else◌, count_by, All, refl, sym, ap, ap₂, ◌∙◌, arith}
-use Rattle.std.specs.List.{find, list_any, AllByRecursion}
+use Rattle.std.specs.List.{list_any, AllByRecursion}
 use Rattle.std.specs.Option.{option_map_or, option_or}
+use Rattle.std.proofs.lemmas.List.{map-append}
 use Rattle.std.proofs.lemmas.List.Elements.{recursion_from_All}
+use Rattle.std.proofs.lemmas.List.Folds.{find-append}
 use Rattle.std.proofs.lemmas.List.Sums.{sum_by-append, sum_by-cons}
 use Rattle.std.specs.FinMap as finite
 use Rattle.keep_repo.proofs.Held.{same_repository, held-insert_file, held-remove_file, held-insert_mark, held-remove_mark}
@@ -16,7 +18,7 @@ use Rattle.keep_change.specs.declared.change.StoredFile.{StoredFile}
 use Rattle.keep_change.specs.Change.{Holding, Written, added, dropped, set, cleared, reversed, written, asked, is_ready, is_met, record_of, replaced}
 use Rattle.keep_change.specs.Fold.{Numbered, fold_of, first_break}
 use Rattle.keep_change.specs.Form.{HasNoFacetTwice}
-use Rattle.keep_change.specs.Holdings.{one_written, each_written, fold_holding, break_holding}
+use Rattle.keep_change.proofs.Holdings.{one_written, each_written, fold_holding, break_holding}
 use Rattle.keep_change.specs.Result.{put_files, take_files, put_marks, take_marks, result_of, reverse_of}
 use Rattle.keep_change.specs.Touch.{written_facets}
 use Rattle.keep_change.proofs.Records.{WritesOnce, RecordAt, no_record, a_record, record_at, facets_of, once_head, once_tail, take_back}
@@ -87,10 +89,6 @@ held-each c r =
 abbrev pub times : Facet → List Written → ℕ
 times q ws = count_by (facet_eq q) (facets_of ws)
 
-map-append : {X Y : Type 0} (f : X → Y) (xs ys : List X) → map f (xs ++ ys) ≡ map f xs ++ map f ys
-map-append f [] ys = refl
-map-append f (x ∷ xs) ys = ap (λ zs. f x ∷ zs) (map-append f xs ys)
-
 times-append : (q : Facet) (ws vs : List Written) → times q (ws ++ vs) ≡ times q ws + times q vs
 times-append q ws vs =
     ap (count_by (facet_eq q)) (map-append (λ w. w.facet) ws vs)
@@ -116,14 +114,6 @@ pub writes_once : (c : Change) → HasNoFacetTwice c → WritesOnce (written c)
 writes_once c once q = omega (arith, once q, sum_by-append (λ x. cond (facet_eq q x) 1 0) (written_facets c) (map (λ a. a.facet) (asked c)))
 
 -- ---- the reverse of a change
-
-find-append : {X : Type 0} (p : X → Bool) (xs ys : List X) → find p (xs ++ ys) ≡ option_or (find p xs) (find p ys)
-find-append p [] ys = refl
-find-append p (x ∷ xs) ys =
-    elim (p x) as (λ b. cond b (Some x) (find p (xs ++ ys)) ≡ option_or (cond b (Some x) (find p xs)) (find p ys)) [
-      | true ↦ refl
-      | false ↦ find-append p xs ys
-    ]
 
 record_of-append : (ws vs : List Written) (q : Facet) → record_of (ws ++ vs) q ≡ option_or (record_of ws q) (record_of vs q)
 record_of-append ws vs q = find-append (λ w. facet_eq w.facet q) ws vs
@@ -203,12 +193,6 @@ times-reverse c q =
 
 pub reverse_writes_once : (c : Change) → WritesOnce (written c) → WritesOnce (written (reverse_of c))
 reverse_writes_once c once q = omega (arith, once q, times-reverse c q)
-
--- the reverse of a well formed change has no facet twice either
-pub reverse_has_no_facet_twice : (c : Change) → HasNoFacetTwice c → HasNoFacetTwice (reverse_of c)
-reverse_has_no_facet_twice c once q =
-    let looked_at = map (λ a. a.facet) (asked c) in
-    omega (arith, once q, times-reverse c q, sum_by-append (λ x. cond (facet_eq q x) 1 0) (written_facets c) looked_at, sum_by-append (λ x. cond (facet_eq q x) 1 0) (written_facets (reverse_of c)) looked_at)
 
 -- ---- whole repositories
 

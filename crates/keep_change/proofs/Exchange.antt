@@ -13,7 +13,7 @@ use Rattle.keep_names.proofs.Orders.{id_exact, id_total, name_exact, name_total}
 use Rattle.keep_names.specs.Orders.{id_cmp, name_cmp}
 use Rattle.keep_repo.specs.Facet.{Stored, Marked}
 use Rattle.keep_repo.specs.Repository.{Repository, held}
-use Rattle.keep_repo.specs.declared.mark.Mark as the_mark
+use Rattle.keep_repo.specs.declared.facet.Mark as the_mark
 use Rattle.keep_change.specs.Change.{added, set, holds_same, is_as_written}
 use Rattle.keep_change.specs.Result.{put_files, put_marks, take_files, take_marks}
 use Rattle.keep_change.specs.declared.change.PackMark.{PackMark}

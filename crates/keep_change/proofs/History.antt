@@ -8,7 +8,8 @@ use Rattle.keep_change.specs.declared.change.Change.{Change}
 use Rattle.keep_change.specs.Change.{Holding, Written, added, dropped, set, cleared, reversed, written, is_as_written, is_ready, is_met, replaced}
 use Rattle.keep_change.specs.Fold.{Numbered, fold_of, first_break, first_leaning}
 use Rattle.keep_change.specs.Form.{HasNoFacetTwice, IsWellFormed}
-use Rattle.keep_change.specs.Holdings.{fold_holding, break_holding, value_at}
+use Rattle.keep_change.specs.Holdings.{value_at}
+use Rattle.keep_change.proofs.Holdings.{fold_holding, break_holding}
 use Rattle.keep_change.specs.Law.{HaveNoFacetTwice, TakingBackRestores, UndoIsExact, RedoIsExact}
 use Rattle.keep_change.specs.Result.{result_of, reverse_of}
 use Rattle.keep_change.proofs.Carry.{AllWriteOnce, all_write_once, writes_once, held-result_of, held-reverse_of, held-fold_of, first_break-held, made_and_taken_back, reversed_written, same_held}

@@ -10,7 +10,7 @@ use Rattle.keep_change.specs.declared.change.Change.{Change}
 use Rattle.keep_change.specs.Change.{Holding, Written, Asked, added, dropped, set, cleared, reversed, written, asked, is_as_written, is_as_asked, is_ready, is_met, replaced, holds_same}
 use Rattle.keep_change.specs.Touch.{facets, written_facets, writes, leans_on}
 use Rattle.keep_change.specs.Fold.{Numbered, first_leaning}
-use Rattle.keep_change.specs.Holdings.{fold_holding, break_holding}
+use Rattle.keep_change.proofs.Holdings.{fold_holding, break_holding}
 use Rattle.keep_change.proofs.Records.{WritesOnce, among_reversed, ready_after, or_later, among, facets_of, RecordAt, no_record, a_record, record_at, found_all, replaced_outside, replaced_inside, taken_back_outside, taken_back_inside, ready_inside, facet_eq_symm, same_facet, and_first, and_second, and_both, or_first, or_second, or_neither, refuted, flipped_back, holds_same_equal}
 
 -- ---- the relation

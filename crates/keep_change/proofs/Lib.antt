@@ -1,15 +1,12 @@
-pub mod After
 pub mod Before
 pub mod Carry
 pub mod Exchange
 pub mod History
-pub mod Lacking
-pub mod Laid
+pub mod Holdings
 pub mod Law
 pub mod Least
 pub mod Once
 pub mod Place
 pub mod Records
-pub mod Settled
 pub mod Sorted
 pub mod Touching

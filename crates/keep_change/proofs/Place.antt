@@ -4,7 +4,8 @@ use Rattle.std.specs.Option.{option_map_or}
 use Rattle.keep_repo.specs.declared.facet.Facet.{Facet}
 use Rattle.keep_change.specs.Change.{Holding, written, is_ready, is_met, record_of, replaced}
 use Rattle.keep_change.specs.Fold.{Numbered}
-use Rattle.keep_change.specs.Holdings.{fold_holding, break_holding, value_at}
+use Rattle.keep_change.specs.Holdings.{value_at}
+use Rattle.keep_change.proofs.Holdings.{fold_holding, break_holding}
 use Rattle.keep_change.proofs.Law.{no_break}
 use Rattle.keep_change.proofs.Records.{RecordAt, no_record, a_record, record_at, replaced_outside, ready_inside, and_first}
 

@@ -1,6 +1,7 @@
 -- What the records of a change say of one facet.
 use Rattle.std.proofs.Common.{subst, ◌≡◌, ℕ, ◌≤◌, Bool, true, false, cond, not, ◌&&◌, ◌||◌, List, [], ◌∷◌, map, Option, Some, None, count_by, refl, sym, ap, ◌∙◌, arith}
 use Rattle.std.specs.Bool.{Decides, one_answer}
+use Rattle.std.proofs.lemmas.Bool.Decides.{Decides-int_eq}
 use Rattle.std.specs.List.{list_all, list_any, find, AllByRecursion}
 use Rattle.std.specs.Option.{option_map, option_map_or}
 use Rattle.std.proofs.lemmas.List.Sums.{sum_by-cons}
@@ -69,12 +70,12 @@ holds_same_equal (Some (Stored a)) (Some (Stored b)) e = ap (λ c. Some (Stored 
 holds_same_equal (Some (Stored a)) (Some (Marked b)) e = cc e
 holds_same_equal (Some (Marked a)) None e = cc e
 holds_same_equal (Some (Marked a)) (Some (Stored b)) e = cc e
-holds_same_equal (Some (Marked a)) (Some (Marked b)) e = refl
+holds_same_equal (Some (Marked a)) (Some (Marked b)) e = ap (λ n. Some (Marked (record { moment = n }))) ((Decides-int_eq a.moment b.moment).0 e)
 
 pub holds_same_refl : (a : Option Content) → holds_same a a ≡ true
 holds_same_refl None = refl
 holds_same_refl (Some (Stored a)) = (bytes_eq-Decides a a).1 refl
-holds_same_refl (Some (Marked a)) = refl
+holds_same_refl (Some (Marked a)) = (Decides-int_eq a.moment a.moment).1 refl
 
 pub holds_same_from : (a b : Option Content) → a ≡ b → holds_same a b ≡ true
 holds_same_from a b e = ap (holds_same a) (sym e) ∙ holds_same_refl a

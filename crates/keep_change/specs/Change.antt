@@ -3,6 +3,7 @@ use Rattle.std.specs.Prelude.{Bool, true, false, ◌&&◌, List, ◌++◌, map, 
 use Rattle.std.specs.List.{list_all, find}
 use Rattle.std.specs.Str.{bytes_eq}
 use Rattle.std.specs.Option.{option_map_or}
+use Rattle.std.specs.Ordering.{int_eq}
 use Rattle.keep_names.specs.declared.file_name.FileName.{FileName}
 use Rattle.keep_names.specs.declared.id.Id.{Id}
 use Rattle.keep_repo.specs.Facet.{Content, Stored, Marked, facet_eq}
@@ -38,7 +39,7 @@ reversed w = record { facet = w.facet; before = w.after; after = w.before }
 abbrev pub dropped : StoredFile → Written
 dropped file = reversed (added file)
 
--- a cleared mark is there before, just this one
+-- a cleared mark is there before, with just its moment
 abbrev pub cleared : PackMark → Written
 cleared m = reversed (set m)
 
@@ -59,13 +60,16 @@ mark_asked filled pack = record { facet = Mark pack; filled = filled }
 
 -- what the change only looks at
 abbrev pub asked : Change → List Asked
-asked c = map (file_asked true) c.present ++ (map (file_asked false) c.absent ++ (map (mark_asked true) c.marked ++ map (mark_asked false) c.unmarked))
+asked c =
+    map (file_asked true) c.present
+    ++ (map (file_asked false) c.absent
+    ++ (map (mark_asked true) c.marked ++ map (mark_asked false) c.unmarked))
 
--- whether the two hold the same: nothing, the same bytes, or a mark
+-- whether the two hold the same: nothing, the same bytes, or marks of the same moment
 abbrev pub holds_same : Option Content → Option Content → Bool
 holds_same None None = true
 holds_same (Some (Stored a)) (Some (Stored b)) = bytes_eq a b
-holds_same (Some (Marked a)) (Some (Marked b)) = true
+holds_same (Some (Marked a)) (Some (Marked b)) = int_eq a.moment b.moment
 holds_same _ _ = false
 
 -- whether the facet holds just what it has to before it is written

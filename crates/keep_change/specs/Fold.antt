@@ -21,7 +21,9 @@ fold_of (n ∷ ns) repository = fold_of ns (result_of n.change repository)
 abbrev pub first_break : List Numbered → Repository → Option ℕ
 first_break [] repository = None
 first_break (n ∷ ns) repository =
-    if is_met (held repository) n.change then first_break ns (result_of n.change repository) else Some n.number
+    if is_met (held repository) n.change
+    then first_break ns (result_of n.change repository)
+    else Some n.number
 
 -- the number of the first change that touches what this one writes
 abbrev pub first_leaning : Change → List Numbered → Option ℕ

@@ -1,29 +1,8 @@
--- Numbered changes, made one after another, by what each facet holds.
-use Rattle.std.specs.Prelude.{ℕ, List, [], ◌∷◌, if◌then◌else◌, Option, Some, None}
+-- What each facet held before some changes, read off them and off what it holds after.
+use Rattle.std.specs.Prelude.{List, [], ◌∷◌}
 use Rattle.std.specs.Option.{option_map_or}
-use Rattle.keep_repo.specs.Facet.{facet_eq}
-use Rattle.keep_change.specs.Change.{Holding, Written, is_met, record_of, replaced, written}
+use Rattle.keep_change.specs.Change.{Holding, record_of, written}
 use Rattle.keep_change.specs.Fold.{Numbered}
-
--- what each facet holds once this one is written
-abbrev pub one_written : Written → Holding → Holding
-one_written w holding facet = if facet_eq w.facet facet then w.after else holding facet
-
--- what each facet holds once these are written, one after another
-abbrev pub each_written : List Written → Holding → Holding
-each_written [] holding = holding
-each_written (w ∷ ws) holding = each_written ws (one_written w holding)
-
--- what each facet holds once these changes are made in turn
-abbrev pub fold_holding : List Numbered → Holding → Holding
-fold_holding [] holding = holding
-fold_holding (n ∷ ns) holding = fold_holding ns (replaced (written n.change) holding)
-
--- the number of the first change that isn't met in its turn, none where each is
-abbrev pub break_holding : List Numbered → Holding → Option ℕ
-break_holding [] holding = None
-break_holding (n ∷ ns) holding =
-    if is_met holding n.change then break_holding ns (replaced (written n.change) holding) else Some n.number
 
 -- what each facet held before these changes, where it holds this after them: what the first of them that writes it asked for
 abbrev pub value_at : List Numbered → Holding → Holding

@@ -4,6 +4,5 @@ pub mod Form
 pub mod Holdings
 pub mod Law
 pub mod Outline
-pub mod Outcome
 pub mod Result
 pub mod Touch

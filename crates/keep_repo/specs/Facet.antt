@@ -6,7 +6,7 @@ use Rattle.keep_names.specs.FileName.{file_name_text}
 use Rattle.keep_names.specs.Id.{id_text}
 use Rattle.keep_repo.specs.declared.facet.Facet.{Facet}
 use Rattle.keep_repo.specs.declared.facet.Facet.TheVariants.{File, Mark}
-use Rattle.keep_repo.specs.declared.mark.Mark as the_mark
+use Rattle.keep_repo.specs.declared.facet.Mark as the_mark
 use Rattle.keep_repo.specs.contracts.facet.FacetOrd.TheImpl as the_facet_order
 
 -- files before marks, files by name and marks by pack

@@ -1,12 +1,12 @@
 -- A repository as a value: files by name, as restic's design document lays them out, and marks by pack.
-use Rattle.std.specs.Prelude.{ℕ, Bool, List, Option, is_some, refl}
+use Rattle.std.specs.Prelude.{ℕ, ℤ, Bool, List, Option, is_some, refl}
 use Rattle.std.specs.Option.{option_map}
-use Rattle.std.specs.Coded.{Coded, code_by, coded_ℕ, coded_list, coded×}
+use Rattle.std.specs.Coded.{Coded, code_by, coded_ℕ, coded_ℤ, coded_list, coded×}
 use Rattle.std.specs.FinMap as map
 use Rattle.keep_names.specs.Orders.{name_cmp, id_cmp, coded_name, coded_id}
 use Rattle.keep_repo.specs.declared.facet.Facet.{Facet}
 use Rattle.keep_repo.specs.declared.facet.Facet.TheVariants.{File, Mark}
-use Rattle.keep_repo.specs.declared.mark.Mark as the_mark
+use Rattle.keep_repo.specs.declared.facet.Mark as the_mark
 use Rattle.keep_repo.specs.Facet.{Content, Stored, Marked}
 
 -- the bytes of each file that is there, and the mark of each pack that is marked
@@ -27,9 +27,9 @@ held repository (Mark pack) = option_map Marked (map.get repository.marks pack)
 abbrev pub is_filled : Repository → Facet → Bool
 is_filled repository facet = is_some (held repository facet)
 
--- a mark says only that it is there
+-- a mark is its moment
 abbrev pub coded_mark : Coded the_mark.Mark
-coded_mark = code_by ℕ coded_ℕ (λ _. 0) (λ _. record {}) (λ _. refl)
+coded_mark = code_by ℤ coded_ℤ (λ m. m.moment) (λ n. record { moment = n }) (λ _. refl)
 
 -- a repository is its two maps
 abbrev pub coded_repository : Coded Repository

@@ -13,6 +13,13 @@ pub enum Facet {
     Mark(Id),
 }
 
+/// What a repository keeps of a marked pack. That it is there says that the pack may be swept.
+#[derive(Clone, Copy, Debug, PartialEq, Eq)]
+pub struct Mark {
+    /// When the pack was marked: whole seconds since 1970-01-01T00:00:00Z, less than 0 before it.
+    pub moment: i64,
+}
+
 impl fmt::Display for Facet {
     ghost output = { λ facet. Some (facet_text facet) };
 

@@ -3,12 +3,10 @@
 
 mod bytes;
 mod facet;
-mod mark;
 mod repo;
 #[cfg(test)]
 mod tests;
 
 pub use bytes::Bytes;
-pub use facet::Facet;
-pub use mark::Mark;
+pub use facet::{Facet, Mark};
 pub use repo::Repo;

@@ -1,10 +1,10 @@
 ghost use Rattle.std.specs.Prelude.{◌≡◌, ◌↔◌, IsTrue, IfOk, OnOk, OnErr, is_some, option_copied, length};
 ghost use Rattle.std.specs.FinMap as map;
+ghost use Rattle.std.specs.Option.{option_map};
 ghost use Rattle.keep_repo.specs.Repository.{held, is_filled, empty_repository};
 
 use crate::bytes::Bytes;
-use crate::facet::Facet;
-use crate::mark::Mark;
+use crate::facet::{Facet, Mark};
 use keep_names::{FileName, Id};
 use std::alloc::{AllocError, Global};
 use std::collections::BTreeMap;
@@ -26,7 +26,10 @@ impl Model for Repo {
 
     ghost coded = { coded_repository };
 
-    ghost view = { λ r. record { files = map.from_entries r.files.entries; marks = map.from_entries r.marks.entries } };
+    ghost view = { λ r. record {
+      files = map.from_entries r.files.entries;
+      marks = map.from_entries r.marks.entries;
+    } };
 }
 
 impl Repo {
@@ -48,11 +51,11 @@ impl Repo {
         self.files.get(&name)
     }
 
-    /// The pack's mark, if it has one.
-    pub fn mark_of(&self, pack: Id) -> Option<Mark>
-        ensures { result ≡ map.get self.now.marks pack }
+    /// The moment of the pack's mark, if it has one.
+    pub fn mark_of(&self, pack: Id) -> Option<i64>
+        ensures { result ≡ option_map (λ m. m.moment) (map.get self.now.marks pack) }
     {
-        self.marks.get(&pack).copied()
+        self.marks.get(&pack).map(|mark| mark.moment)
     }
 
     pub fn is_marked(&self, pack: Id) -> bool
@@ -104,7 +107,7 @@ impl Repo {
         })
     }
 
-    /// Whether the other has the same files, byte for byte, and the same marks.
+    /// Whether the other has the same files, byte for byte, and the same marks, with the same moments.
     pub fn same_as(&self, other: &Repo) -> bool
         ensures { IsTrue result ↔ (self.now ≡ other.now) }
     {
@@ -127,19 +130,12 @@ impl Repo {
 
     /// Puts the file there, in the place of one that has the name.
     pub fn insert_file(&mut self, name: FileName, bytes: Bytes) -> Result<(), AllocError>
-        ensures ok { OnOk result (self.new ≡ record self.old { files = map.insert self.old.files name bytes }) }
+        ensures ok { let files = map.insert self.old.files name bytes in
+            OnOk result (self.new ≡ record self.old { files = files }) }
         ensures err { OnErr result (self.new ≡ self.old) }
     {
         self.files.insert(name, bytes)?;
         Ok(())
-    }
-
-    /// Puts the bytes in the place of those of a file that is there. It takes no memory.
-    pub fn replace_file(&mut self, name: FileName, bytes: Bytes)
-        requires { IsTrue (is_some (map.get self.old.files name)) }
-        ensures { self.new ≡ record self.old { files = map.insert self.old.files name bytes } }
-    {
-        let _ = self.files.insert(name, bytes);
     }
 
     pub fn remove_file(&mut self, name: FileName)
@@ -148,20 +144,14 @@ impl Repo {
         self.files.remove(&name);
     }
 
+    /// Puts the mark on the pack, in the place of one that it has.
     pub fn insert_mark(&mut self, pack: Id, mark: Mark) -> Result<(), AllocError>
-        ensures ok { OnOk result (self.new ≡ record self.old { marks = map.insert self.old.marks pack mark }) }
+        ensures ok { let marks = map.insert self.old.marks pack mark in
+            OnOk result (self.new ≡ record self.old { marks = marks }) }
         ensures err { OnErr result (self.new ≡ self.old) }
     {
         self.marks.insert(pack, mark)?;
         Ok(())
-    }
-
-    /// Puts the mark in the place of one that is there. It takes no memory.
-    pub fn replace_mark(&mut self, pack: Id, mark: Mark)
-        requires { IsTrue (is_some (map.get self.old.marks pack)) }
-        ensures { self.new ≡ record self.old { marks = map.insert self.old.marks pack mark } }
-    {
-        let _ = self.marks.insert(pack, mark);
     }
 
     pub fn remove_mark(&mut self, pack: Id)

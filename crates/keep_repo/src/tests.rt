@@ -41,8 +41,8 @@ fn small_repository(alloc: Global) -> Result<Repo, AllocError> {
     ] {
         repository.insert_file(name, bytes_of(alloc, text)?)?;
     }
-    repository.insert_mark(HIGH, Mark)?;
-    repository.insert_mark(LOW, Mark)?;
+    repository.insert_mark(HIGH, Mark { moment: 7 })?;
+    repository.insert_mark(LOW, Mark { moment: -5 })?;
     Ok(repository)
 }
 
@@ -74,7 +74,7 @@ fn what_is_put_there_is_there_until_it_is_removed(rt: HostRuntime) -> Result<(),
         let found = repository.get(name).map(|bytes| bytes.as_slice());
         assert_eq!(rt; found, want.map(|text| text.as_bytes()));
     }
-    assert_eq!(rt; repository.mark_of(LOW), Some(Mark));
+    assert_eq!(rt; repository.mark_of(LOW), Some(-5));
     assert_eq!(rt; repository.mark_of(HIGH), None);
     Ok(())
 }
@@ -124,7 +124,10 @@ fn a_copy_is_the_same_until_it_changes(rt: HostRuntime) -> Result<(), Fail> {
     copy.remove_mark(LOW);
     assert!(rt; !copy.same_as(&repository));
     assert!(rt; repository.is_marked(LOW));
-    copy.insert_mark(LOW, Mark)?;
+    for (moment, same) in [(5, false), (-5, true)] {
+        copy.insert_mark(LOW, Mark { moment })?;
+        assert_eq!(rt; copy.same_as(&repository), same, "{moment}");
+    }
     copy.insert_file(INDEX, bytes_of(alloc, "nowhere")?)?;
     assert!(rt; !copy.same_as(&repository));
     Ok(())

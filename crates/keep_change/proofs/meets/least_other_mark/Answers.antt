@@ -1,5 +1,6 @@
 -- A mark that is as asked changes nothing, and another one is taken with the least before it.
 use Rattle.std.proofs.Common.{◌≡◌, [], not, Some, sym, ap, ◌∙◌, get_or}
+use Rattle.std.proofs.Math.IntN.{pos}
 use Rattle.std.proofs.lemmas.List.{get_or_default}
 use Rattle.keep_repo.specs.Facet.{Marked}
 use Rattle.keep_repo.specs.declared.facet.Facet.TheVariants.{Mark}
@@ -11,7 +12,7 @@ use Rattle.keep_change.proofs.meets.least_other_mark.Goals.{then-not-has_mark, e
 
 -- any mark, to be named where a list has none
 abbrev some_mark : PackMark
-some_mark = record { pack = record { 0 = [] }; mark = record {} }
+some_mark = record { pack = record { 0 = [] }; mark = record { moment = pos 0 } }
 
 pub loop-set-preserved : goal.loop-set-preserved
 loop-set-preserved g c =
