@@ -1,5 +1,5 @@
 -- Which of the numbered changes pass a test.
-use Rattle.std.proofs.Common.{◌≡◌, ℕ, zero, suc, ◌+◌, ◌-◌, ◌<◌, ◌≤◌, ◌==◌, nat_lt, nat_le, Bool, true, false, ◌&&◌, cond, List, [], ◌∷◌, ◌++◌, length, Some, inl, inr, refl, sym, ap, ◌∙◌, arith}
+use Rattle.std.proofs.Common.{◌≡◌, ℕ, ◌+◌, ◌-◌, ◌<◌, ◌≤◌, ◌==◌, nat_lt, nat_le, Bool, true, false, ◌&&◌, cond, List, [], ◌∷◌, ◌++◌, length, Some, inl, inr, refl, sym, ap, ◌∙◌, arith}
 use Rattle.std.proofs.lemmas.Bool.{cases_eq, cases_lt, eq-eqb, ne_eqb, le-leb, le-ltb, lt-leb, lt-ltb}
 use Rattle.std.proofs.lemmas.Bool.Decides.{nat_tests}
 use Rattle.std.proofs.lemmas.List.{append_assoc}
@@ -9,11 +9,11 @@ use Rattle.std.specs.List.{filter, find}
 use Rattle.std.specs.Option.{option_map}
 use Rattle.keep_change.specs.Fold.{Numbered}
 use Rattle.keep_change.specs.declared.change.Change.{Change}
-use Rattle.keep_journal.specs.History.{committed, change_count, change_of, CountsFrom, IsNumbered}
+use Rattle.keep_journal.specs.History.{committed, last_change, change_of, CountsFrom, IsNumbered}
 use Rattle.keep_journal.specs.Kept.{chosen}
-use Rattle.keep_journal.specs.declared.event.Event.{Event}
+use Rattle.keep_journal.specs.Journal.{Journal, posted}
 use Rattle.keep_journal.specs.declared.event.Event.TheVariants.{Commit, Undo, Redo, Empty}
-use Rattle.keep_journal.proofs.Commits.{committed-Commit, committed-Empty, committed-Redo, committed-Undo, no_change}
+use Rattle.keep_journal.proofs.Commits.{committed-Commit, committed-Empty, committed-Redo, committed-Undo, within_journal}
 
 -- ---- tests
 
@@ -101,51 +101,47 @@ counted_only p n k (m ∷ ns) x h found =
 -- ---- the changes of a history
 
 -- after one more event
-pub chosen-Commit : (test : ℕ → Bool) (es : List Event) (n : ℕ) (c : Change)
-    → chosen test (es ++ Commit n c ∷ []) ≡ chosen test es ++ cond (test n) (record { number = n; change = c } ∷ []) []
-chosen-Commit test es n c =
-    ap (filter (λ x. test x.number)) (committed-Commit es n c)
-    ∙ filter-append (λ (x : Numbered). test x.number) (committed es) (record { number = n; change = c } ∷ [])
+pub chosen-Commit : (test : ℕ → Bool) (j : Journal) (k n : ℕ) (c : Change)
+    → chosen test (posted j k (Commit n c)) ≡ chosen test j ++ cond (test n) (record { number = n; change = c } ∷ []) []
+chosen-Commit test j k n c =
+    ap (filter (λ x. test x.number)) (committed-Commit j k n c)
+    ∙ filter-append (λ (x : Numbered). test x.number) (committed j) (record { number = n; change = c } ∷ [])
 
-pub chosen-Undo : (test : ℕ → Bool) (es : List Event) (n : ℕ) → chosen test (es ++ Undo n ∷ []) ≡ chosen test es
-chosen-Undo test es n = ap (filter (λ x. test x.number)) (committed-Undo es n)
+pub chosen-Undo : (test : ℕ → Bool) (j : Journal) (k n : ℕ) → chosen test (posted j k (Undo n)) ≡ chosen test j
+chosen-Undo test j k n = ap (filter (λ x. test x.number)) (committed-Undo j k n)
 
-pub chosen-Redo : (test : ℕ → Bool) (es : List Event) (n : ℕ) → chosen test (es ++ Redo n ∷ []) ≡ chosen test es
-chosen-Redo test es n = ap (filter (λ x. test x.number)) (committed-Redo es n)
+pub chosen-Redo : (test : ℕ → Bool) (j : Journal) (k n : ℕ) → chosen test (posted j k (Redo n)) ≡ chosen test j
+chosen-Redo test j k n = ap (filter (λ x. test x.number)) (committed-Redo j k n)
 
-pub chosen-Empty : (test : ℕ → Bool) (es : List Event) (n : ℕ) → chosen test (es ++ Empty n ∷ []) ≡ chosen test es
-chosen-Empty test es n = ap (filter (λ x. test x.number)) (committed-Empty es n)
+pub chosen-Empty : (test : ℕ → Bool) (j : Journal) (k n : ℕ) → chosen test (posted j k (Empty n)) ≡ chosen test j
+chosen-Empty test j k n = ap (filter (λ x. test x.number)) (committed-Empty j k n)
 
 -- tests that agree choose the same
-pub chosen_agree : (p q : ℕ → Bool) (es : List Event) → ((m : ℕ) → p m ≡ q m) → chosen p es ≡ chosen q es
-chosen_agree p q es agree = filter_agree (λ (c : Numbered). p c.number) (λ c. q c.number) (λ c. agree c.number) (committed es)
+pub chosen_agree : (p q : ℕ → Bool) (j : Journal) → ((m : ℕ) → p m ≡ q m) → chosen p j ≡ chosen q j
+chosen_agree p q j agree = filter_agree (λ (c : Numbered). p c.number) (λ c. q c.number) (λ c. agree c.number) (committed j)
 
 -- and so do those that agree on the numbers of changes
-pub chosen_agree_on : (p q : ℕ → Bool) (es : List Event) → IsNumbered es
-    → ((m : ℕ) → 0 < m → m ≤ change_count es → p m ≡ q m) → chosen p es ≡ chosen q es
-chosen_agree_on p q es h agree = counted_agree p q 1 (committed es) h.commits (λ m low high. agree m low (omega arith))
+pub chosen_agree_on : (p q : ℕ → Bool) (j : Journal) → IsNumbered j
+    → ((m : ℕ) → j.base < m → m ≤ last_change j → p m ≡ q m) → chosen p j ≡ chosen q j
+chosen_agree_on p q j h agree =
+    counted_agree p q (j.base + 1) (committed j) h.commits (λ m low high. agree m (omega arith) (omega arith))
 
 -- those up to n, and then those above n
-pub chosen_split : (p : ℕ → Bool) (es : List Event) (n : ℕ) → IsNumbered es
-    → chosen p es ≡ chosen (λ m. p m && nat_le m n) es ++ chosen (λ m. p m && nat_lt n m) es
-chosen_split p es n h = counted_split p n 1 (committed es) h.commits
+pub chosen_split : (p : ℕ → Bool) (j : Journal) (n : ℕ) → IsNumbered j
+    → chosen p j ≡ chosen (λ m. p m && nat_le m n) j ++ chosen (λ m. p m && nat_lt n m) j
+chosen_split p j n h = counted_split p n (j.base + 1) (committed j) h.commits
 
 -- a test that no number of a change passes chooses none
-pub chosen_none : (p : ℕ → Bool) (es : List Event) → IsNumbered es
-    → ((m : ℕ) → 0 < m → m ≤ change_count es → p m ≡ false) → chosen p es ≡ []
-chosen_none p es h none =
-    chosen_agree_on p (λ m. false) es h none ∙ counted_none (λ m. false) 1 (committed es) h.commits (λ m low. refl)
+pub chosen_none : (p : ℕ → Bool) (j : Journal) → IsNumbered j
+    → ((m : ℕ) → j.base < m → m ≤ last_change j → p m ≡ false) → chosen p j ≡ []
+chosen_none p j h none =
+    chosen_agree_on p (λ m. false) j h none ∙ counted_none (λ m. false) (j.base + 1) (committed j) h.commits (λ m low. refl)
 
 same_parts : (x : Numbered) (n : ℕ) (c : Change) → x.number ≡ n → x.change ≡ c → x ≡ record { number = n; change = c }
 same_parts x n c e f = rw (← e, ← f) refl
 
--- the numbers of changes begin with 1
-number_positive : (es : List Event) (n : ℕ) (c : Change) → IsNumbered es → change_of es n ≡ Some c → 0 < n
-number_positive es zero c h is_c = cc (no_change es 0 h (grind (arith, nat_tests)), is_c)
-number_positive es (suc n) c h is_c = omega arith
-
-the_number : (es : List Numbered) (n : ℕ) (c : Change) → option_map (λ x. x.change) (find (λ x. x.number == n) es) ≡ Some c
-    → find (λ x. x.number == n) es ≡ Some (record { number = n; change = c })
+the_number : (ns : List Numbered) (n : ℕ) (c : Change) → option_map (λ x. x.change) (find (λ x. x.number == n) ns) ≡ Some c
+    → find (λ x. x.number == n) ns ≡ Some (record { number = n; change = c })
 the_number [] n c h = cc h
 the_number (x ∷ xs) n c h =
     elim (cases_eq x.number n) [
@@ -159,30 +155,30 @@ the_number (x ∷ xs) n c h =
     ]
 
 -- those below n, change n if it passes, and then those above n
-pub chosen_around : (p : ℕ → Bool) (es : List Event) (n : ℕ) (c : Change) → IsNumbered es → change_of es n ≡ Some c
-    → chosen p es ≡ chosen (λ m. p m && nat_lt m n) es
-    ++ (cond (p n) (record { number = n; change = c } ∷ []) [] ++ chosen (λ m. p m && nat_lt n m) es)
-chosen_around p es n c h is_c =
-    let there = the_number (committed es) n c is_c in
-    let only = counted_only p n 1 (committed es) (record { number = n; change = c }) h.commits there in
-    let positive = number_positive es n c h is_c in
-    let up = chosen_split p es n h in
-    let down = chosen_split (λ m. p m && nat_le m n) es (n - 1) h in
-    let front = chosen_agree (λ m. (p m && nat_le m n) && nat_le m (n - 1)) (λ m. p m && nat_lt m n) es (λ m. below_test (p m) m n positive) in
-    let middle = chosen_agree (λ m. (p m && nat_le m n) && nat_lt (n - 1) m) (λ m. p m && (m == n)) es (λ m. at_test (p m) m n positive) in
+pub chosen_around : (p : ℕ → Bool) (j : Journal) (n : ℕ) (c : Change) → IsNumbered j → change_of j n ≡ Some c
+    → chosen p j ≡ chosen (λ m. p m && nat_lt m n) j
+    ++ (cond (p n) (record { number = n; change = c } ∷ []) [] ++ chosen (λ m. p m && nat_lt n m) j)
+chosen_around p j n c h is_c =
+    let there = the_number (committed j) n c is_c in
+    let only = counted_only p n (j.base + 1) (committed j) (record { number = n; change = c }) h.commits there in
+    let positive : 0 < n = omega (arith, (within_journal j n c h is_c).0) in
+    let up = chosen_split p j n h in
+    let down = chosen_split (λ m. p m && nat_le m n) j (n - 1) h in
+    let front = chosen_agree (λ m. (p m && nat_le m n) && nat_le m (n - 1)) (λ m. p m && nat_lt m n) j (λ m. below_test (p m) m n positive) in
+    let middle = chosen_agree (λ m. (p m && nat_le m n) && nat_lt (n - 1) m) (λ m. p m && (m == n)) j (λ m. at_test (p m) m n positive) in
     up
-    ∙ ap (λ xs. xs ++ chosen (λ m. p m && nat_lt n m) es) (down ∙ ap (λ xs. xs ++ chosen (λ m. (p m && nat_le m n) && nat_lt (n - 1) m) es) front ∙ ap (λ xs. chosen (λ m. p m && nat_lt m n) es ++ xs) (middle ∙ only))
-    ∙ append_assoc (chosen (λ m. p m && nat_lt m n) es) (cond (p n) (record { number = n; change = c } ∷ []) []) (chosen (λ m. p m && nat_lt n m) es)
+    ∙ ap (λ xs. xs ++ chosen (λ m. p m && nat_lt n m) j) (down ∙ ap (λ xs. xs ++ chosen (λ m. (p m && nat_le m n) && nat_lt (n - 1) m) j) front ∙ ap (λ xs. chosen (λ m. p m && nat_lt m n) j ++ xs) (middle ∙ only))
+    ∙ append_assoc (chosen (λ m. p m && nat_lt m n) j) (cond (p n) (record { number = n; change = c } ∷ []) []) (chosen (λ m. p m && nat_lt n m) j)
 
 -- the same by another test, which agrees with it below n and above n
-pub chosen_around_as : (p q : ℕ → Bool) (passes : Bool) (es : List Event) (n : ℕ) (c : Change) → IsNumbered es → change_of es n ≡ Some c → p n ≡ passes
+pub chosen_around_as : (p q : ℕ → Bool) (passes : Bool) (j : Journal) (n : ℕ) (c : Change) → IsNumbered j → change_of j n ≡ Some c → p n ≡ passes
     → ((m : ℕ) → (p m && nat_lt m n) ≡ (q m && nat_lt m n)) → ((m : ℕ) → (p m && nat_lt n m) ≡ (q m && nat_lt n m))
-    → chosen p es ≡ chosen (λ m. q m && nat_lt m n) es
-    ++ (cond passes (record { number = n; change = c } ∷ []) [] ++ chosen (λ m. q m && nat_lt n m) es)
-chosen_around_as p q passes es n c h is_c at below above =
-    let front = chosen_agree (λ m. p m && nat_lt m n) (λ m. q m && nat_lt m n) es below in
-    let back = chosen_agree (λ m. p m && nat_lt n m) (λ m. q m && nat_lt n m) es above in
-    chosen_around p es n c h is_c
-    ∙ ap (λ xs. xs ++ (cond (p n) (record { number = n; change = c } ∷ []) [] ++ chosen (λ m. p m && nat_lt n m) es)) front
-    ∙ ap (λ b. chosen (λ m. q m && nat_lt m n) es ++ (cond b (record { number = n; change = c } ∷ []) [] ++ chosen (λ m. p m && nat_lt n m) es)) at
-    ∙ ap (λ xs. chosen (λ m. q m && nat_lt m n) es ++ (cond passes (record { number = n; change = c } ∷ []) [] ++ xs)) back
+    → chosen p j ≡ chosen (λ m. q m && nat_lt m n) j
+    ++ (cond passes (record { number = n; change = c } ∷ []) [] ++ chosen (λ m. q m && nat_lt n m) j)
+chosen_around_as p q passes j n c h is_c at below above =
+    let front = chosen_agree (λ m. p m && nat_lt m n) (λ m. q m && nat_lt m n) j below in
+    let back = chosen_agree (λ m. p m && nat_lt n m) (λ m. q m && nat_lt n m) j above in
+    chosen_around p j n c h is_c
+    ∙ ap (λ xs. xs ++ (cond (p n) (record { number = n; change = c } ∷ []) [] ++ chosen (λ m. p m && nat_lt n m) j)) front
+    ∙ ap (λ b. chosen (λ m. q m && nat_lt m n) j ++ (cond b (record { number = n; change = c } ∷ []) [] ++ chosen (λ m. p m && nat_lt n m) j)) at
+    ∙ ap (λ xs. chosen (λ m. q m && nat_lt m n) j ++ (cond passes (record { number = n; change = c } ∷ []) [] ++ xs)) back

@@ -1,58 +1,61 @@
 -- The numbers of the commits, and what one more event makes of them.
-use Rattle.std.proofs.Common.{◌≡◌, ℕ, zero, suc, ◌+◌, ◌<◌, ◌==◌, nat_lt, true, false, List, [], ◌∷◌, ◌++◌, length, Option, Some, None, refl, sym, ap, ◌∙◌, arith}
-use Rattle.std.proofs.lemmas.Bool.{eq-eqb, le-ltb, lt-ltb, ne_eqb}
+use Rattle.std.proofs.Common.{◌≡◌, ℕ, zero, suc, ◌+◌, ◌-◌, ◌<◌, ◌≤◌, ◌==◌, ◌&&◌, nat_lt, nat_le, Bool, true, false, inl, inr, List, [], ◌∷◌, ◌++◌, length, Option, Some, None, refl, sym, ap, ◌∙◌, arith}
+use Rattle.std.proofs.lemmas.Bool.{and_right, cases_lt, eq-eqb, le-leb, le-ltb, lt-leb, lt-ltb, ne_eqb}
 use Rattle.std.proofs.lemmas.Bool.Decides.{nat_tests}
 use Rattle.std.proofs.lemmas.Grind.{fold-append}
 use Rattle.std.proofs.lemmas.List.{length_push, append-nil}
 use Rattle.std.proofs.lemmas.List.Folds.{find-append}
-use Rattle.std.specs.List.{find, slice_get}
+use Rattle.std.proofs.lemmas.List.Elements.{filter_map-append}
+use Rattle.std.specs.List.{find, filter_map, fold, slice_get}
 use Rattle.std.specs.Option.{is_some, option_map, option_or}
 use Rattle.keep_change.specs.Fold.{Numbered}
 use Rattle.keep_change.specs.declared.change.Change.{Change}
-use Rattle.keep_journal.specs.History.{committed, change_count, change_of, is_change, in_force_after, is_in_force, final_after, final_number, ComesNext, CountsFrom, IsNumbered}
+use Rattle.keep_journal.specs.History.{committed, last_change, change_of, in_force_after, is_in_force, final_after, final_number, length_of, AscendFrom, ComesNext, CountsFrom, Fits, IsNumbered}
+use Rattle.keep_journal.specs.Event.{commit_of}
+use Rattle.keep_journal.specs.Journal.{Journal, posted}
+use Rattle.keep_journal.specs.declared.event.Entry.{Entry}
 use Rattle.keep_journal.specs.declared.event.Event.{Event}
 use Rattle.keep_journal.specs.declared.event.Event.TheVariants.{Commit, Undo, Redo, Empty}
 
 -- ---- one more event
 
-pub committed-append : (es ds : List Event) → committed (es ++ ds) ≡ committed es ++ committed ds
-committed-append [] ds = refl
-committed-append (Commit n c ∷ es) ds = ap (λ ns. record { number = n; change = c } ∷ ns) (committed-append es ds)
-committed-append (Undo n ∷ es) ds = committed-append es ds
-committed-append (Redo n ∷ es) ds = committed-append es ds
-committed-append (Empty n ∷ es) ds = committed-append es ds
+pub committed-Commit : (j : Journal) (k n : ℕ) (c : Change)
+    → committed (posted j k (Commit n c)) ≡ committed j ++ record { number = n; change = c } ∷ []
+committed-Commit j k n c = filter_map-append (λ e. commit_of e.event) j.entries (record { at = k; event = Commit n c } ∷ [])
 
-pub committed-Commit : (es : List Event) (n : ℕ) (c : Change)
-    → committed (es ++ Commit n c ∷ []) ≡ committed es ++ record { number = n; change = c } ∷ []
-committed-Commit es n c = committed-append es (Commit n c ∷ [])
+pub committed-Undo : (j : Journal) (k n : ℕ) → committed (posted j k (Undo n)) ≡ committed j
+committed-Undo j k n = filter_map-append (λ e. commit_of e.event) j.entries (record { at = k; event = Undo n } ∷ []) ∙ append-nil (committed j)
 
-pub committed-Undo : (es : List Event) (n : ℕ) → committed (es ++ Undo n ∷ []) ≡ committed es
-committed-Undo es n = committed-append es (Undo n ∷ []) ∙ append-nil (committed es)
+pub committed-Redo : (j : Journal) (k n : ℕ) → committed (posted j k (Redo n)) ≡ committed j
+committed-Redo j k n = filter_map-append (λ e. commit_of e.event) j.entries (record { at = k; event = Redo n } ∷ []) ∙ append-nil (committed j)
 
-pub committed-Redo : (es : List Event) (n : ℕ) → committed (es ++ Redo n ∷ []) ≡ committed es
-committed-Redo es n = committed-append es (Redo n ∷ []) ∙ append-nil (committed es)
+pub committed-Empty : (j : Journal) (k n : ℕ) → committed (posted j k (Empty n)) ≡ committed j
+committed-Empty j k n = filter_map-append (λ e. commit_of e.event) j.entries (record { at = k; event = Empty n } ∷ []) ∙ append-nil (committed j)
 
-pub committed-Empty : (es : List Event) (n : ℕ) → committed (es ++ Empty n ∷ []) ≡ committed es
-committed-Empty es n = committed-append es (Empty n ∷ []) ∙ append-nil (committed es)
+pub last_change-Commit : (j : Journal) (k n : ℕ) (c : Change) → last_change (posted j k (Commit n c)) ≡ last_change j + 1
+last_change-Commit j k n c =
+    let longer = ap length (committed-Commit j k n c) ∙ length_push (committed j) (record { number = n; change = c }) in
+    omega (arith, longer)
 
-pub change_count-Commit : (es : List Event) (n : ℕ) (c : Change) → change_count (es ++ Commit n c ∷ []) ≡ change_count es + 1
-change_count-Commit es n c = ap length (committed-Commit es n c) ∙ length_push (committed es) (record { number = n; change = c })
+pub last_change-Undo : (j : Journal) (k n : ℕ) → last_change (posted j k (Undo n)) ≡ last_change j
+last_change-Undo j k n = ap (λ ns. j.base + length ns) (committed-Undo j k n)
 
-pub change_count-Undo : (es : List Event) (n : ℕ) → change_count (es ++ Undo n ∷ []) ≡ change_count es
-change_count-Undo es n = ap length (committed-Undo es n)
+pub last_change-Redo : (j : Journal) (k n : ℕ) → last_change (posted j k (Redo n)) ≡ last_change j
+last_change-Redo j k n = ap (λ ns. j.base + length ns) (committed-Redo j k n)
 
-pub change_count-Redo : (es : List Event) (n : ℕ) → change_count (es ++ Redo n ∷ []) ≡ change_count es
-change_count-Redo es n = ap length (committed-Redo es n)
+pub last_change-Empty : (j : Journal) (k n : ℕ) → last_change (posted j k (Empty n)) ≡ last_change j
+last_change-Empty j k n = ap (λ ns. j.base + length ns) (committed-Empty j k n)
 
-pub change_count-Empty : (es : List Event) (n : ℕ) → change_count (es ++ Empty n ∷ []) ≡ change_count es
-change_count-Empty es n = ap length (committed-Empty es n)
+pub is_in_force-push : (j : Journal) (k : ℕ) (e : Event) (m : ℕ)
+    → is_in_force (posted j k e) m ≡ in_force_after m (is_in_force j m) e
+is_in_force-push j k e m = fold-append (λ before x. in_force_after m before x.event) false j.entries (record { at = k; event = e } ∷ [])
 
-pub is_in_force-push : (es : List Event) (e : Event) (m : ℕ)
-    → is_in_force (es ++ e ∷ []) m ≡ in_force_after m (is_in_force es m) e
-is_in_force-push es e m = fold-append (in_force_after m) false es (e ∷ [])
+pub final_number-push : (j : Journal) (k : ℕ) (e : Event) → final_number (posted j k e) ≡ final_after (final_number j) e
+final_number-push j k e = fold-append (λ before x. final_after before x.event) j.base j.entries (record { at = k; event = e } ∷ [])
 
-pub final_number-push : (es : List Event) (e : Event) → final_number (es ++ e ∷ []) ≡ final_after (final_number es) e
-final_number-push es e = fold-append final_after 0 es (e ∷ [])
+-- the last event's number is that of the event just posted
+pub length_of-push : (j : Journal) (k : ℕ) (e : Event) → length_of (posted j k e) ≡ k
+length_of-push j k e = fold-append (λ before x. x.at) 0 j.entries (record { at = k; event = e } ∷ [])
 
 -- ---- numbers
 
@@ -67,6 +70,11 @@ find-below k [] n h lt = refl
 find-below k (m ∷ ns) n h lt =
     let first : m.number ≡ k = h.0 in
     rw (ne_eqb m.number n (λ e. omega arith)) (find-below (k + 1) ns n h.1 (omega arith))
+
+-- one more above the last
+AscendFrom-push : (k : ℕ) (es : List Entry) (e : Entry) → AscendFrom k es → fold (λ before x. x.at) k es < e.at → AscendFrom k (es ++ e ∷ [])
+AscendFrom-push k [] e h above = (above, tt)
+AscendFrom-push k (x ∷ es) e h above = (h.0, AscendFrom-push x.at es e h.1 above)
 
 -- the one with number k + i is at place i
 pub find-slice_get : (k : ℕ) (ns : List Numbered) (i n : ℕ) → CountsFrom k ns → n ≡ k + i → find (λ c. c.number == n) ns ≡ slice_get ns i
@@ -87,14 +95,24 @@ is_some-option_map : (o : Option Numbered) → is_some (option_map (λ (c : Numb
 is_some-option_map None = refl
 is_some-option_map (Some n) = refl
 
--- there is a change n just where n is above 0 and not above the number of changes
-pub is_some-change_of : (es : List Event) (n : ℕ) → IsNumbered es → is_some (change_of es n) ≡ is_change es n
-is_some-change_of es zero h = rw (find-below 1 (committed es) 0 h.commits (omega arith)) (grind (arith, nat_tests))
-is_some-change_of es (suc n) h =
-    let given = is_some-option_map (find (λ c. c.number == suc n) (committed es)) in
-    let at = ap is_some (find-slice_get 1 (committed es) n (suc n) h.commits (omega arith)) in
-    let within = is_some-slice_get (committed es) n in
-    grind (arith, nat_tests, given, at, within)
+-- the journal has change n just where n is above what was final when it began, and not above the last change
+pub is_some-change_of : (j : Journal) (n : ℕ) → IsNumbered j → is_some (change_of j n) ≡ (nat_lt j.base n && nat_le n (last_change j))
+is_some-change_of j n h = elim (cases_lt j.base n) [
+  | inl above ↦
+      let given = is_some-option_map (find (λ c. c.number == n) (committed j)) in
+      let at = ap is_some (find-slice_get (j.base + 1) (committed j) (n - j.base - 1) n h.commits (omega arith)) in
+      let within = is_some-slice_get (committed j) (n - j.base - 1) in
+      let low : nat_lt j.base n ≡ true = lt-ltb j.base n above in
+      let same : nat_lt (n - j.base - 1) (length (committed j)) ≡ nat_le n (last_change j) = same_bound j.base n (length (committed j)) above in
+      rw low (given ∙ at ∙ within ∙ same)
+  | inr below ↦
+      let none = ap is_some (find-below (j.base + 1) (committed j) n h.commits (omega arith)) in
+      let low : nat_lt j.base n ≡ false = le-ltb j.base n below in
+      rw low (is_some-option_map (find (λ c. c.number == n) (committed j)) ∙ none)
+]
+  where
+    same_bound : (b n l : ℕ) → b < n → nat_lt (n - b - 1) l ≡ nat_le n (b + l)
+    same_bound b n l above = grind (arith, nat_tests)
 
 -- ---- the change with a number
 
@@ -118,48 +136,64 @@ some_from_is_some : (o : Option Change) → is_some o ≡ true → (c : Change) 
 some_from_is_some None h = cc h
 some_from_is_some (Some c) h = (c, refl)
 
-pub no_change : (es : List Event) (n : ℕ) → IsNumbered es → is_change es n ≡ false → change_of es n ≡ None
-no_change es n h absent = none_from_is_some (change_of es n) (is_some-change_of es n h ∙ absent)
+pub no_change : (j : Journal) (n : ℕ) → IsNumbered j → (nat_lt j.base n && nat_le n (last_change j)) ≡ false → change_of j n ≡ None
+no_change j n h absent = none_from_is_some (change_of j n) (is_some-change_of j n h ∙ absent)
 
-pub some_change : (es : List Event) (n : ℕ) → IsNumbered es → is_change es n ≡ true → (c : Change) × (change_of es n ≡ Some c)
-some_change es n h there = some_from_is_some (change_of es n) (is_some-change_of es n h ∙ there)
+pub some_change : (j : Journal) (n : ℕ) → IsNumbered j → j.base < n → n ≤ last_change j → (c : Change) × (change_of j n ≡ Some c)
+some_change j n h above within =
+    some_from_is_some (change_of j n) (is_some-change_of j n h ∙ both (lt-ltb j.base n above) (le-leb n (last_change j) within))
+  where
+    both : {a b : Bool} → a ≡ true → b ≡ true → (a && b) ≡ true
+    both p q = rw (p, q) refl
+
+-- the number of a change of the journal
+pub within_journal : (j : Journal) (n : ℕ) (c : Change) → IsNumbered j → change_of j n ≡ Some c → (j.base < n) × (n ≤ last_change j)
+within_journal j n c h is_c =
+    let there : (nat_lt j.base n && nat_le n (last_change j)) ≡ true = sym (is_some-change_of j n h) ∙ ap is_some is_c in
+    (grind (arith, nat_tests), grind (arith, nat_tests))
 
 -- the changes so far keep their numbers
-pub change_of-push : (es : List Event) (e : Event) (n : ℕ) (c : Change) → change_of es n ≡ Some c → change_of (es ++ e ∷ []) n ≡ Some c
-change_of-push es e n c h =
-    let same = ap (λ ns. find (λ c. c.number == n) ns) (committed-append es (e ∷ [])) in
-    let parts = find-append (λ (c : Numbered). c.number == n) (committed es) (committed (e ∷ [])) in
-    rw (same, parts) (first_one (find (λ c. c.number == n) (committed es)) (find (λ c. c.number == n) (committed (e ∷ []))) c h)
+pub change_of-push : (j : Journal) (k : ℕ) (e : Event) (n : ℕ) (c : Change) → change_of j n ≡ Some c → change_of (posted j k e) n ≡ Some c
+change_of-push j k e n c h =
+    let one : List Entry = record { at = k; event = e } ∷ [] in
+    let same = ap (λ ns. find (λ c. c.number == n) ns) (filter_map-append (λ x. commit_of x.event) j.entries one) in
+    let parts = find-append (λ (c : Numbered). c.number == n) (committed j) (filter_map (λ x. commit_of x.event) one) in
+    rw (same, parts) (first_one (find (λ c. c.number == n) (committed j)) (find (λ c. c.number == n) (filter_map (λ x. commit_of x.event) one)) c h)
 
-pub change_of-Commit : (es : List Event) (n : ℕ) (c : Change) → IsNumbered es → n ≡ change_count es + 1
-    → change_of (es ++ Commit n c ∷ []) n ≡ Some c
-change_of-Commit es n c h next =
-    let absent : is_change es n ≡ false = grind (arith, nat_tests) in
-    let is_there = is_some-change_of es n h in
-    let same = ap (λ ns. find (λ c. c.number == n) ns) (committed-Commit es n c) in
-    let parts = find-append (λ (c : Numbered). c.number == n) (committed es) (record { number = n; change = c } ∷ []) in
-    rw (same, parts, eq-eqb n n refl) (other_one (find (λ c. c.number == n) (committed es)) (Some (record { number = n; change = c })) (is_there ∙ absent))
+pub change_of-Commit : (j : Journal) (k n : ℕ) (c : Change) → IsNumbered j → n ≡ last_change j + 1
+    → change_of (posted j k (Commit n c)) n ≡ Some c
+change_of-Commit j k n c h next =
+    let absent : (nat_lt j.base n && nat_le n (last_change j)) ≡ false = rw (lt-leb n (last_change j) (omega arith)) (and_right (nat_lt j.base n) false refl) in
+    let is_there = is_some-change_of j n h in
+    let same = ap (λ ns. find (λ c. c.number == n) ns) (committed-Commit j k n c) in
+    let parts = find-append (λ (c : Numbered). c.number == n) (committed j) (record { number = n; change = c } ∷ []) in
+    rw (same, parts, eq-eqb n n refl) (other_one (find (λ c. c.number == n) (committed j)) (Some (record { number = n; change = c })) (is_there ∙ absent))
 
 -- ---- a history stays numbered
 
-pub IsNumbered-push : (es : List Event) (e : Event) → IsNumbered es → ComesNext es e → IsNumbered (es ++ e ∷ [])
-IsNumbered-push es (Commit n c) h fits =
-    let count = change_count-Commit es n c in
-    let top = final_number-push es (Commit n c) in
-    let below = h.last_final in
-    record {
-      commits = rw (committed-Commit es n c) (CountsFrom-push 1 (committed es) (record { number = n; change = c }) h.commits (omega arith));
-      last_final = rw top (omega arith);
-    }
-IsNumbered-push es (Undo n) h fits = record {
-  commits = rw (committed-Undo es n) h.commits;
-  last_final = rw (final_number-push es (Undo n), change_count-Undo es n) h.last_final;
+pub IsNumbered-push : (j : Journal) (e : Entry) → IsNumbered j → ComesNext j e → IsNumbered (posted j e.at e.event)
+IsNumbered-push j e h next = record {
+  events = AscendFrom-push 0 j.entries e h.events next.above;
+  commits = commits e.event next.fits;
+  first_final = first_final e.event next.fits;
+  last_final = last_final e.event next.fits;
 }
-IsNumbered-push es (Redo n) h fits = record {
-  commits = rw (committed-Redo es n) h.commits;
-  last_final = rw (final_number-push es (Redo n), change_count-Redo es n) h.last_final;
-}
-IsNumbered-push es (Empty n) h fits = record {
-  commits = rw (committed-Empty es n) h.commits;
-  last_final = rw (final_number-push es (Empty n), change_count-Empty es n) fits.1;
-}
+  where
+    commits : (event : Event) → Fits j event → CountsFrom (j.base + 1) (committed (posted j e.at event))
+    commits (Commit n c) fits =
+        rw (committed-Commit j e.at n c) (CountsFrom-push (j.base + 1) (committed j) (record { number = n; change = c }) h.commits (omega arith))
+    commits (Undo n) fits = rw (committed-Undo j e.at n) h.commits
+    commits (Redo n) fits = rw (committed-Redo j e.at n) h.commits
+    commits (Empty n) fits = rw (committed-Empty j e.at n) h.commits
+
+    first_final : (event : Event) → Fits j event → j.base ≤ final_number (posted j e.at event)
+    first_final (Commit n c) fits = rw (final_number-push j e.at (Commit n c)) h.first_final
+    first_final (Undo n) fits = rw (final_number-push j e.at (Undo n)) h.first_final
+    first_final (Redo n) fits = rw (final_number-push j e.at (Redo n)) h.first_final
+    first_final (Empty n) fits = rw (final_number-push j e.at (Empty n)) (omega (arith, h.first_final, fits.0))
+
+    last_final : (event : Event) → Fits j event → final_number (posted j e.at event) ≤ last_change (posted j e.at event)
+    last_final (Commit n c) fits = rw (final_number-push j e.at (Commit n c), last_change-Commit j e.at n c) (omega (arith, h.last_final))
+    last_final (Undo n) fits = rw (final_number-push j e.at (Undo n), last_change-Undo j e.at n) h.last_final
+    last_final (Redo n) fits = rw (final_number-push j e.at (Redo n), last_change-Redo j e.at n) h.last_final
+    last_final (Empty n) fits = rw (final_number-push j e.at (Empty n), last_change-Empty j e.at n) fits.1

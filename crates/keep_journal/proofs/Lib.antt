@@ -1,5 +1,5 @@
 pub mod Chosen
 pub mod Commits
 pub mod Kept
+pub mod Numbers
 pub mod Standings
-pub mod Statuses

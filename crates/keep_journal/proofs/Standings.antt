@@ -1,6 +1,6 @@
 -- What one more event makes of the standings.
-use Rattle.std.proofs.Common.{◌≡◌, ℕ, zero, suc, ◌+◌, ◌-◌, ◌<◌, ◌≤◌, ◌==◌, ◌≢◌, Bool, true, false, ◌&&◌, ◌||◌, not, List, [], ◌∷◌, ◌++◌, length, set, get_or, cond, Option, Some, None, inl, inr, refl, sym, ap, ◌∙◌, arith, length-set, Bor, subst}
-use Rattle.std.proofs.lemmas.Bool.{cases_eq, cases_lt, cond-false, cond-true, eq-eqb, ne_eqb}
+use Rattle.std.proofs.Common.{◌≡◌, ℕ, zero, suc, ◌+◌, ◌-◌, ◌<◌, ◌≤◌, ◌==◌, ◌≢◌, nat_lt, Bool, true, false, ◌&&◌, ◌||◌, not, List, [], ◌∷◌, ◌++◌, length, set, get_or, cond, Option, Some, None, inl, inr, refl, sym, ap, ◌∙◌, arith, length-set, Bor, subst}
+use Rattle.std.proofs.lemmas.Bool.{and_right, cases_eq, cases_lt, cond-false, cond-true, eq-eqb, le-ltb, lt-leb, ne_eqb}
 use Rattle.std.proofs.lemmas.Bool.Decides.{nat_tests}
 use Rattle.std.proofs.lemmas.List.{length_push}
 use Rattle.std.proofs.lemmas.Option.{same_Some, slice_get_read, slice_get_within}
@@ -8,12 +8,14 @@ use Rattle.std.specs.List.{slice_get}
 use Rattle.std.specs.Option.{MatchOption, option_copied}
 use Rattle.std.specs.Slice.{IsItemAt}
 use Rattle.keep_change.specs.declared.change.Change.{Change}
-use Rattle.keep_journal.specs.History.{change_count, change_of, in_force_after, is_in_force, final_after, ComesNext, IsNumbered}
-use Rattle.keep_journal.specs.Standings.{AreStandings, IsStandingOf, IsUpToDate}
+use Rattle.keep_journal.specs.History.{last_change, change_of, final_after, in_force_after, is_in_force, ComesNext, Fits, IsNumbered}
+use Rattle.keep_journal.specs.Journal.{Journal, posted}
+use Rattle.keep_journal.specs.Standings.{AreStandings, IsStandingOf, IsUpToDate, journal_of, last_after}
+use Rattle.keep_journal.specs.declared.event.Entry.{Entry}
 use Rattle.keep_journal.specs.declared.event.Event.{Event}
 use Rattle.keep_journal.specs.declared.event.Event.TheVariants.{Commit, Undo, Redo, Empty}
 use Rattle.keep_journal.specs.declared.history.Standing.{Standing}
-use Rattle.keep_journal.proofs.Commits.{change_count-Commit, change_count-Empty, change_count-Redo, change_count-Undo, change_of-Commit, change_of-push, final_number-push, is_in_force-push, IsNumbered-push, no_change}
+use Rattle.keep_journal.proofs.Commits.{last_change-Commit, last_change-Empty, last_change-Redo, last_change-Undo, change_of-Commit, change_of-push, final_number-push, is_in_force-push, IsNumbered-push, no_change, some_change}
 
 -- ---- elements of a longer or written list
 
@@ -46,13 +48,14 @@ slice_get-set_other (z ∷ xs) (suc i) (suc k) y ne = slice_get-set_other xs i k
 -- ---- one standing
 
 -- the event leaves the change's place, and may turn whether it is in force
-IsStandingOf-push : (es : List Event) (e : Event) (n : ℕ) (s t : Standing) → IsStandingOf es n s
-    → t.place ≡ s.place → t.in_force ≡ in_force_after n (is_in_force es n) e → IsStandingOf (es ++ e ∷ []) n t
-IsStandingOf-push es e n s t stands place in_force = record {
+IsStandingOf-push : (j : Journal) (k : ℕ) (e : Event) (n : ℕ) (s t : Standing) → IsStandingOf j n s
+    → t.place ≡ s.place → t.in_force ≡ in_force_after n (is_in_force j n) e → IsStandingOf (posted j k e) n t
+IsStandingOf-push j k e n s t stands place in_force = record {
   change = stands.change;
-  place = rw place (slice_get-append es (e ∷ []) s.place (Commit n stands.change) stands.place);
-  numbered = change_of-push es e n stands.change stands.numbered;
-  in_force = in_force ∙ sym (is_in_force-push es e n);
+  at = stands.at;
+  place = rw place (slice_get-append j.entries (record { at = k; event = e } ∷ []) s.place (record { at = stands.at; event = Commit n stands.change }) stands.place);
+  numbered = change_of-push j k e n stands.change stands.numbered;
+  in_force = in_force ∙ sym (is_in_force-push j k e n);
 }
 
 -- ---- all of them
@@ -66,57 +69,61 @@ or_same n b = rw (eq-eqb n n refl) refl
 last_one : (ss : List Standing) (new : Standing) (i : ℕ) (s : Standing) → i ≡ length ss → slice_get (ss ++ new ∷ []) i ≡ Some s → s ≡ new
 last_one ss new i s e at = same_Some s new (sym at ∙ ap (slice_get (ss ++ new ∷ [])) e ∙ slice_get-end ss new)
 
-pub AreStandings-Commit : (es : List Event) (ss : List Standing) (n : ℕ) (c : Change) → IsNumbered es → AreStandings es ss → n ≡ change_count es + 1
-    → AreStandings (es ++ Commit n c ∷ []) (ss ++ record { place = length es; in_force = true } ∷ [])
-AreStandings-Commit es ss n c h all next =
+pub AreStandings-Commit : (j : Journal) (ss : List Standing) (k n : ℕ) (c : Change) → IsNumbered j → AreStandings j ss → n ≡ last_change j + 1
+    → AreStandings (posted j k (Commit n c)) (ss ++ record { place = length j.entries; in_force = true } ∷ [])
+AreStandings-Commit j ss k n c h all next =
     let count = all.count in
-    let new : Standing = record { place = length es; in_force = true } in
+    let new : Standing = record { place = length j.entries; in_force = true } in
+    let longer = length_push ss new in
+    let more = last_change-Commit j k n c in
     record {
-      count = length_push ss new ∙ ap (λ k. k + 1) count ∙ sym (change_count-Commit es n c);
+      count = omega (arith, count, longer, more);
       each = λ i s at.
           elim (cases_lt i (length ss)) [
             | inl below ↦
                 let before : slice_get ss i ≡ Some s = sym (slice_get_before ss (new ∷ []) i below) ∙ at in
                 let stands = all.each i s before in
-                IsStandingOf-push es (Commit n c) (i + 1) s s stands refl
-                (stands.in_force ∙ sym (or_other n (i + 1) (is_in_force es (i + 1)) (λ e. omega arith)))
+                IsStandingOf-push j k (Commit n c) (j.base + i + 1) s s stands refl
+                (stands.in_force ∙ sym (or_other n (j.base + i + 1) (is_in_force j (j.base + i + 1)) (λ e. omega arith)))
             | inr above ↦
                 let within = slice_get_within (ss ++ new ∷ []) i s at in
-                let long = length_push ss new in
                 let top : i ≡ length ss = omega arith in
                 let same : s ≡ new = last_one ss new i s top at in
-                let number : i + 1 ≡ n = omega arith in
+                let number : j.base + i + 1 ≡ n = omega arith in
                 rw (number, same) (record {
                   change = c;
-                  place = slice_get-end es (Commit n c);
-                  numbered = change_of-Commit es n c h next;
-                  in_force = sym (is_in_force-push es (Commit n c) n ∙ or_same n (is_in_force es n));
+                  at = k;
+                  place = slice_get-end j.entries (record { at = k; event = Commit n c });
+                  numbered = change_of-Commit j k n c h next;
+                  in_force = sym (is_in_force-push j k (Commit n c) n ∙ or_same n (is_in_force j n));
                 })
           ];
     }
 
--- the standing of change n is written, and all others stay
-AreStandings-set : (es : List Event) (e : Event) (ss : List Standing) (n : ℕ) (s t : Standing) (b : Bool) → AreStandings es ss
-    → (0 < n) × (n ≤ change_count es) → s ≡ get_or ss (n - 1) s → t.place ≡ s.place → t.in_force ≡ b
-    → change_count (es ++ e ∷ []) ≡ change_count es → ((m : ℕ) (was : Bool) → in_force_after m was e ≡ cond (n == m) b was)
-    → AreStandings (es ++ e ∷ []) (set ss (n - 1) t)
-AreStandings-set es e ss n s t b all fits read place in_force count turns =
+-- the standing at a place is written, and all others stay
+AreStandings-set : (j : Journal) (k : ℕ) (e : Event) (ss : List Standing) (n p : ℕ) (s t : Standing) (b : Bool) → AreStandings j ss
+    → j.base + p + 1 ≡ n → p < length ss → s ≡ get_or ss p s → t.place ≡ s.place → t.in_force ≡ b
+    → last_change (posted j k e) ≡ last_change j → ((m : ℕ) (was : Bool) → in_force_after m was e ≡ cond (n == m) b was)
+    → AreStandings (posted j k e) (set ss p t)
+AreStandings-set j k e ss n p s t b all number within read place in_force count turns =
     let counted = all.count in
     record {
-      count = length-set ss (n - 1) t ∙ counted ∙ sym count;
+      count = ap (λ l. j.base + l) (length-set ss p t) ∙ counted ∙ sym count;
       each = λ i u at.
-          elim (cases_eq i (n - 1)) [
+          elim (cases_eq i p) [
             | inl same ↦
-                let number : i + 1 ≡ n = omega arith in
-                let was : slice_get ss i ≡ Some s = slice_get_read ss (length ss) i s refl (omega arith) (read ∙ ap (λ k. get_or ss k s) (sym same)) in
-                let new : u ≡ t = slice_get-set_same ss i u t (ap (λ k. slice_get (set ss k t) i) same ∙ at) in
-                rw new (IsStandingOf-push es e (i + 1) s t (all.each i s was) place
-                (in_force ∙ sym (turns (i + 1) (is_in_force es (i + 1)) ∙ cond-true (n == i + 1) b (is_in_force es (i + 1)) (eq-eqb n (i + 1) (sym number)))))
+                let there : j.base + i + 1 ≡ n = omega arith in
+                let was : slice_get ss i ≡ Some s = slice_get_read ss (length ss) i s refl (omega arith) (read ∙ ap (λ x. get_or ss x s) (sym same)) in
+                let new : u ≡ t = slice_get-set_same ss i u t (ap (λ x. slice_get (set ss x t) i) same ∙ at) in
+                rw new (IsStandingOf-push j k e (j.base + i + 1) s t (all.each i s was) place
+                (in_force ∙ sym (turns (j.base + i + 1) (is_in_force j (j.base + i + 1))
+                ∙ cond-true (n == j.base + i + 1) b (is_in_force j (j.base + i + 1)) (eq-eqb n (j.base + i + 1) (sym there)))))
             | inr other ↦
-                let was : slice_get ss i ≡ Some u = sym (slice_get-set_other ss (n - 1) i t other) ∙ at in
+                let was : slice_get ss i ≡ Some u = sym (slice_get-set_other ss p i t other) ∙ at in
                 let stands = all.each i u was in
-                IsStandingOf-push es e (i + 1) u u stands refl
-                (stands.in_force ∙ sym (turns (i + 1) (is_in_force es (i + 1)) ∙ cond-false (n == i + 1) b (is_in_force es (i + 1)) (ne_eqb n (i + 1) (λ e. other (omega arith)))))
+                IsStandingOf-push j k e (j.base + i + 1) u u stands refl
+                (stands.in_force ∙ sym (turns (j.base + i + 1) (is_in_force j (j.base + i + 1))
+                ∙ cond-false (n == j.base + i + 1) b (is_in_force j (j.base + i + 1)) (ne_eqb n (j.base + i + 1) (λ e. other (omega arith)))))
           ];
     }
 
@@ -126,48 +133,99 @@ undo_turns n m was = elim (n == m) as (λ b. (not b && was) ≡ cond b false was
 redo_turns : (n m : ℕ) (was : Bool) → in_force_after m was (Redo n) ≡ cond (n == m) true was
 redo_turns n m was = elim (n == m) as (λ b. (b || was) ≡ cond b true was) [ true ↦ refl | false ↦ refl ]
 
-pub AreStandings-Undo : (es : List Event) (ss : List Standing) (n : ℕ) (s : Standing) → AreStandings es ss
-    → (0 < n) × (n ≤ change_count es) → s ≡ get_or ss (n - 1) s
-    → AreStandings (es ++ Undo n ∷ []) (set ss (n - 1) (record { place = s.place; in_force = false }))
-AreStandings-Undo es ss n s all fits read =
-    AreStandings-set es (Undo n) ss n s (record { place = s.place; in_force = false }) false all fits read refl refl (change_count-Undo es n) (undo_turns n)
+pub AreStandings-Undo : (j : Journal) (ss : List Standing) (k n p : ℕ) (s : Standing) → AreStandings j ss
+    → j.base + p + 1 ≡ n → p < length ss → s ≡ get_or ss p s
+    → AreStandings (posted j k (Undo n)) (set ss p (record { place = s.place; in_force = false }))
+AreStandings-Undo j ss k n p s all number within read =
+    AreStandings-set j k (Undo n) ss n p s (record { place = s.place; in_force = false }) false all number within read refl refl (last_change-Undo j k n) (undo_turns n)
 
-pub AreStandings-Redo : (es : List Event) (ss : List Standing) (n : ℕ) (s : Standing) → AreStandings es ss
-    → (0 < n) × (n ≤ change_count es) → s ≡ get_or ss (n - 1) s
-    → AreStandings (es ++ Redo n ∷ []) (set ss (n - 1) (record { place = s.place; in_force = true }))
-AreStandings-Redo es ss n s all fits read =
-    AreStandings-set es (Redo n) ss n s (record { place = s.place; in_force = true }) true all fits read refl refl (change_count-Redo es n) (redo_turns n)
+pub AreStandings-Redo : (j : Journal) (ss : List Standing) (k n p : ℕ) (s : Standing) → AreStandings j ss
+    → j.base + p + 1 ≡ n → p < length ss → s ≡ get_or ss p s
+    → AreStandings (posted j k (Redo n)) (set ss p (record { place = s.place; in_force = true }))
+AreStandings-Redo j ss k n p s all number within read =
+    AreStandings-set j k (Redo n) ss n p s (record { place = s.place; in_force = true }) true all number within read refl refl (last_change-Redo j k n) (redo_turns n)
 
-pub AreStandings-Empty : (es : List Event) (ss : List Standing) (n : ℕ) → AreStandings es ss
-    → AreStandings (es ++ Empty n ∷ []) ss
-AreStandings-Empty es ss n all = record {
-  count = all.count ∙ sym (change_count-Empty es n);
-  each = λ i s at. IsStandingOf-push es (Empty n) (i + 1) s s (all.each i s at) refl (all.each i s at).in_force;
+pub AreStandings-Empty : (j : Journal) (ss : List Standing) (k n : ℕ) → AreStandings j ss
+    → AreStandings (posted j k (Empty n)) ss
+AreStandings-Empty j ss k n all = record {
+  count = all.count ∙ sym (last_change-Empty j k n);
+  each = λ i s at. IsStandingOf-push j k (Empty n) (j.base + i + 1) s s (all.each i s at) refl (all.each i s at).in_force;
 }
 
 -- ---- what a history keeps
 
-pub IsUpToDate-push : (es : List Event) (e : Event) (ss ts : List Standing) (top : ℕ) → IsUpToDate es ss top → ComesNext es e
-    → AreStandings (es ++ e ∷ []) ts → IsUpToDate (es ++ e ∷ []) ts (final_after top e)
-IsUpToDate-push es e ss ts top h fits all = record {
-  numbered = IsNumbered-push es e h.numbered fits;
-  standings = all;
-  last_final = ap (λ k. final_after k e) h.last_final ∙ sym (final_number-push es e);
-}
+last_after-push : (j : Journal) (k : ℕ) (e : Event) (last : ℕ) → Fits j e → last ≡ last_change j → last_after last e ≡ last_change (posted j k e)
+last_after-push j k (Commit n c) last fits counted = fits ∙ sym (last_change-Commit j k n c)
+last_after-push j k (Undo n) last fits counted = counted ∙ sym (last_change-Undo j k n)
+last_after-push j k (Redo n) last fits counted = counted ∙ sym (last_change-Redo j k n)
+last_after-push j k (Empty n) last fits counted = counted ∙ sym (last_change-Empty j k n)
+
+-- what the fields show after the event is the journal with it
+pub shown_after : (last : ℕ) (entries : List Entry) (e : Entry) (ss ts : List Standing) (top : ℕ)
+    → IsUpToDate (journal_of last (length ss) entries) ss top last → ComesNext (journal_of last (length ss) entries) e
+    → AreStandings (posted (journal_of last (length ss) entries) e.at e.event) ts
+    → journal_of (last_after last e.event) (length ts) (entries ++ e ∷ []) ≡ posted (journal_of last (length ss) entries) e.at e.event
+shown_after last entries e ss ts top h next all =
+    let j : Journal = journal_of last (length ss) entries in
+    let counted = last_after-push j e.at e.event last next.fits h.counted in
+    let count = all.count in
+    let same_base : last_after last e.event - length ts ≡ last - length ss = omega (arith, counted, count) in
+    rw same_base refl
+
+pub IsUpToDate-push : (last : ℕ) (entries : List Entry) (e : Entry) (ss ts : List Standing) (top : ℕ)
+    → IsUpToDate (journal_of last (length ss) entries) ss top last → ComesNext (journal_of last (length ss) entries) e
+    → AreStandings (posted (journal_of last (length ss) entries) e.at e.event) ts
+    → IsUpToDate (journal_of (last_after last e.event) (length ts) (entries ++ e ∷ [])) ts (final_after top e.event) (last_after last e.event)
+IsUpToDate-push last entries e ss ts top h next all =
+    let j : Journal = journal_of last (length ss) entries in
+    rw (shown_after last entries e ss ts top h next all) (record {
+      numbered = IsNumbered-push j e h.numbered next;
+      standings = all;
+      last_final = ap (λ k. final_after k e.event) h.last_final ∙ sym (final_number-push j e.at e.event);
+      counted = last_after-push j e.at e.event last next.fits h.counted;
+    })
 
 -- ---- looking one up
 
-pub standing_at : (es : List Event) (ss : List Standing) (n : ℕ) (r : Option (Bor Standing)) → IsNumbered es → AreStandings es ss → 0 < n
-    → IsItemAt ss (n - 1) r → MatchOption (option_copied r) (change_of es n ≡ None) (λ s. IsStandingOf es n s)
-standing_at es ss n None h all pos item =
-    let count = all.count in
-    let past : length ss ≤ n - 1 = item.3 in
-    no_change es n h (grind (arith, nat_tests))
-standing_at es ss n (Some s) h all pos item =
-    let within : n - 1 < length ss = item.3.0 in
-    let number : n - 1 + 1 ≡ n = omega arith in
-    let at = slice_get_read ss (length ss) (n - 1) s.now refl within item.1 in
-    let found = all.each (n - 1) s.now at in
-    subst (λ (k : ℕ). IsStandingOf es k s.now) number found
+-- the place of change n among the last so many, counted back from the last one
+pub number_at : (last : ℕ) (entries : List Entry) (ss : List Standing) (top n p : ℕ) → IsUpToDate (journal_of last (length ss) entries) ss top last
+    → n ≤ last_change (journal_of last (length ss) entries) → p + last + 1 ≡ length ss + n
+    → (last - length ss + p + 1 ≡ n) × (p < length ss)
+number_at last entries ss top n p h within at =
+    let count = h.standings.count in
+    let counted = h.counted in
+    (omega (arith, count, counted, at), omega (arith, count, counted, at, within))
 
-pub ruleset looked_up = (no_change, standing_at)
+-- a number above the last change, or up to what was final when the history began, is no change's
+pub none_above : (last : ℕ) (entries : List Entry) (ss : List Standing) (top n : ℕ) → IsUpToDate (journal_of last (length ss) entries) ss top last
+    → last < n → change_of (journal_of last (length ss) entries) n ≡ None
+none_above last entries ss top n h above =
+    let counted = h.counted in
+    no_change _ n h.numbered (rw (lt-leb n (last_change (journal_of last (length ss) entries)) (omega (arith, counted))) (and_right (nat_lt (last - length ss) n) false refl))
+
+pub none_below : (last : ℕ) (entries : List Entry) (ss : List Standing) (top n : ℕ) → IsUpToDate (journal_of last (length ss) entries) ss top last
+    → n + length ss ≤ last → change_of (journal_of last (length ss) entries) n ≡ None
+none_below last entries ss top n h below = no_change _ n h.numbered (rw (le-ltb (last - length ss) n (omega arith)) refl)
+
+-- the change at a place, counted from the last one back
+pub standing_at : (j : Journal) (ss : List Standing) (n p : ℕ) (r : Option (Bor Standing)) → IsNumbered j → AreStandings j ss
+    → j.base + p + 1 ≡ n → IsItemAt ss p r → MatchOption (option_copied r) (change_of j n ≡ None) (λ s. IsStandingOf j n s)
+standing_at j ss n p None h all number item =
+    let count = all.count in
+    let past : length ss ≤ p = item.3 in
+    no_change j n h (grind (arith, nat_tests))
+standing_at j ss n p (Some s) h all number item =
+    let within : p < length ss = item.3.0 in
+    let at = slice_get_read ss (length ss) p s.now refl within item.1 in
+    let found = all.each p s.now at in
+    subst (λ (x : ℕ). IsStandingOf j x s.now) number found
+
+-- a change that isn't final is in the journal
+pub not_missing : (last : ℕ) (entries : List Entry) (ss : List Standing) (top n : ℕ) → IsUpToDate (journal_of last (length ss) entries) ss top last
+    → top < n → n ≤ last → change_of (journal_of last (length ss) entries) n ≡ None → ⊥
+not_missing last entries ss top n h above within none =
+    let first = h.numbered.first_final in
+    let final = h.last_final in
+    let counted = h.counted in
+    let there = some_change _ n h.numbered (omega (arith, first, final)) (omega (arith, counted)) in
+    cc (there.1, none)

@@ -1,5 +1,6 @@
 -- What an event is about, and what it did.
-use Rattle.std.specs.Prelude.{ℕ}
+use Rattle.std.specs.Prelude.{ℕ, Option, Some, None}
+use Rattle.keep_change.specs.Fold.{Numbered}
 use Rattle.keep_change.specs.declared.outline.What.{What}
 use Rattle.keep_change.specs.declared.outline.What.TheVariants as what
 use Rattle.keep_journal.specs.declared.event.Event.{Event}
@@ -18,3 +19,8 @@ what_of (Commit n c) = what.Commit
 what_of (Undo n) = what.Undo
 what_of (Redo n) = what.Redo
 what_of (Empty n) = what.Empty
+
+-- the change that the event made for the first time
+abbrev pub commit_of : Event → Option Numbered
+commit_of (Commit n c) = Some (record { number = n; change = c })
+commit_of _ = None

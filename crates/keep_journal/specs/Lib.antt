@@ -1,5 +1,5 @@
 pub mod Event
 pub mod History
+pub mod Journal
 pub mod Kept
-pub mod Recorded
 pub mod Standings

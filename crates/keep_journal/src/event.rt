@@ -41,3 +41,10 @@ impl Event {
         }
     }
 }
+
+/// An event under its own number. Numbers ascend from above 0, and some may be missing.
+#[derive(Debug, Drop)]
+pub struct Entry {
+    pub at: u64,
+    pub event: Event,
+}

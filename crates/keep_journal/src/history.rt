@@ -1,6 +1,6 @@
-ghost use Rattle.std.specs.Prelude.{◌≡◌, ◌<◌, ◌≤◌, ◌++◌, ◌∷◌, [], length, is_some, MatchOption, OnOk, vec_len, vec_capacity, option_copied};
+ghost use Rattle.std.specs.Prelude.{◌≡◌, ◌<◌, ◌≤◌, ◌++◌, ◌∷◌, [], length, IsSome, IsTrue, MatchOption, OnOk, vec_len, vec_capacity, option_copied};
 
-use crate::event::Event;
+use crate::event::{Entry, Event};
 use keep_change::Change;
 use std::alloc::{AllocError, Global};
 use std::marker::Model;
@@ -16,96 +16,115 @@ pub enum Status {
     Undone,
 }
 
-/// Where a change stands among the events, and whether it is in force.
+/// Where the commit of a change stands among the entries, and whether the change is in force.
 #[derive(Clone, Copy, Debug)]
 struct Standing {
     place: usize,
     in_force: bool,
 }
 
-/// All events so far, numbered 1, 2, 3 and on. So are the changes, in the order of their commits.
+/// The events of a repository in their order, each under its own number, and what became of each
+/// change.
 #[derive(Debug, Drop)]
 pub struct History {
-    events: Vec<Event>,
+    entries: Vec<Entry>,
+    /// Of the last changes, by number.
     standings: Vec<Standing>,
     final_number: u64,
+    last_change: u64,
 }
 
 impl Model for History {
-    ghost use Rattle.std.specs.Prelude.{◌-◌, min, vec_len, vec_capacity};
-    ghost use Rattle.keep_journal.specs.Recorded.{Recorded};
+    ghost use Rattle.std.specs.Prelude.{◌-◌, length, min, vec_len, vec_capacity};
+    ghost use Rattle.keep_journal.specs.Journal.{Recorded};
 
     ghost Value = { Recorded };
 
-    ghost use Rattle.keep_journal.specs.Standings.{IsUpToDate};
+    ghost use Rattle.keep_journal.specs.Standings.{IsUpToDate, journal_of};
 
-    ghost view = { λ h. record { events = h.events.items; room = min (vec_capacity h.events - vec_len h.events) (vec_capacity h.standings - vec_len h.standings) } };
+    ghost view = { λ h. record {
+      journal = journal_of h.last_change (length h.standings.items) h.entries.items;
+      room = min
+          (vec_capacity h.entries - vec_len h.entries)
+          (vec_capacity h.standings - vec_len h.standings);
+    } };
 
-    ghost invariant = { λ h. IsUpToDate h.events.items h.standings.items h.final_number };
+    ghost invariant = { λ h. IsUpToDate
+        (journal_of h.last_change (length h.standings.items) h.entries.items)
+        h.standings.items h.final_number h.last_change };
 }
 
 impl History {
-    ghost use Rattle.keep_journal.specs.History.{change_count, change_of, final_number, status_of, is_change, ComesNext, IsNumbered};
+    ghost use Rattle.keep_journal.specs.History.{change_of, final_number, is_change, last_change, length_of, status_of, ComesNext, IsNumbered};
+    ghost use Rattle.keep_journal.specs.Journal.{Journal, posted};
     ghost use Rattle.keep_journal.specs.Standings.{IsStandingOf};
 
-    /// The history without events.
-    pub fn new(alloc: Global) -> History
-        ensures { result.events ≡ [] }
+    /// The history without events, in which all changes up to this number are final.
+    pub fn new(alloc: Global, final_number: u64) -> History
+        ensures { result.journal ≡ record { base = final_number; entries = [] } }
     {
         History {
-            events: Vec::new(alloc),
+            entries: Vec::new(alloc),
             standings: Vec::new(alloc),
-            final_number: 0,
+            final_number,
+            last_change: final_number,
         }
     }
 
-    pub fn events(&self) -> &[Event]
-        ensures exact { result.now ≡ self.now.events }
-        ensures numbered { IsNumbered self.now.events }
+    pub fn entries(&self) -> &[Entry]
+        ensures exact { result.now ≡ self.now.journal.entries }
+        ensures numbered { IsNumbered self.now.journal }
     {
-        self.events.as_slice()
+        self.entries.as_slice()
     }
 
     /// The number of the last event, 0 where there is none.
     pub fn length(&self) -> u64
-        ensures { result ≡ length self.now.events }
+        ensures { result ≡ length_of self.now.journal }
     {
-        self.events.len() as u64
+        match self.entries.last() {
+            Some(entry) => entry.at,
+            None => 0,
+        }
     }
 
     /// The number of the last change, 0 where there is none.
-    pub fn change_count(&self) -> u64
-        ensures exact { result ≡ change_count self.now.events }
-        ensures numbered { IsNumbered self.now.events }
+    pub fn last_change(&self) -> u64
+        ensures exact { result ≡ last_change self.now.journal }
+        ensures numbered { IsNumbered self.now.journal }
     {
-        self.standings.len() as u64
+        self.last_change
     }
 
     /// The number of the last change that is final, 0 where none is.
     pub fn final_number(&self) -> u64
-        ensures exact { result ≡ final_number self.now.events }
-        ensures within { result ≤ change_count self.now.events }
+        ensures { result ≡ final_number self.now.journal }
     {
         self.final_number
     }
 
     pub fn status(&self, n: u64) -> Status
-        ensures { result ≡ status_of self.now.events n }
+        ensures { result ≡ status_of self.now.journal n }
     {
+        if n == 0 || self.last_change < n {
+            return Status::Unknown;
+        }
+        if n <= self.final_number {
+            return Status::Final;
+        }
         match self.standing(n) {
-            None => Status::Unknown,
-            Some(_) if n <= self.final_number => Status::Final,
             Some(standing) if standing.in_force => Status::InForce,
-            Some(_) => Status::Undone,
+            _ => Status::Undone,
         }
     }
 
-    /// Change n, if there is one.
+    /// Change n, if the history has it. A change that was final when the history began isn't in it.
     pub fn change(&self, n: u64) -> Option<&Change>
-        ensures exact { option_copied result ≡ change_of self.now.events n }
-        ensures found { is_some result ≡ is_change self.now.events n }
+        ensures exact { option_copied result ≡ change_of self.now.journal n }
+        ensures known { IsSome result → IsTrue (is_change self.now.journal n) }
     {
-        match self.events.get(self.standing(n)?.place)? {
+        let standing = self.standing(n)?;
+        match &self.entries.get(standing.place)?.event {
             Event::Commit(_, change) => Some(change),
             _ => None,
         }
@@ -113,63 +132,94 @@ impl History {
 
     /// Makes room for one more event.
     pub fn reserve(&mut self) -> Result<(), AllocError>
-        ensures same { self.new.events ≡ self.old.events }
+        ensures same { self.new.journal ≡ self.old.journal }
         ensures ok { OnOk result (0 < self.new.room) }
     {
-        self.events.reserve(1)?;
+        self.entries.reserve(1)?;
         self.standings.reserve(1)
     }
 
     /// Appends the event, for which there is room. It takes no memory.
-    pub fn push(&mut self, event: Event)
+    pub fn push(&mut self, entry: Entry)
         requires room { 0 < self.old.room }
-        requires fits { ComesNext self.old.events event }
-        ensures { self.new.events ≡ self.old.events ++ event ∷ [] }
+        requires next { ComesNext self.old.journal entry }
+        ensures { self.new.journal ≡ posted self.old.journal entry.at entry.event }
     {
-        note(&mut self.standings, &self.events, &event);
-        self.final_number = final_after(self.final_number, &event);
-        self.events.push_reserved(event);
+        note(&mut self.standings, &self.entries, self.last_change, &entry);
+        self.final_number = final_after(self.final_number, &entry.event);
+        self.last_change = last_after(self.last_change, &entry.event);
+        self.entries.push_reserved(entry);
     }
 
-    #[tactic(auto, using(crate::proofs::Standings::looked_up))]
     fn standing(&self, n: u64) -> Option<Standing>
-        ensures found { is_some result ≡ is_change self.now.events n }
-        ensures exact { MatchOption result (change_of self.now.events n ≡ None) (λ s. IsStandingOf self.now.events n s) }
+        ensures { MatchOption result
+            (change_of self.now.journal n ≡ None)
+            (λ s. IsStandingOf self.now.journal n s) }
     {
-        let standings = self.standings.as_slice();
-        let place = n.checked_sub(1)?;
-        standings.get(place as usize).copied()
+        let later = self.last_change.checked_sub(n)? as usize;
+        let up_to = self.standings.len().checked_sub(later)?;
+        let place = up_to.checked_sub(1)?;
+        self.standings.get(place).copied()
     }
 }
 
-ghost use Rattle.keep_journal.specs.History.{final_after as last_final, ComesNext, IsNumbered};
-ghost use Rattle.keep_journal.specs.Standings.{AreStandings};
+ghost use Rattle.std.specs.Prelude.{◌+◌};
+ghost use Rattle.keep_journal.specs.History.{final_after as final_number_after, final_number, ComesNext};
+ghost use Rattle.keep_journal.specs.Journal.{posted};
+ghost use Rattle.keep_journal.specs.Standings.{AreStandings, IsUpToDate, journal_of, last_after as last_change_after};
 
-/// Brings the standings up to date with the event, which comes after these.
-fn note(standings: &mut Vec<Standing>, events: &[Event], event: &Event)
+/// Brings the standings up to date with the entry, which comes after these.
+fn note(standings: &mut Vec<Standing>, entries: &[Entry], last: u64, entry: &Entry)
     requires room { vec_len standings.old < vec_capacity standings.old }
-    requires numbered { IsNumbered events.now }
-    requires standings { AreStandings events.now standings.old.items }
-    requires fits { ComesNext events.now event.now }
-    ensures { AreStandings (events.now ++ event.now ∷ []) standings.new.items }
+    requires kept { IsUpToDate (journal_of last (length standings.old.items) entries.now)
+        standings.old.items (final_number (journal_of last (length standings.old.items) entries.now)) last }
+    requires next { ComesNext (journal_of last (length standings.old.items) entries.now) entry.now }
+    ensures { AreStandings
+        (posted (journal_of last (length standings.old.items) entries.now) entry.now.at entry.now.event)
+        standings.new.items }
 {
-    match event {
+    match &entry.event {
         Event::Commit(_, _) => standings.push_reserved(Standing {
-            place: events.len(),
+            place: entries.len(),
             in_force: true,
         }),
-        Event::Undo(n) => standings[*n as usize - 1].in_force = false,
-        Event::Redo(n) => standings[*n as usize - 1].in_force = true,
+        Event::Undo(n) => {
+            let place = place_of(standings.len(), last, *n);
+            standings[place].in_force = false;
+        }
+        Event::Redo(n) => {
+            let place = place_of(standings.len(), last, *n);
+            standings[place].in_force = true;
+        }
         Event::Empty(_) => {}
     }
 }
 
+/// Where change n stands among the last so many changes.
+fn place_of(count: usize, last: u64, n: u64) -> usize
+    requires there { n ≤ last }
+    requires within { last < n + count }
+    ensures { result + last + 1 ≡ count + n }
+{
+    count - 1 - (last - n) as usize
+}
+
 /// The last final change's number after the event.
 fn final_after(before: u64, event: &Event) -> u64
-    ensures { result ≡ last_final before event.now }
+    ensures { result ≡ final_number_after before event.now }
 {
     match event {
         Event::Empty(number) => *number,
+        _ => before,
+    }
+}
+
+/// The last change's number after the event.
+fn last_after(before: u64, event: &Event) -> u64
+    ensures { result ≡ last_change_after before event.now }
+{
+    match event {
+        Event::Commit(number, _) => *number,
         _ => before,
     }
 }

@@ -6,5 +6,5 @@ mod history;
 #[cfg(test)]
 mod tests;
 
-pub use event::Event;
+pub use event::{Entry, Event};
 pub use history::{History, Status};
