@@ -1,7 +1,4 @@
-pub mod Emptying
-pub mod Folding
 pub mod Looking
-pub mod Making
 pub mod Redoing
 pub mod Replying
 pub mod Restoring

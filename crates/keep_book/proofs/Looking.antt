@@ -1,5 +1,6 @@
 -- What is seen of the later changes, one by one.
-use Rattle.std.proofs.Common.{◌≡◌, ℕ, zero, suc, ◌+◌, ◌≤◌, ◌==◌, Bool, true, false, cond, List, [], ◌∷◌, ◌++◌, Option, Some, None, refl, subst, ap, ◌∙◌, arith}
+use Rattle.std.proofs.Common.{◌≡◌, ℕ, zero, suc, ◌+◌, ◌≤◌, ◌==◌, Bool, true, false, cond, inl, inr, List, [], ◌∷◌, ◌++◌, Option, Some, None, refl, subst, ap, ◌∙◌, arith}
+use Rattle.std.proofs.lemmas.Bool.{cases_lt}
 use Rattle.std.proofs.lemmas.Option.{same_Some}
 use Rattle.std.specs.List.{All, find}
 use Rattle.std.specs.Option.{option_map}
@@ -11,14 +12,13 @@ use Rattle.keep_change.specs.Holdings.{value_at}
 use Rattle.keep_change.specs.Touch.{before_of, leans_on, writes}
 use Rattle.keep_change.specs.declared.change.Change.{Change}
 use Rattle.keep_change.proofs.Records.{RecordAt, no_record, a_record, record_at}
-use Rattle.keep_journal.specs.History.{change_count, change_of, committed, IsNumbered}
+use Rattle.keep_journal.specs.History.{last_change, change_of, committed, IsNumbered}
 use Rattle.keep_journal.specs.Kept.{is_kept, later}
-use Rattle.keep_journal.specs.declared.event.Event.{Event}
+use Rattle.keep_journal.specs.Journal.{Journal}
 use Rattle.keep_journal.proofs.Commits.{some_change}
-use Rattle.keep_journal.proofs.Kept.{later_next, later_none}
-use Rattle.keep_journal.proofs.Statuses.{is_change_from}
-use Rattle.keep_book.specs.Later.{kept_change}
-use Rattle.keep_book.specs.Ledger.{AreWellFormed}
+use Rattle.keep_journal.proofs.Kept.{later_below, later_next, later_none}
+use Rattle.keep_book.specs.Dependents.{kept_change}
+use Rattle.keep_book.specs.BookState.{AreWellFormed}
 
 -- ---- well formed
 
@@ -34,8 +34,8 @@ found_change P p (n ∷ ns) c all e =
     first_or_later false rest is = rest is
 
 -- a change of a history whose changes are well formed is well formed
-pub well_formed_change : (es : List Event) (n : ℕ) (c : Change) → AreWellFormed es → change_of es n ≡ Some c → IsWellFormed c
-well_formed_change es n c formed is_c = found_change IsWellFormed (λ m. m.number == n) (committed es) c formed is_c
+pub well_formed_change : (j : Journal) (n : ℕ) (c : Change) → AreWellFormed j → change_of j n ≡ Some c → IsWellFormed c
+well_formed_change j n c formed is_c = found_change IsWellFormed (λ m. m.number == n) (committed j) c formed is_c
 
 -- ---- kept changes
 
@@ -44,8 +44,8 @@ kept_if_there true o c e = (refl, e)
 kept_if_there false o c e = cc e
 
 -- a kept change is a change
-pub a_kept_change : (es : List Event) (n : ℕ) (c : Change) → kept_change es n ≡ Some c → (is_kept es n ≡ true) × (change_of es n ≡ Some c)
-a_kept_change es n c e = kept_if_there (is_kept es n) (change_of es n) c e
+pub a_kept_change : (j : Journal) (n : ℕ) (c : Change) → kept_change j n ≡ Some c → (is_kept j n ≡ true) × (change_of j n ≡ Some c)
+a_kept_change j n c e = kept_if_there (is_kept j n) (change_of j n) c e
 
 -- ---- the later changes, one by one
 
@@ -54,35 +54,38 @@ next_out true o c ns is_c e x = cc (is_c, e)
 next_out false o c ns is_c e x = refl
 
 -- one that isn't kept is none of them
-pub later_without : (es : List Event) (n k : ℕ) → IsNumbered es → k ≡ n + 1 → k ≤ change_count es → kept_change es k ≡ None → later es n ≡ later es k
-later_without es n k numbered next within e =
-    let there = some_change es k numbered (is_change_from es k (omega arith) within) in
-    later_next es n k there.0 numbered next there.1
-    ∙ next_out (is_kept es k) (change_of es k) there.0 (later es k) there.1 e (record { number = k; change = there.0 })
+pub later_without : (j : Journal) (n k : ℕ) → IsNumbered j → k ≡ n + 1 → k ≤ last_change j → kept_change j k ≡ None → later j n ≡ later j k
+later_without j n k numbered next within e = elim (cases_lt j.base k) [
+  | inl above ↦
+      let there = some_change j k numbered above within in
+      later_next j n k there.0 numbered next there.1
+      ∙ next_out (is_kept j k) (change_of j k) there.0 (later j k) there.1 e (record { number = k; change = there.0 })
+  | inr below ↦ later_below j n k numbered next below
+]
 
 -- and one that is kept is the first of them
-pub later_with : (es : List Event) (n k : ℕ) (c : Change) → IsNumbered es → k ≡ n + 1 → kept_change es k ≡ Some c → later es n ≡ record { number = k; change = c } ∷ later es k
-later_with es n k c numbered next e =
-    let parts = a_kept_change es k c e in
-    later_next es n k c numbered next parts.1
-    ∙ ap (λ b. cond b (record { number = k; change = c } ∷ []) [] ++ later es k) parts.0
+pub later_with : (j : Journal) (n k : ℕ) (c : Change) → IsNumbered j → k ≡ n + 1 → kept_change j k ≡ Some c → later j n ≡ record { number = k; change = c } ∷ later j k
+later_with j n k c numbered next e =
+    let parts = a_kept_change j k c e in
+    later_next j n k c numbered next parts.1
+    ∙ ap (λ b. cond b (record { number = k; change = c } ∷ []) [] ++ later j k) parts.0
 
 -- ---- the first that touches what a change writes
 
-pub leaning_none : (es : List Event) (n : ℕ) (c : Change) → IsNumbered es → change_count es ≤ n → first_leaning c (later es n) ≡ None
-leaning_none es n c numbered end = ap (first_leaning c) (later_none es n numbered end)
+pub leaning_none : (j : Journal) (n : ℕ) (c : Change) → IsNumbered j → last_change j ≤ n → first_leaning c (later j n) ≡ None
+leaning_none j n c numbered end = ap (first_leaning c) (later_none j n numbered end)
 
-pub leaning_without : (es : List Event) (n k : ℕ) (c : Change) → IsNumbered es → k ≡ n + 1 → k ≤ change_count es → kept_change es k ≡ None
-    → first_leaning c (later es n) ≡ first_leaning c (later es k)
-leaning_without es n k c numbered next within e = ap (first_leaning c) (later_without es n k numbered next within e)
+pub leaning_without : (j : Journal) (n k : ℕ) (c : Change) → IsNumbered j → k ≡ n + 1 → k ≤ last_change j → kept_change j k ≡ None
+    → first_leaning c (later j n) ≡ first_leaning c (later j k)
+leaning_without j n k c numbered next within e = ap (first_leaning c) (later_without j n k numbered next within e)
 
-pub leaning_past : (es : List Event) (n k : ℕ) (c d : Change) → IsNumbered es → k ≡ n + 1 → kept_change es k ≡ Some d → leans_on d c ≡ false
-    → first_leaning c (later es n) ≡ first_leaning c (later es k)
-leaning_past es n k c d numbered next e not_leaning = ap (first_leaning c) (later_with es n k d numbered next e) ∙ rw not_leaning refl
+pub leaning_past : (j : Journal) (n k : ℕ) (c d : Change) → IsNumbered j → k ≡ n + 1 → kept_change j k ≡ Some d → leans_on d c ≡ false
+    → first_leaning c (later j n) ≡ first_leaning c (later j k)
+leaning_past j n k c d numbered next e not_leaning = ap (first_leaning c) (later_with j n k d numbered next e) ∙ rw not_leaning refl
 
-pub leaning_found : (es : List Event) (n k : ℕ) (c d : Change) → IsNumbered es → k ≡ n + 1 → kept_change es k ≡ Some d → leans_on d c ≡ true
-    → first_leaning c (later es n) ≡ Some k
-leaning_found es n k c d numbered next e leans = ap (first_leaning c) (later_with es n k d numbered next e) ∙ rw leans refl
+pub leaning_found : (j : Journal) (n k : ℕ) (c d : Change) → IsNumbered j → k ≡ n + 1 → kept_change j k ≡ Some d → leans_on d c ≡ true
+    → first_leaning c (later j n) ≡ Some k
+leaning_found j n k c d numbered next e leans = ap (first_leaning c) (later_with j n k d numbered next e) ∙ rw leans refl
 
 -- ---- what a facet holds at the place
 
@@ -96,19 +99,19 @@ at_one : (d : Change) (ns : List Numbered) (end : Holding) (k : ℕ) (q : Facet)
 at_one d ns end k q e (no_record m a) = cc (e, a)
 at_one d ns end k q e (a_record w m a at_q) = rw m refl
 
-pub value_none : (es : List Event) (n : ℕ) (end : Holding) (q : Facet) → IsNumbered es → change_count es ≤ n → value_at (later es n) end q ≡ end q
-value_none es n end q numbered above = ap (λ ns. value_at ns end q) (later_none es n numbered above)
+pub value_none : (j : Journal) (n : ℕ) (end : Holding) (q : Facet) → IsNumbered j → last_change j ≤ n → value_at (later j n) end q ≡ end q
+value_none j n end q numbered above = ap (λ ns. value_at ns end q) (later_none j n numbered above)
 
-pub value_without : (es : List Event) (n k : ℕ) (end : Holding) (q : Facet) → IsNumbered es → k ≡ n + 1 → k ≤ change_count es → kept_change es k ≡ None
-    → value_at (later es n) end q ≡ value_at (later es k) end q
-value_without es n k end q numbered next within e = ap (λ ns. value_at ns end q) (later_without es n k numbered next within e)
+pub value_without : (j : Journal) (n k : ℕ) (end : Holding) (q : Facet) → IsNumbered j → k ≡ n + 1 → k ≤ last_change j → kept_change j k ≡ None
+    → value_at (later j n) end q ≡ value_at (later j k) end q
+value_without j n k end q numbered next within e = ap (λ ns. value_at ns end q) (later_without j n k numbered next within e)
 
-pub value_past : (es : List Event) (n k : ℕ) (d : Change) (end : Holding) (q : Facet) → IsNumbered es → k ≡ n + 1 → kept_change es k ≡ Some d → writes d q ≡ false
-    → value_at (later es n) end q ≡ value_at (later es k) end q
-value_past es n k d end q numbered next e other =
-    ap (λ ns. value_at ns end q) (later_with es n k d numbered next e) ∙ past_one d (later es k) end k q other (record_at (written d) q)
+pub value_past : (j : Journal) (n k : ℕ) (d : Change) (end : Holding) (q : Facet) → IsNumbered j → k ≡ n + 1 → kept_change j k ≡ Some d → writes d q ≡ false
+    → value_at (later j n) end q ≡ value_at (later j k) end q
+value_past j n k d end q numbered next e other =
+    ap (λ ns. value_at ns end q) (later_with j n k d numbered next e) ∙ past_one d (later j k) end k q other (record_at (written d) q)
 
-pub value_found : (es : List Event) (n k : ℕ) (d : Change) (end : Holding) (q : Facet) → IsNumbered es → k ≡ n + 1 → kept_change es k ≡ Some d → writes d q ≡ true
-    → value_at (later es n) end q ≡ before_of d q
-value_found es n k d end q numbered next e here =
-    ap (λ ns. value_at ns end q) (later_with es n k d numbered next e) ∙ at_one d (later es k) end k q here (record_at (written d) q)
+pub value_found : (j : Journal) (n k : ℕ) (d : Change) (end : Holding) (q : Facet) → IsNumbered j → k ≡ n + 1 → kept_change j k ≡ Some d → writes d q ≡ true
+    → value_at (later j n) end q ≡ before_of d q
+value_found j n k d end q numbered next e here =
+    ap (λ ns. value_at ns end q) (later_with j n k d numbered next e) ∙ at_one d (later j k) end k q here (record_at (written d) q)

@@ -1,26 +1,26 @@
 -- What a check says of the reply.
-use Rattle.std.proofs.Common.{◌≡◌, ℕ, ◌<◌, Bool, true, false, Option, Some, None, Result, Ok, Err, refl, ap, subst, arith, inl, inr, ◌⊎◌, List, length}
-use Rattle.std.specs.Prelude.{MatchOption, OnOk, nat_le, nat_lt, ◌&&◌}
+use Rattle.std.proofs.Common.{◌≡◌, ℕ, ◌+◌, ◌<◌, Bool, true, false, Option, Some, None, Result, Ok, Err, refl, ap, subst, arith, inl, inr, ◌⊎◌, ◌∙◌}
+use Rattle.std.specs.Prelude.{IsSome, MatchOption, OnOk, nat_le, nat_lt, ◌&&◌}
 use Rattle.std.specs.Option.{option_map}
 use Rattle.std.proofs.lemmas.Bool.{lt-ltb}
 use Rattle.std.proofs.lemmas.Bool.Decides.{nat_tests}
-use Rattle.std.specs.Cmp.{first_so}
+use Rattle.std.specs.Cmp.{first_so, second_so}
 use Rattle.keep_repo.specs.Repository.{Repository}
 use Rattle.keep_change.specs.Fold.{fold_of, first_break}
-use Rattle.keep_journal.specs.History.{is_change, is_in_force, final_number, status_of}
-use Rattle.keep_journal.specs.Kept.{is_kept, others, opening_of, state_of}
-use Rattle.keep_journal.proofs.Kept.{kept-Undo, opening_of-Undo}
-use Rattle.keep_journal.specs.declared.history.Status.TheVariants.{InForce}
-use Rattle.keep_journal.proofs.Statuses.{a_change_in_force}
-use Rattle.keep_journal.specs.declared.event.Event.{Event}
-use Rattle.keep_book.specs.Later.{Passes}
-use Rattle.keep_book.specs.Ledger.{Ledger}
-use Rattle.keep_book.specs.Reply.{Answers, TakesBack, undo_refusal, redo_refusal, empty_refusal, is_full, told_of, ledger_after}
-use Rattle.keep_book.specs.declared.limits.TheConstants.{MAX_EVENTS}
-use Rattle.keep_book.specs.declared.refusal.Refusal.{Refusal}
-use Rattle.keep_book.specs.declared.refusal.Refusal.TheVariants.{Blocked, Memory, LeanedOn}
-use Rattle.keep_book.specs.declared.request.Request.TheVariants.{Undo}
-use Rattle.keep_book.specs.declared.told.Told.{Told}
+use Rattle.keep_journal.specs.History.{change_of, is_change, is_in_force, final_number, length_of, IsNumbered}
+use Rattle.keep_journal.specs.Kept.{is_kept, others}
+use Rattle.keep_journal.proofs.Kept.{kept-Undo}
+use Rattle.keep_change.specs.declared.change.Change.{Change}
+use Rattle.keep_journal.proofs.Numbers.{is_change_found}
+use Rattle.keep_journal.specs.Journal.{Journal}
+use Rattle.keep_book.specs.Dependents.{Passes}
+use Rattle.keep_book.specs.BookState.{BookState}
+use Rattle.keep_book.specs.Limits.{event_limit}
+use Rattle.keep_book.specs.Reply.{Answers, TakesBack, undo_refusal, redo_refusal, empty_refusal, is_full, told_of, state_after}
+use Rattle.keep_book.specs.declared.reply.Refusal.{Refusal}
+use Rattle.keep_book.specs.declared.reply.Refusal.TheVariants.{Blocked, Memory, LeanedOn}
+use Rattle.keep_book.specs.Request.{Undo}
+use Rattle.keep_book.specs.declared.reply.Told.{Told}
 use Rattle.keep_book.proofs.Undoing.{above_final_lt}
 
 pub same_error : {A B E : Type 0} (e f : E) → ◌≡◌ {A = Result A E} (Err e) (Err f) → ◌≡◌ {A = Result B E} (Err e) (Err f)
@@ -45,10 +45,10 @@ answers_memory None told none = inr refl
 answers_memory (Some refusal) told none = cc none
 
 -- an undo of a change in force, where there is room, is refused only where the others can't be made
-pub can_be : (es : List Event) (n : ℕ) (broken : Option ℕ) → is_change es n ≡ true → final_number es < n → is_kept es n ≡ true → is_full es ≡ false → undo_refusal es n broken ≡ option_map LeanedOn broken
-can_be es n broken change above in_it room =
-    let not_final : nat_le n (final_number es) ≡ false = grind (arith, nat_tests) in
-    let in_force : is_in_force es n ≡ true = first_so _ _ in_it in
+pub can_be : (j : Journal) (n : ℕ) (broken : Option ℕ) → is_change j n ≡ true → final_number j < n → is_kept j n ≡ true → is_full j ≡ false → undo_refusal j n broken ≡ option_map LeanedOn broken
+can_be j n broken change above in_it room =
+    let not_final : nat_le n (final_number j) ≡ false = grind (arith, nat_tests) in
+    let in_force : is_in_force j n ≡ true = first_so _ _ in_it in
     rw (change, not_final, in_force, room) refl
 
 not_in_force : (f k : Bool) → k ≡ true → (f && k) ≡ false → f ≡ false
@@ -56,49 +56,53 @@ not_in_force true k e h = cc (e, h)
 not_in_force false k e h = refl
 
 -- and a redo of an undone one only where those with it can't be
-pub can_be_again : (es : List Event) (n : ℕ) (broken : Option ℕ) → is_change es n ≡ true → final_number es < n → is_kept es n ≡ false → is_full es ≡ false → redo_refusal es n broken ≡ option_map Blocked broken
-can_be_again es n broken change above out room =
-    let not_final : nat_le n (final_number es) ≡ false = grind (arith, nat_tests) in
-    let in_force : is_in_force es n ≡ false = not_in_force (is_in_force es n) (nat_lt (final_number es) n) (lt-ltb (final_number es) n above) out in
+pub can_be_again : (j : Journal) (n : ℕ) (broken : Option ℕ) → is_change j n ≡ true → final_number j < n → is_kept j n ≡ false → is_full j ≡ false → redo_refusal j n broken ≡ option_map Blocked broken
+can_be_again j n broken change above out room =
+    let not_final : nat_le n (final_number j) ≡ false = grind (arith, nat_tests) in
+    let in_force : is_in_force j n ≡ false = not_in_force (is_in_force j n) (nat_lt (final_number j) n) (lt-ltb (final_number j) n above) out in
     rw (change, not_final, in_force, room) refl
 
 -- what an emptying that isn't refused knows
-pub record CanEmpty (es : List Event) (n : ℕ) : Type 0 where
-  pub change : is_change es n ≡ true
-  pub above : final_number es < n
+pub record CanEmpty (j : Journal) (n : ℕ) : Type 0 where
+  pub change : is_change j n ≡ true
+  pub above : final_number j < n
 
-pub can_empty : (es : List Event) (n : ℕ) → empty_refusal es n ≡ None → CanEmpty es n
-can_empty es n none = split (is_change es n) refl (nat_le n (final_number es)) refl where
-  split : (k : Bool) → is_change es n ≡ k → (f : Bool) → nat_le n (final_number es) ≡ f → CanEmpty es n
+pub can_empty : (j : Journal) (n : ℕ) → empty_refusal j n ≡ None → CanEmpty j n
+can_empty j n none = split (is_change j n) refl (nat_le n (final_number j)) refl where
+  split : (k : Bool) → is_change j n ≡ k → (f : Bool) → nat_le n (final_number j) ≡ f → CanEmpty j n
   split false k f fe = cc (rw k at none)
   split true k true fe = cc (rw (k, fe) at none)
-  split true k false fe = record { change = k; above = above_final_lt (final_number es) n fe }
+  split true k false fe = record { change = k; above = above_final_lt (final_number j) n fe }
 
-pub full_below : (es : List Event) → length es < MAX_EVENTS → is_full es ≡ false
-full_below es room = grind (arith, nat_tests)
+pub full_below : (j : Journal) → length_of j < event_limit → is_full j ≡ false
+full_below j room = grind (arith, nat_tests)
 
 -- the reply to an undo of a change in force, where there is room, depends on the others alone
-pub taken_back : (b : Ledger) (n : ℕ) (reply : Result Told Refusal) (left : Repository) → status_of b.events n ≡ InForce → length b.events < MAX_EVENTS
-    → Answers (undo_refusal b.events n (first_break (others b.events n) (opening_of b.events b.first))) (told_of b.events (Undo n)) reply
-    → OnOk reply (left ≡ fold_of (others b.events n) (opening_of b.events b.first))
+pub taken_back : (b : BookState) (n : ℕ) (reply : Result Told Refusal) (left : Repository) → IsNumbered b.events
+    → IsSome (change_of b.events n) → is_kept b.events n ≡ true → length_of b.events < event_limit
+    → Answers (undo_refusal b.events n (first_break (others b.events n) b.opening)) (told_of b.events (Undo n)) reply
+    → OnOk reply (left ≡ fold_of (others b.events n) b.opening)
     → TakesBack b n reply left
-taken_back b n reply left in_it room answers made =
-    let parts = a_change_in_force b.events n in_it in
-    let broken : Option ℕ = first_break (others b.events n) (opening_of b.events b.first) in
-    let none : undo_refusal b.events n broken ≡ option_map LeanedOn broken = can_be b.events n broken parts.0 parts.1 parts.2 (full_below b.events room) in
+taken_back b n reply left numbered there in_it room answers made =
+    let above : nat_lt (final_number b.events) n ≡ true = second_so _ _ in_it in
+    let change = change_found (change_of b.events n) refl there in
+    let broken : Option ℕ = first_break (others b.events n) b.opening in
+    let none : undo_refusal b.events n broken ≡ option_map LeanedOn broken = can_be b.events n broken change (grind (arith, nat_tests)) in_it (full_below b.events room) in
     split broken (subst (λ r. Answers r (told_of b.events (Undo n)) reply) none answers)
   where
+    change_found : (o : Option Change) → change_of b.events n ≡ o → IsSome o → is_change b.events n ≡ true
+    change_found None e some = cc some
+    change_found (Some c) e some = is_change_found b.events n c numbered e
+
     split : (broken : Option ℕ) → Answers (option_map LeanedOn broken) (told_of b.events (Undo n)) reply
         → MatchOption broken
-        (((reply ≡ Ok (told_of b.events (Undo n))) ⊎ (reply ≡ Err Memory)) × OnOk reply (left ≡ fold_of (others b.events n) (opening_of b.events b.first)))
+        (((reply ≡ Ok (told_of b.events (Undo n))) ⊎ (reply ≡ Err Memory)) × OnOk reply (left ≡ fold_of (others b.events n) b.opening))
         (λ m. reply ≡ Err (LeanedOn m))
     split None said = (said, made)
     split (Some m) said = said
 
--- what an undo of a change in force leaves
-pub left_by_undo : (b : Ledger) (n : ℕ) (reply : Result Told Refusal) (after : Ledger) → status_of b.events n ≡ InForce → after ≡ ledger_after b (Undo n) reply
-    → OnOk reply (state_of after.events after.first ≡ fold_of (others b.events n) (opening_of b.events b.first))
-left_by_undo b n (Err refusal) after in_it same = tt
-left_by_undo b n (Ok told) after in_it same =
-    let parts = a_change_in_force b.events n in_it in
-    rw (same, kept-Undo b.events n, opening_of-Undo b.events n b.first parts.1) refl
+-- what an undo leaves
+pub left_by_undo : (b : BookState) (n : ℕ) (reply : Result Told Refusal) (after : BookState) → after ≡ state_after b (Undo n) reply
+    → OnOk reply (after.live ≡ fold_of (others b.events n) b.opening)
+left_by_undo b n (Err refusal) after same = tt
+left_by_undo b n (Ok told) after same = ap (λ (a : BookState). a.live) same ∙ ap (λ ns. fold_of ns b.opening) (kept-Undo b.events (length_of b.events + 1) n)

@@ -1,47 +1,72 @@
 -- The undo of the last commit.
-use Rattle.std.proofs.Common.{◌≡◌, ℕ, ◌+◌, ◌<◌, ◌≤◌, Bool, true, false, not, ◌&&◌, List, [], ◌∷◌, ◌++◌, refl, ◌∙◌, arith, eqb, append-nil}
-use Rattle.std.specs.Prelude.{nat_lt}
+use Rattle.std.proofs.Common.{◌≡◌, ℕ, ◌+◌, ◌≤◌, Bool, true, false, not, ◌&&◌, None, Result, Ok, Err, inl, inr, refl, sym, ap, ◌∙◌, arith, eqb, append-nil}
+use Rattle.std.specs.Prelude.{nat_lt, nat_le, ◌≢◌, OnOk}
 use Rattle.std.proofs.lemmas.Bool.Decides.{nat_tests}
+use Rattle.keep_change.specs.Fold.{fold_of, first_break}
 use Rattle.keep_change.specs.declared.change.Change.{Change}
-use Rattle.keep_journal.specs.History.{IsNumbered, change_count, final_number, is_in_force}
+use Rattle.keep_journal.specs.History.{IsNumbered, final_number, is_change, is_in_force, last_change}
+use Rattle.keep_journal.specs.Journal.{Journal, posted}
 use Rattle.keep_journal.specs.Kept.{is_kept, kept, others}
-use Rattle.keep_journal.specs.declared.event.Event.{Event}
 use Rattle.keep_journal.specs.declared.event.Event.TheVariants.{Commit}
 use Rattle.keep_journal.proofs.Chosen.{chosen-Commit, chosen_agree_on}
-use Rattle.keep_journal.proofs.Kept.{is_kept-Commit, kept-Undo, opening_of-Commit, opening_of-Undo}
-use Rattle.keep_journal.proofs.Commits.{final_number-push}
-use Rattle.keep_book.specs.Laws.{CommitThenUndo}
+use Rattle.keep_journal.proofs.Kept.{is_kept-Commit}
+use Rattle.keep_book.specs.BookState.{BookState, JustCommitted}
+use Rattle.keep_book.specs.Reply.{Answers, Restores, is_full, state_after, told_of, undo_refusal}
+use Rattle.keep_book.specs.declared.reply.Refusal.{Refusal}
+use Rattle.keep_book.specs.declared.reply.Refusal.TheVariants.{LeanedOn}
+use Rattle.keep_book.specs.declared.reply.Told.{Told}
+use Rattle.keep_book.specs.Request.{Undo}
+use Rattle.keep_book.proofs.Replying.{left_by_undo}
 
 not_itself : (n : ℕ) (b : Bool) → (b && not (eqb n n)) ≡ false
 not_itself n true = grind (arith, nat_tests)
 not_itself n false = refl
 
-module _ (es : List Event) (numbered : IsNumbered es) (n : ℕ) (c : Change) (next : n ≡ change_count es + 1) where
-  apart : (m : ℕ) → m ≤ change_count es → eqb n m ≡ false
+module _ (j : Journal) (numbered : IsNumbered j) (k n : ℕ) (c : Change) (next : n ≡ last_change j + 1) where
+  apart : (m : ℕ) → m ≤ last_change j → eqb n m ≡ false
   apart m within = grind (arith, nat_tests)
 
-  apart_back : (m : ℕ) → m ≤ change_count es → eqb m n ≡ false
+  apart_back : (m : ℕ) → m ≤ last_change j → eqb m n ≡ false
   apart_back m within = grind (arith, nat_tests)
 
   with_true : (b : Bool) → (b && true) ≡ b
   with_true true = refl
   with_true false = refl
 
-  same_test : (m : ℕ) → m ≤ change_count es → (is_kept (es ++ Commit n c ∷ []) m && not (eqb m n)) ≡ is_kept es m
-  same_test m within = rw (is_kept-Commit es n c m, apart m within, apart_back m within) (with_true (is_in_force es m && nat_lt (final_number es) m))
+  same_test : (m : ℕ) → m ≤ last_change j → (is_kept (posted j k (Commit n c)) m && not (eqb m n)) ≡ is_kept j m
+  same_test m within = rw (is_kept-Commit j k n c m, apart m within, apart_back m within) (with_true (is_in_force j m && nat_lt (final_number j) m))
 
-  pub others-Commit : others (es ++ Commit n c ∷ []) n ≡ kept es
+  pub others-Commit : others (posted j k (Commit n c)) n ≡ kept j
   others-Commit =
-      let test : ℕ → Bool = λ m. is_kept (es ++ Commit n c ∷ []) m && not (eqb m n) in
-      chosen-Commit test es n c
-      ∙ rw (not_itself n (is_kept (es ++ Commit n c ∷ []) n)) (append-nil _)
-      ∙ chosen_agree_on test (is_kept es) es numbered (λ m positive within. same_test m within)
+      let test : ℕ → Bool = λ m. is_kept (posted j k (Commit n c)) m && not (eqb m n) in
+      chosen-Commit test j k n c
+      ∙ rw (not_itself n (is_kept (posted j k (Commit n c)) n)) (append-nil _)
+      ∙ chosen_agree_on test (is_kept j) j numbered (λ m positive within. same_test m within)
 
-pub commit_then_undo : CommitThenUndo
-commit_then_undo first es live n c is next =
-    let left = others-Commit es is.numbered n c next in
-    let opened = opening_of-Commit es n c first is.numbered next in
-    let below : final_number (es ++ Commit n c ∷ []) < n = rw (final_number-push es (Commit n c)) (omega (arith, is.numbered.last_final, next)) in (
-      rw (left, opened) is.unbroken,
-      rw (kept-Undo (es ++ Commit n c ∷ []) n, opening_of-Undo (es ++ Commit n c ∷ []) n first below, left, opened) refl,
+-- an undo that breaks nothing isn't refused for what leans on the change
+never_leaned_on : (j : Journal) (n m : ℕ) (told : Told) (reply : Result Told Refusal) → Answers (undo_refusal j n None) told reply → reply ≢ Err (LeanedOn m)
+never_leaned_on j n m told reply answers is_leaned = split (is_change j n) refl (nat_le n (final_number j)) refl (is_in_force j n) refl (is_full j) refl where
+  split : (k : Bool) → is_change j n ≡ k → (f : Bool) → nat_le n (final_number j) ≡ f → (i : Bool) → is_in_force j n ≡ i → (u : Bool) → is_full j ≡ u → ⊥
+  split false k f fe i ie u ue = cc (rw k at answers, is_leaned)
+  split true k true fe i ie u ue = cc (rw (k, fe) at answers, is_leaned)
+  split true k false fe false ie u ue = cc (rw (k, fe, ie) at answers, is_leaned)
+  split true k false fe true ie true ue = cc (rw (k, fe, ie, ue) at answers, is_leaned)
+  split true k false fe true ie false ue = elim (rw (k, fe, ie, ue) at answers) [ inl ok ↦ cc (ok, is_leaned) | inr memory ↦ cc (memory, is_leaned) ]
+
+-- what the undo of a commit that was just accepted replies and leaves
+pub restored : (before now : BookState) (n : ℕ) (reply : Result Told Refusal) (after : BookState) → JustCommitted before n now
+    → Answers (undo_refusal now.events n (first_break (others now.events n) now.opening)) (told_of now.events (Undo n)) reply
+    → after ≡ state_after now (Undo n) reply → Restores before.live reply after.live
+restored before now n reply after just answers same =
+    let left : others now.events n ≡ kept before.events =
+    ap (λ (j : Journal). others j n) just.events ∙ others-Commit before.events just.is_book.numbered _ n just.change just.next in
+    let unbroken : first_break (others now.events n) now.opening ≡ None = rw (left, just.opening) just.is_book.unbroken in
+    let made : fold_of (others now.events n) now.opening ≡ before.live = rw (left, just.opening) (sym just.is_book.state) in (
+      λ m. never_leaned_on now.events n m (told_of now.events (Undo n)) reply (rw unbroken at answers),
+      on_ok reply (left_by_undo now n reply after same) made,
     )
+  where
+    on_ok : (r : Result Told Refusal) → OnOk r (after.live ≡ fold_of (others now.events n) now.opening)
+        → fold_of (others now.events n) now.opening ≡ before.live → OnOk r (after.live ≡ before.live)
+    on_ok (Err refusal) left made = tt
+    on_ok (Ok told) left made = left ∙ made

@@ -1,24 +1,27 @@
--- What an event leaves of the live repository, the opening and the fold between them.
-use Rattle.std.proofs.Common.{◌≡◌, ℕ, ◌+◌, ◌≤◌, Bool, true, ◌&&◌, List, [], ◌∷◌, ◌++◌, None, refl, sym, ap, ◌∙◌, subst}
-use Rattle.std.specs.Prelude.{nat_le}
+-- What an event leaves of the opening, the live repository and the fold between them.
+use Rattle.std.proofs.Common.{◌≡◌, ℕ, zero, suc, ◌+◌, ◌<◌, ◌≤◌, Bool, true, List, [], ◌∷◌, ◌++◌, None, refl, sym, ap, ◌∙◌, subst, arith}
+use Rattle.std.specs.List.{list_all}
 use Rattle.std.proofs.lemmas.List.Elements.{All-filter, All-push}
 use Rattle.keep_repo.specs.Repository.{Repository, held}
-use Rattle.keep_change.specs.Change.{is_met}
+use Rattle.keep_change.specs.Change.{asked, is_as_asked, is_met, is_ready}
 use Rattle.keep_change.specs.Fold.{Numbered, fold_of, first_break}
 use Rattle.keep_change.specs.Form.{IsWellFormed}
 use Rattle.keep_change.specs.Law.{HaveNoFacetTwice}
-use Rattle.keep_change.specs.Result.{result_of}
+use Rattle.keep_change.specs.Result.{result_of, reverse_of}
 use Rattle.keep_change.specs.declared.change.Change.{Change}
-use Rattle.keep_change.proofs.History.{once_of_well_formed}
+use Rattle.keep_change.proofs.History.{once_of_well_formed, taking_back_restores_lem}
 use Rattle.keep_change.proofs.Law.{no_break}
-use Rattle.keep_journal.specs.History.{committed, change_count, final_number, is_change}
-use Rattle.keep_journal.specs.Kept.{chosen, is_kept, kept, later, opening_of}
-use Rattle.keep_journal.specs.declared.event.Event.{Event}
+use Rattle.keep_change.proofs.Records.{and_first}
+use Rattle.keep_journal.specs.History.{committed, final_number, last_change, length_of}
+use Rattle.keep_journal.specs.Journal.{Journal, posted}
+use Rattle.keep_journal.specs.Kept.{chosen, kept, later, up_to}
 use Rattle.keep_journal.specs.declared.event.Event.TheVariants.{Commit, Empty}
 use Rattle.keep_journal.proofs.Commits.{committed-Commit, committed-Empty, IsNumbered-push}
-use Rattle.keep_journal.proofs.Statuses.{is_change_parts}
-use Rattle.keep_journal.proofs.Kept.{kept-Commit, kept-Empty, kept_split, opening_of-Commit, opening_of-Empty, state_of-Empty, fold_of-append}
-use Rattle.keep_book.specs.Ledger.{AreWellFormed, IsLive}
+use Rattle.keep_journal.proofs.Kept.{kept-Commit, kept-Empty, kept_split, fold_of-append}
+use Rattle.keep_book.specs.BookState.{AreWellFormed, BookState, IsOpen, opening_under, unfold_of}
+use Rattle.keep_book.specs.Reply.{book_of}
+
+-- ---- folds
 
 -- what stands after a part of a fold that has no break has none either
 break_rest : (xs ys : List Numbered) (r : Repository) → first_break (xs ++ ys) r ≡ None → first_break ys (fold_of xs r) ≡ None
@@ -34,32 +37,72 @@ break_push (y ∷ xs) x r none met =
     rw parts.0 (break_push xs x (result_of y.change r) parts.1 met)
 
 -- no chosen change has a facet twice
-pub no_facet_twice : (test : ℕ → Bool) (es : List Event) → AreWellFormed es → HaveNoFacetTwice (chosen test es)
-no_facet_twice test es formed =
-    once_of_well_formed (chosen test es) (All-filter (λ n. test n.number) (λ n. IsWellFormed n.change) (committed es) formed)
+pub no_facet_twice : (test : ℕ → Bool) (j : Journal) → AreWellFormed j → HaveNoFacetTwice (chosen test j)
+no_facet_twice test j formed =
+    once_of_well_formed (chosen test j) (All-filter (λ n. test n.number) (λ n. IsWellFormed n.change) (committed j) formed)
+
+-- ---- the opening under a live repository
+
+-- changes that are made in turn and taken back, the last first, leave what was there
+unfold_fold : (ns : List Numbered) (r : Repository) → HaveNoFacetTwice ns → first_break ns r ≡ None → unfold_of ns (fold_of ns r) ≡ r
+unfold_fold [] r once none = refl
+unfold_fold (n ∷ ns) r once none =
+    let parts = no_break (is_met (held r) n.change) (first_break ns (result_of n.change r)) n.number none in
+    let ready : is_ready (held r) n.change ≡ true =
+    and_first (is_ready (held r) n.change) (list_all (is_as_asked (held r)) (asked n.change)) parts.0 in
+    ap (result_of (reverse_of n.change)) (unfold_fold ns (result_of n.change r) (λ k d within. once (suc k) d (omega arith)) parts.1)
+    ∙ taking_back_restores_lem n.change r (once zero n (omega arith)) ready
+
+-- the opening is what is left when the kept changes are taken back
+pub opening_told : (opening : Repository) (j : Journal) (live : Repository) → IsOpen opening j live → opening_under j live ≡ opening
+opening_told opening j live is =
+    ap (unfold_of (kept j)) is.state ∙ unfold_fold (kept j) opening (no_facet_twice _ j is.formed) is.unbroken
+
+pub open_under : (opening : Repository) (j : Journal) (live : Repository) → IsOpen opening j live → IsOpen (opening_under j live) j live
+open_under opening j live is = subst (λ (r : Repository). IsOpen r j live) (sym (opening_told opening j live is)) is
+
+-- what a book shows is a book of its events over its opening
+pub shown : (opening : Repository) (j : Journal) (live : Repository) → IsOpen opening j live
+    → ◌≡◌ {A = BookState} (record { opening = opening_under j live; events = j; live = live }) (book_of opening j)
+shown opening j live is = rw (opening_told opening j live is, is.state) refl
+
+-- ---- one more event
 
 -- a commit of a change that is met
-pub live-Commit : (es : List Event) (first live : Repository) (n : ℕ) (c : Change) → IsLive first es live → n ≡ change_count es + 1 → IsWellFormed c → is_met (held live) c ≡ true → IsLive first (es ++ Commit n c ∷ []) (result_of c live)
-live-Commit es first live n c is next formed met =
+pub open-Commit : (opening : Repository) (j : Journal) (live : Repository) (k n : ℕ) (c : Change) → IsOpen opening j live → length_of j < k
+    → n ≡ last_change j + 1 → IsWellFormed c → is_met (held live) c ≡ true → IsOpen opening (posted j k (Commit n c)) (result_of c live)
+open-Commit opening j live k n c is above next formed met =
     let it : Numbered = record { number = n; change = c } in
-    let met_there : is_met (held (fold_of (kept es) (opening_of es first))) c ≡ true = subst (λ r. is_met (held r) c ≡ true) is.state met in
-    let opened = opening_of-Commit es n c first is.numbered next in
-    let more = kept-Commit es n c is.numbered next in
+    let met_there : is_met (held (fold_of (kept j) opening)) c ≡ true = subst (λ r. is_met (held r) c ≡ true) is.state met in
+    let more = kept-Commit j k n c is.numbered next in
     record {
-      numbered = IsNumbered-push es (Commit n c) is.numbered next;
-      formed = rw (committed-Commit es n c) (All-push (λ m. IsWellFormed m.change) (committed es) it is.formed formed);
-      unbroken = rw (more, opened) (break_push (kept es) it (opening_of es first) is.unbroken met_there);
-      state = rw (more, opened) (ap (result_of c) is.state ∙ sym (fold_of-append (kept es) (it ∷ []) (opening_of es first)));
+      numbered = IsNumbered-push j (record { at = k; event = Commit n c }) is.numbered (record { above = above; fits = next });
+      formed = rw (committed-Commit j k n c) (All-push (λ m. IsWellFormed m.change) (committed j) it is.formed formed);
+      unbroken = rw more (break_push (kept j) it opening is.unbroken met_there);
+      state = rw more (ap (result_of c) is.state ∙ sym (fold_of-append (kept j) (it ∷ []) opening));
     }
 
--- an emptying moves the opening, and leaves the state
-pub live-Empty : (es : List Event) (first live : Repository) (n : ℕ) → IsLive first es live → is_change es n ≡ true → final_number es ≤ n → IsLive first (es ++ Empty n ∷ []) live
-live-Empty es first live n is change above =
-    let newly : List Numbered = chosen (λ m. is_kept es m && nat_le m n) es in
-    let whole : first_break (newly ++ later es n) (opening_of es first) ≡ None = subst (λ ns. first_break ns (opening_of es first) ≡ None) (kept_split es n is.numbered) is.unbroken in
+-- an emptying moves the opening, and leaves the live repository
+pub open-Empty : (opening : Repository) (j : Journal) (live : Repository) (k n : ℕ) → IsOpen opening j live → length_of j < k
+    → final_number j ≤ n → n ≤ last_change j → IsOpen (fold_of (up_to j n) opening) (posted j k (Empty n)) live
+open-Empty opening j live k n is above low high =
+    let parts = kept_split j n is.numbered in
+    let whole : first_break (up_to j n ++ later j n) opening ≡ None = subst (λ ns. first_break ns opening ≡ None) parts is.unbroken in
+    let left = kept-Empty j k n low in
     record {
-      numbered = IsNumbered-push es (Empty n) is.numbered (is_change_parts es n change);
-      formed = rw (committed-Empty es n) is.formed;
-      unbroken = rw (kept-Empty es n above, opening_of-Empty es n first is.numbered above) (break_rest newly (later es n) (opening_of es first) whole);
-      state = is.state ∙ sym (state_of-Empty es n first is.numbered above);
+      numbered = IsNumbered-push j (record { at = k; event = Empty n }) is.numbered (record { above = above; fits = (low, high) });
+      formed = rw (committed-Empty j k n) is.formed;
+      unbroken = rw left (break_rest (up_to j n) (later j n) opening whole);
+      state = rw left (is.state ∙ ap (λ ns. fold_of ns opening) parts ∙ fold_of-append (up_to j n) (later j n) opening);
     }
+
+-- ---- what is written back
+
+-- what a step writes back, which should be these events over this opening, is a book, and shows them
+pub record WrittenBack (opening : Repository) (j written : Journal) (live : Repository) : Type 0 where
+  pub is_open : IsOpen (opening_under written live) written live
+  pub shows : ◌≡◌ {A = BookState} (record { opening = opening_under written live; events = written; live = live }) (book_of opening j)
+
+pub written_back : (opening : Repository) (j written : Journal) (live : Repository) → IsOpen opening j live → written ≡ j → WrittenBack opening j written live
+written_back opening j written live is same =
+    rw same (record { is_open = open_under opening j live is; shows = shown opening j live is })

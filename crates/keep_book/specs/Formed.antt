@@ -1,12 +1,11 @@
 -- That changes are well formed has one proof at most.
-use Rattle.std.specs.Prelude.{List}
 use Rattle.std.specs.Coded.{codes, le_prop}
 use Rattle.std.specs.List.Sorted.{IsStrictlySortedBy-prop}
 use Rattle.keep_repo.specs.Facet.{facet_cmp}
 use Rattle.keep_change.specs.declared.change.Change.{Change}
 use Rattle.keep_change.specs.Form.{IsWellFormed, ListsInOrder}
-use Rattle.keep_journal.specs.declared.event.Event.{Event}
-use Rattle.keep_book.specs.Ledger.{AreWellFormed}
+use Rattle.keep_journal.specs.Journal.{Journal}
+use Rattle.keep_book.specs.BookState.{AreWellFormed}
 
 in_order-prop : (c : Change) → IsProp (ListsInOrder c)
 in_order-prop c = hlevel (IsStrictlySortedBy-prop facet_cmp)
@@ -14,5 +13,5 @@ in_order-prop c = hlevel (IsStrictlySortedBy-prop facet_cmp)
 formed-prop : (c : Change) → IsProp (IsWellFormed c)
 formed-prop c = hlevel (in_order-prop c, le_prop, codes)
 
-pub AreWellFormed-prop : (es : List Event) → IsProp (AreWellFormed es)
-AreWellFormed-prop es = hlevel formed-prop
+pub AreWellFormed-prop : (j : Journal) → IsProp (AreWellFormed j)
+AreWellFormed-prop j = hlevel formed-prop

@@ -1,7 +1,7 @@
-pub mod Choosing
+pub mod BookState
+pub mod Dependents
 pub mod Formed
-pub mod Later
-pub mod Laws
-pub mod Ledger
+pub mod Limits
 pub mod Refusal
 pub mod Reply
+pub mod Request

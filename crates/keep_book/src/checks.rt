@@ -1,31 +1,39 @@
 ghost use Rattle.std.specs.Prelude.{◌≡◌, ◌<◌, ◌==◌, nat_le, true, not, ◌&&◌, [], ◌∷◌, length, OnOk};
+ghost use Rattle.keep_repo.specs.Repository.{held};
 ghost use Rattle.keep_change.specs.Change.{is_met};
 ghost use Rattle.keep_change.specs.Form.{IsWellFormed, least_unmet};
 ghost use Rattle.keep_change.specs.Touch.{facets};
-ghost use Rattle.keep_journal.specs.History.{change_count, final_number, is_change};
-ghost use Rattle.keep_book.specs.Later.{leaned_on, blocked_by, Passes};
-ghost use Rattle.keep_book.specs.Ledger.{AreWellFormed};
+ghost use Rattle.keep_journal.specs.History.{final_number, is_change, last_change, length_of};
+ghost use Rattle.keep_book.specs.Dependents.{leaned_on, blocked_by, Passes};
+ghost use Rattle.keep_book.specs.BookState.{AreWellFormed};
+ghost use Rattle.keep_book.specs.Limits.{change_limit, event_limit};
 ghost use Rattle.keep_book.specs.Reply.{first_of, is_full, is_full_for, commit_refusal, undo_refusal, redo_refusal, empty_refusal};
 
-use crate::later::{blocked_by, leaned_on};
-use crate::limits::{MAX_CHANGES, MAX_EVENTS, MAX_FACETS};
-use crate::refusal::Refusal;
-use keep_change::{Change, Holder, Planned};
+use crate::dependents::{blocked_by, leaned_on};
+use crate::reply::Refusal;
+use keep_change::{Change, Planned};
 use keep_journal::{History, Status};
 use keep_repo::Repo;
 
+/// The greatest number that an event can have.
+const MAX_EVENTS: u64 = 16_777_216;
+
+/// The greatest number that a change can have.
+const MAX_CHANGES: u64 = 1_048_576;
+
+/// The most facets that a change may touch.
+const MAX_FACETS: usize = 65_536;
+
 /// Why the book refuses the commit, memory aside.
-pub(crate) fn check_commit<H: Holder>(
-    history: &History,
-    holder: &H,
-    planned: &Planned,
-) -> Result<(), Refusal>
+pub(crate) fn check_commit(history: &History, live: &Repo, planned: &Planned) -> Result<(), Refusal>
     ensures malformed { ¬ IsWellFormed planned.now.change → result ≡ Err Refusal.Malformed }
     ensures formed { IsWellFormed planned.now.change →
-        Passes (commit_refusal history.now.events planned.now (least_unmet (H.holding holder.now) planned.now.change)) result }
+        let unmet = least_unmet (held live.now) planned.now.change in
+        Passes (commit_refusal history.now.journal planned.now unmet) result }
     ensures well_formed { OnOk result (IsWellFormed planned.now.change) }
-    ensures met { OnOk result (is_met (H.holding holder.now) planned.now.change ≡ true) }
-    ensures room { OnOk result (change_count history.now.events < MAX_CHANGES) }
+    ensures met { OnOk result (is_met (held live.now) planned.now.change ≡ true) }
+    ensures room { OnOk result (length_of history.now.journal < event_limit) }
+    ensures numbers { OnOk result (last_change history.now.journal < change_limit) }
 {
     let change = &planned.change;
     if !change.well_formed() {
@@ -33,7 +41,7 @@ pub(crate) fn check_commit<H: Holder>(
     }
     check_room_for(history, change)?;
     check_seen(history, planned)?;
-    match change.meets(holder) {
+    match change.meets(live) {
         Ok(()) => Ok(()),
         Err(facet) => Err(Refusal::Unmet(facet)),
     }
@@ -41,8 +49,9 @@ pub(crate) fn check_commit<H: Holder>(
 
 /// Why the book refuses to take change n back, memory aside.
 pub(crate) fn check_undo(history: &History, n: u64) -> Result<(), Refusal>
-    requires { AreWellFormed history.now.events }
-    ensures { Passes (undo_refusal history.now.events n (leaned_on history.now.events n)) result }
+    requires { AreWellFormed history.now.journal }
+    ensures refusal { Passes (undo_refusal history.now.journal n (leaned_on history.now.journal n)) result }
+    ensures room { OnOk result (length_of history.now.journal < event_limit) }
 {
     check_open(history, n)?;
     if history.status(n) != Status::InForce {
@@ -57,8 +66,10 @@ pub(crate) fn check_undo(history: &History, n: u64) -> Result<(), Refusal>
 
 /// Why the book refuses to make change n again, memory aside.
 pub(crate) fn check_redo(history: &History, live: &Repo, n: u64) -> Result<(), Refusal>
-    requires { AreWellFormed history.now.events }
-    ensures { Passes (redo_refusal history.now.events n (blocked_by history.now.events live.now n)) result }
+    requires { AreWellFormed history.now.journal }
+    ensures refusal { let blocked = blocked_by history.now.journal live.now n in
+        Passes (redo_refusal history.now.journal n blocked) result }
+    ensures room { OnOk result (length_of history.now.journal < event_limit) }
 {
     check_open(history, n)?;
     if history.status(n) == Status::InForce {
@@ -73,7 +84,8 @@ pub(crate) fn check_redo(history: &History, live: &Repo, n: u64) -> Result<(), R
 
 /// Why the book refuses to make the changes up to n final, memory aside.
 pub(crate) fn check_empty(history: &History, n: u64) -> Result<(), Refusal>
-    ensures { Passes (empty_refusal history.now.events n) result }
+    ensures refusal { Passes (empty_refusal history.now.journal n) result }
+    ensures room { OnOk result (length_of history.now.journal < event_limit) }
 {
     check_open(history, n)?;
     check_room(history)
@@ -82,8 +94,8 @@ pub(crate) fn check_empty(history: &History, n: u64) -> Result<(), Refusal>
 /// Change n is there and isn't final.
 fn check_open(history: &History, n: u64) -> Result<(), Refusal>
     ensures { Passes
-        (first_of ((not (is_change history.now.events n), Refusal.Unknown)
-        ∷ (nat_le n (final_number history.now.events), Refusal.Final) ∷ []))
+        (first_of ((not (is_change history.now.journal n), Refusal.Unknown)
+        ∷ (nat_le n (final_number history.now.journal), Refusal.Final) ∷ []))
         result }
 {
     match history.status(n) {
@@ -95,7 +107,8 @@ fn check_open(history: &History, n: u64) -> Result<(), Refusal>
 
 /// There is room for one more event.
 fn check_room(history: &History) -> Result<(), Refusal>
-    ensures { Passes (first_of ((is_full history.now.events, Refusal.Full) ∷ [])) result }
+    ensures refusal { Passes (first_of ((is_full history.now.journal, Refusal.Full) ∷ [])) result }
+    ensures room { OnOk result (length_of history.now.journal < event_limit) }
 {
     if history.length() >= MAX_EVENTS {
         return Err(Refusal::Full);
@@ -105,12 +118,14 @@ fn check_room(history: &History) -> Result<(), Refusal>
 
 /// There is room for a commit of the change.
 fn check_room_for(history: &History, change: &Change) -> Result<(), Refusal>
-    ensures { Passes
-        (first_of ((is_full_for history.now.events (length (facets change.now)), Refusal.Full) ∷ []))
+    ensures refusal { Passes
+        (first_of ((is_full_for history.now.journal (length (facets change.now)), Refusal.Full) ∷ []))
         result }
+    ensures room { OnOk result (length_of history.now.journal < event_limit) }
+    ensures numbers { OnOk result (last_change history.now.journal < change_limit) }
 {
     check_room(history)?;
-    if history.change_count() >= MAX_CHANGES || change.facet_count() > MAX_FACETS {
+    if history.last_change() >= MAX_CHANGES || change.facet_count() > MAX_FACETS {
         return Err(Refusal::Full);
     }
     Ok(())
@@ -120,8 +135,8 @@ fn check_room_for(history: &History, change: &Change) -> Result<(), Refusal>
 fn check_seen(history: &History, planned: &Planned) -> Result<(), Refusal>
     ensures { Passes
         (first_of ((
-          planned.now.change.strict && not (planned.now.seen == length history.now.events),
-          Refusal.Stale (length history.now.events),
+          planned.now.change.strict && not (planned.now.seen == length_of history.now.journal),
+          Refusal.Stale (length_of history.now.journal),
         ) ∷ []))
         result }
 {

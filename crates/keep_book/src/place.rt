@@ -1,10 +1,10 @@
 ghost use Rattle.std.specs.Prelude.{◌≡◌, option_copied, MatchOption};
 ghost use Rattle.keep_change.specs.Touch.{before_of};
 ghost use Rattle.keep_change.specs.Form.{IsWellFormed};
-ghost use Rattle.keep_book.specs.Ledger.{AreWellFormed};
+ghost use Rattle.keep_book.specs.BookState.{AreWellFormed};
 ghost use Rattle.keep_book.specs.Formed.{AreWellFormed-prop};
 
-use crate::later::kept_change;
+use crate::dependents::kept_change;
 use keep_change::{Change, Holder};
 use keep_journal::History;
 use keep_names::{FileName, Id};
@@ -18,7 +18,7 @@ pub(crate) struct Place<'a> {
     pub history: &'a History,
     pub number: u64,
     pub live: &'a Repo,
-    ghost formed: { AreWellFormed history.now.events } by { AreWellFormed-prop history.now.events },
+    ghost formed: { AreWellFormed history.now.journal } by { AreWellFormed-prop history.now.journal },
 }
 
 impl Place<'_> {
@@ -28,11 +28,13 @@ impl Place<'_> {
 
     /// The first later change in force that writes the facet.
     fn first_writer(&self, facet: Facet) -> Option<&Change>
-        ensures { MatchOption (option_copied result)
-            (value_at (later self.now.history.now.events self.now.number) (held self.now.live.now) facet ≡ held self.now.live.now facet)
-            (λ c. IsWellFormed c × (value_at (later self.now.history.now.events self.now.number) (held self.now.live.now) facet ≡ before_of c facet)) }
+        ensures { let there = value_at
+            (later self.now.history.now.journal self.now.number) (held self.now.live.now) in
+            MatchOption (option_copied result)
+            (there facet ≡ held self.now.live.now facet)
+            (λ c. IsWellFormed c × (there facet ≡ before_of c facet)) }
     {
-        for before in self.number..self.history.change_count() {
+        for before in self.number..self.history.last_change() {
             if let Some(change) = kept_change(self.history, before + 1) {
                 if change.writes(facet) {
                     return Some(change);
@@ -48,7 +50,7 @@ impl Holder for Place<'_> {
     ghost use Rattle.keep_change.specs.Holdings.{value_at};
     ghost use Rattle.keep_journal.specs.Kept.{later};
 
-    ghost holding = { λ p. value_at (later p.history.now.events p.number) (held p.live.now) };
+    ghost holding = { λ p. value_at (later p.history.now.journal p.number) (held p.live.now) };
 
     fn is_filled(&self, facet: Facet) -> bool {
         match self.first_writer(facet) {

@@ -1,46 +1,55 @@
 -- The check says what the definitions say, and the law says what is left.
-use Rattle.std.proofs.Common.{sym, ◌∙◌}
+use Rattle.std.proofs.Common.{arith, ◌+◌, ◌∙◌, refl}
 use Rattle.std.proofs.lemmas.Result.{err_from_is_err_and}
-use Rattle.keep_journal.proofs.Commits.{some_change}
-use Rattle.keep_journal.proofs.Kept.{opening_of-Undo}
-use Rattle.keep_book.proofs.Undoing.{same_undo_refusal, undone, can_undo}
+use Rattle.keep_journal.specs.History.{length_of}
+use Rattle.keep_journal.specs.Journal.{posted}
+use Rattle.keep_journal.specs.declared.event.Event.TheVariants.{Undo}
+use Rattle.keep_book.specs.BookState.{opening_under}
+use Rattle.keep_book.proofs.Undoing.{same_undo_refusal, kept_is_there, undone, can_undo}
 use Rattle.keep_book.proofs.Replying.{refused, accepted, answers_told, answers_memory}
+use Rattle.keep_book.proofs.Steps.{WrittenBack, written_back}
 use Rattle.keep_book.proofs.book.Book.take_back.Goals as goal
 
 pub returns-in_err-check_undo-clause-reply : goal.returns-in_err-check_undo-clause-reply
 returns-in_err-check_undo-clause-reply c =
     let p = err_from_is_err_and c.from_residual.result c.from_residual.ensures.1 in
-    rw (p.1, p.2, ← c.self.view_is, same_undo_refusal c.self.inside.history.events c.self.inside.first c.self.inside.live c.self.invariant.is_live c.args.n)
-    (refused _ _ _ c.in_err-check_undo.ensures)
+    rw (p.1, p.2, ← c.self.view_is, same_undo_refusal _ c.self.inside.history.journal c.self.inside.live c.self.invariant c.args.n)
+    (refused _ _ _ c.in_err-check_undo.ensures.refusal)
 
 pub returns-in_err-reserve-clause-reply : goal.returns-in_err-reserve-clause-reply
 returns-in_err-reserve-clause-reply c =
     let p = err_from_is_err_and c.from_residual-in_err-reserve.result c.from_residual-in_err-reserve.ensures.1 in
-    rw (p.1, p.2, ← c.self.view_is, same_undo_refusal c.self.inside.history.events c.self.inside.first c.self.inside.live c.self.invariant.is_live c.args.n)
-    (answers_memory _ _ (accepted _ c.in_ok-check_undo.ensures))
+    rw (p.1, p.2, ← c.self.view_is, same_undo_refusal _ c.self.inside.history.journal c.self.inside.live c.self.invariant c.args.n)
+    (answers_memory _ _ (accepted _ c.in_ok-check_undo.ensures.refusal))
 
 pub unapply_change-requires : goal.unapply_change-requires
 unapply_change-requires c d found =
-    (undone c.self.inside.history.events c.self.inside.first c.self.inside.live c.args.n d c.self.invariant.is_live
-    (rw c.in_ok-reserve.ensures.same at found) (accepted _ c.in_ok-check_undo.ensures)).ready
+    (undone _ c.self.inside.history.journal c.self.inside.live c.args.n d c.self.invariant
+    (rw c.in_ok-reserve.ensures.same at found) (accepted _ c.in_ok-check_undo.ensures.refusal)).ready
 
 pub returns-in_err-unapply_change-clause-reply : goal.returns-in_err-unapply_change-clause-reply
 returns-in_err-unapply_change-clause-reply c =
     let p = err_from_is_err_and c.from_residual-in_err-unapply_change.result c.from_residual-in_err-unapply_change.ensures.1 in
-    rw (p.1, p.2, ← c.self.view_is, same_undo_refusal c.self.inside.history.events c.self.inside.first c.self.inside.live c.self.invariant.is_live c.args.n)
-    (answers_memory _ _ (accepted _ c.in_ok-check_undo.ensures))
+    rw (p.1, p.2, ← c.self.view_is, same_undo_refusal _ c.self.inside.history.journal c.self.inside.live c.self.invariant c.args.n)
+    (answers_memory _ _ (accepted _ c.in_ok-check_undo.ensures.refusal))
+
+written : (c : goal.After-post) → WrittenBack (opening_under c.self.inside.history.journal c.self.inside.live)
+    (posted c.self.inside.history.journal (length_of c.self.inside.history.journal + 1) (Undo c.args.n)) c.post.new.history.journal c.unapply_change.new.repo
+written c =
+    let none = accepted _ c.in_ok-check_undo.ensures.refusal in
+    let can = can_undo c.self.inside.history.journal c.args.n _ none in
+    let found = kept_is_there c.self.inside.history.journal c.args.n c.self.invariant.numbered can.change can.in_it in
+    let after = undone _ c.self.inside.history.journal c.self.inside.live c.args.n found.0 c.self.invariant found.1 none in
+    let made = c.in_ok-unapply_change.ensures.ok found.0 (rw c.in_ok-reserve.ensures.same found.1) in
+    rw made (written_back _ _ _ _ (after.is _ (omega arith)) (c.post.ensures.events ∙ rw c.in_ok-reserve.ensures.same refl))
 
 pub invariant_of-self-2 : goal.invariant_of-self-2
-invariant_of-self-2 c =
-    let none = accepted _ c.in_ok-check_undo.ensures in
-    let can = can_undo c.self.inside.history.events c.args.n _ none in
-    let found = some_change c.self.inside.history.events c.args.n c.self.invariant.is_live.numbered can.change in
-    let after = undone c.self.inside.history.events c.self.inside.first c.self.inside.live c.args.n found.0 c.self.invariant.is_live found.1 none in
-    let made = c.in_ok-unapply_change.ensures.ok found.0 (rw c.in_ok-reserve.ensures.same found.1) in
-    rw (c.record.ensures.events, c.in_ok-reserve.ensures.same, made)
-    (record { is_live = after.is; opened = c.self.invariant.opened ∙ sym (opening_of-Undo c.self.inside.history.events c.args.n c.self.inside.first can.above) })
+invariant_of-self-2 c = (written c).is_open
 
 pub returns-clause-reply : goal.returns-clause-reply
 returns-clause-reply c =
-    rw (← c.self.view_is, same_undo_refusal c.self.inside.history.events c.self.inside.first c.self.inside.live c.self.invariant.is_live c.args.n)
-    (answers_told _ _ _ (accepted _ c.in_ok-check_undo.ensures) (rw (← c.in_ok-reserve.ensures.same) c.record.ensures.told))
+    rw (← c.self.view_is, same_undo_refusal _ c.self.inside.history.journal c.self.inside.live c.self.invariant c.args.n)
+    (answers_told _ _ _ (accepted _ c.in_ok-check_undo.ensures.refusal) (rw (← c.in_ok-reserve.ensures.same) c.post.ensures.told))
+
+pub returns-clause-after : goal.returns-clause-after
+returns-clause-after c = rw (← c.self.view_is) (written c).shows

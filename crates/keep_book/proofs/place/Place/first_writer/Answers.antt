@@ -9,23 +9,23 @@ pub returns-then-writes : goal.returns-then-writes
 returns-then-writes c = (
   c.in-Some.ensures.formed,
   c.loop-before.invariant
-      ∙ value_found c.args.self.now.history.now.events c.loop-before.before (c.loop-before.before + 1) c.in-Some.change.now (held c.args.self.now.live.now) c.args.facet
-      c.change_count-before-end.ensures.numbered refl (sym c.in-Some.ensures.exact) (sym c.writes.ensures ∙ c.if-writes.true),
+      ∙ value_found c.args.self.now.history.now.journal c.loop-before.before (c.loop-before.before + 1) c.in-Some.change.now (held c.args.self.now.live.now) c.args.facet
+      c.last_change-before-end.ensures.numbered refl (sym c.in-Some.ensures.exact) (sym c.writes.ensures ∙ c.if-writes.true),
 )
 
 pub loop-before-preserved : goal.loop-before-preserved
 loop-before-preserved c =
     c.loop-before.invariant ∙ elim c.match-kept_change.branch [
       | in-Some+else-writes w ↦
-          value_past c.args.self.now.history.now.events c.loop-before.before (c.loop-before.before + 1) w.in-Some.change.now (held c.args.self.now.live.now) c.args.facet
-          c.change_count-before-end.ensures.numbered refl (sym w.in-Some.ensures.exact) (sym w.writes.ensures ∙ w.if-writes.false)
+          value_past c.args.self.now.history.now.journal c.loop-before.before (c.loop-before.before + 1) w.in-Some.change.now (held c.args.self.now.live.now) c.args.facet
+          c.last_change-before-end.ensures.numbered refl (sym w.in-Some.ensures.exact) (sym w.writes.ensures ∙ w.if-writes.false)
       | in_default w ↦
-          value_without c.args.self.now.history.now.events c.loop-before.before (c.loop-before.before + 1) (held c.args.self.now.live.now) c.args.facet
-          c.change_count-before-end.ensures.numbered refl (omega arith) (sym w.in_default.ensures.exact)
+          value_without c.args.self.now.history.now.journal c.loop-before.before (c.loop-before.before + 1) (held c.args.self.now.live.now) c.args.facet
+          c.last_change-before-end.ensures.numbered refl (omega arith) (sym w.in_default.ensures.exact)
     ]
 
 pub returns : goal.returns
 returns c =
     c.loop-before.invariant
-    ∙ value_none c.args.self.now.history.now.events c.loop-before.before (held c.args.self.now.live.now) c.args.facet
-    c.change_count-before-end.ensures.numbered (omega arith)
+    ∙ value_none c.args.self.now.history.now.journal c.loop-before.before (held c.args.self.now.live.now) c.args.facet
+    c.last_change-before-end.ensures.numbered (omega arith)

@@ -7,5 +7,5 @@ use Rattle.keep_book.proofs.place.Place.first_writer.Given as goal
 
 abbrev pub invariant-loop-before : goal.invariant-loop-before
 invariant-loop-before l =
-    value_at (later l.self.history.now.events l.self.number) (held l.self.live.now) l.facet
-    ≡ value_at (later l.self.history.now.events l.before) (held l.self.live.now) l.facet
+    value_at (later l.self.history.now.journal l.self.number) (held l.self.live.now) l.facet
+    ≡ value_at (later l.self.history.now.journal l.before) (held l.self.live.now) l.facet
