@@ -1,5 +1,5 @@
 -- The hex words of a script are just the lower case texts of bytes, and each is the text of one list of bytes.
-use Rattle.std.proofs.Common.{◌≡◌, ◌≢◌, ℕ, ◌<◌, List, [], ◌∷◌, length, codes, Ok, Err, sym, ap, ◌∙◌, arith}
+use Rattle.std.proofs.Common.{◌≡◌, ◌≢◌, ℕ, ◌<◌, List, [], ◌∷◌, length, codes, Ok, Err, sym, ap, subst, ◌∙◌, arith}
 use Rattle.std.specs.List.{AllPass}
 use Rattle.hex.specs.Hex.{IsBytes, decode_of, encode_lower, encode_with}
 use Rattle.hex.specs.declared.error.FromHexError.{FromHexError}
@@ -9,16 +9,16 @@ use Rattle.keep_names.specs.Id.{is_lower_hex_digit}
 use Rattle.keep_script.specs.Word.{hex_text}
 
 -- a lower case text that decodes is the text of what it decodes to
-encode_lower-decoded : (word bytes : List ℕ) → AllPass is_lower_hex_digit word → decode_of word ≡ Ok bytes → encode_lower bytes ≡ word
+encode_lower-decoded : (word bytes : List ℕ) → AllPass is_lower_hex_digit word → decode_of word ≡ Ok bytes → IsBytes bytes × (encode_lower bytes ≡ word)
 encode_lower-decoded word bytes lower read =
     let even = (decode_of-ok word bytes read).0 in
     let found = bytes_of_text word even lower in
     let again : decode_of word ≡ Ok found.0 = ap decode_of (sym found.1) ∙ decode_of-encode_lower found.0 found.2 in
     let same : bytes ≡ found.0 = decode_of-same word bytes found.0 read again in
-    ap encode_lower same ∙ found.1
+    (subst IsBytes (sym same) found.2, ap encode_lower same ∙ found.1)
 
 -- and so it is the word for that
-pub hex_text-decoded : (word bytes : List ℕ) → 0 < length word → AllPass is_lower_hex_digit word → decode_of word ≡ Ok bytes → hex_text bytes ≡ word
+pub hex_text-decoded : (word bytes : List ℕ) → 0 < length word → AllPass is_lower_hex_digit word → decode_of word ≡ Ok bytes → IsBytes bytes × (hex_text bytes ≡ word)
 hex_text-decoded word [] some lower read =
     let long : length word ≡ 0 = (decode_of-ok word [] read).2 in
     absurd (omega arith)

@@ -1,43 +1,52 @@
 -- What is written in steps is a first part of all that is to be written.
-use Rattle.std.proofs.Common.{◌≡◌, ℕ, List, [], ◌∷◌, ◌++◌, ◌∙◌, ◌-◌, length, take, drop, sym, ap, subst, append_assoc, arith}
-use Rattle.std.proofs.lemmas.List.{take-append-drop, take_rest}
-use Rattle.std.proofs.lemmas.Grind.{common_steps}
-use Rattle.std.proofs.KnownBytes.{Appends-trans, Appends-kept, Appends-nil}
+use Rattle.std.proofs.Common.{◌≡◌, ℕ, List, [], ◌∷◌, ◌++◌, ◌∙◌, take, drop, Result, Ok, Err, refl, sym, ap, subst, append_assoc, append-nil}
+use Rattle.std.proofs.lemmas.List.{take-append-drop}
+use Rattle.std.proofs.KnownBytes.{Appends-trans, Appends-nil}
 use Rattle.std.specs.Prelude.{Option, None, Some}
-use Rattle.std.specs.Io.KnownBytes.{Appends, IsAtEnd, Keeps, prepend_known}
-use Rattle.keep_script.specs.Known.{AppendsPrefix, Grows}
+use Rattle.std.specs.Io.KnownBytes.{Appends, IsAtEnd, prepend_known}
+use Rattle.keep_script.specs.Known.{AppendsPart, Puts}
+use Rattle.keep_script.specs.declared.status.Stop.{Stop}
+use Rattle.keep_script.specs.declared.status.Stop.TheVariants.{BadLine, ReadFailed, WriteFailed, NoMemory}
 
--- what comes first is the part of its length
-take-front : (all done rest : List ℕ) → all ≡ done ++ rest → take (length done) all ≡ done
-take-front all done rest e = rw e (grind (arith, common_steps))
-
--- the step from some to more
-pub moves_on : (all done rest : List ℕ) (n : ℕ) → all ≡ done ++ rest → all ≡ (done ++ take n rest) ++ take (length rest - n) (drop n rest)
-moves_on all done rest n e =
-    e ∙ ap (λ l. done ++ l) (sym (take-append-drop n rest)) ∙ sym (append_assoc done (take n rest) (drop n rest)) ∙ ap (λ l. (done ++ take n rest) ++ l) (sym (take_rest rest n))
+-- nothing of it
+pub AppendsPart-none : (a : Option (List ℕ)) (text : List ℕ) → AppendsPart a a text
+AppendsPart-none a text = record { part = []; rest = text; split = refl; appended = Appends-nil a }
 
 -- what was written so far is a first part
-pub AppendsPrefix-from : (a b : Option (List ℕ)) (all done rest : List ℕ) → all ≡ done ++ rest → Appends a b done → AppendsPrefix a b all
-AppendsPrefix-from a b all done rest e h =
-    (length done, subst (Appends a b) (sym (take-front all done rest e)) h)
+pub AppendsPart-from : (a b : Option (List ℕ)) (all done rest : List ℕ) → all ≡ done ++ rest → Appends a b done → AppendsPart a b all
+AppendsPart-from a b all done rest e h = record { part = done; rest = rest; split = e; appended = h }
 
--- and so it is after a write that wrote nothing
-pub AppendsPrefix-kept : (a b c : Option (List ℕ)) (all done rest : List ℕ) → all ≡ done ++ rest → Appends a b done → Keeps b c → AppendsPrefix a c all
-AppendsPrefix-kept a b c all done rest e h k = AppendsPrefix-from a c all done rest e (Appends-kept a b c done h k)
+-- and so it is with a first part of what comes next
+pub AppendsPart-more : (a b c : Option (List ℕ)) (all done next rest : List ℕ) → all ≡ done ++ (next ++ rest) → Appends a b done → AppendsPart b c next → AppendsPart a c all
+AppendsPart-more a b c all done next rest e h k = record {
+  part = done ++ k.part;
+  rest = k.rest ++ rest;
+  split = e ∙ ap (λ l. done ++ (l ++ rest)) k.split ∙ ap (λ l. done ++ l) (append_assoc k.part k.rest rest) ∙ sym (append_assoc done k.part (k.rest ++ rest));
+  appended = Appends-trans a b c done k.part h k.appended;
+}
 
--- or after one that wrote some more
-pub AppendsPrefix-more : (a b c : Option (List ℕ)) (all done rest : List ℕ) (n : ℕ) → all ≡ done ++ rest → Appends a b done → Appends b c (take n rest) → AppendsPrefix a c all
-AppendsPrefix-more a b c all done rest n e h k =
-    AppendsPrefix-from a c all (done ++ take n rest) (take (length rest - n) (drop n rest)) (moves_on all done rest n e) (Appends-trans a b c done (take n rest) h k)
+-- a write took the first n bytes
+pub AppendsPart-taken : (a b : Option (List ℕ)) (bytes : List ℕ) (n : ℕ) → Appends a b (take n bytes) → AppendsPart a b bytes
+AppendsPart-taken a b bytes n h = record { part = take n bytes; rest = drop n bytes; split = sym (take-append-drop n bytes); appended = h }
 
-pub Grows-same : (a : Option (List ℕ)) → Grows a a
-Grows-same a = ([], Appends-nil a)
+-- ---- what a function puts
 
-pub Grows-prefix : (a b : Option (List ℕ)) (bs : List ℕ) → AppendsPrefix a b bs → Grows a b
-Grows-prefix a b bs h = (take h.0 bs, h.1)
+-- it found no memory
+pub Puts-none : (a b : Option (List ℕ)) (text : List ℕ) (r : Result (Unit {0}) Stop) → r ≡ Err NoMemory → AppendsPart a b text → Puts a b text r
+Puts-none a b text r e h = rw e h
 
-pub Grows-trans : (a b c : Option (List ℕ)) → Grows a b → Grows b c → Grows a c
-Grows-trans a b c h k = (h.0 ++ k.0, Appends-trans a b c h.0 k.0 h.1 k.1)
+-- it failed at the next part of the text
+pub Puts-failed : (a b c : Option (List ℕ)) (all done next rest : List ℕ) (stop : Stop) (r : Result (Unit {0}) Stop)
+    → all ≡ done ++ (next ++ rest) → Appends a b done → Puts b c next (Err stop) → r ≡ Err stop → Puts a c all r
+Puts-failed a b c all done next rest BadLine r e h k same = absurd k
+Puts-failed a b c all done next rest ReadFailed r e h k same = absurd k
+Puts-failed a b c all done next rest WriteFailed r e h k same = rw same (AppendsPart-more a b c all done next rest e h k)
+Puts-failed a b c all done next rest NoMemory r e h k same = rw same (AppendsPart-more a b c all done next rest e h k)
+
+-- it did as the last part of the text did
+pub Puts-last : (a b c : Option (List ℕ)) (all done next : List ℕ) (r : Result (Unit {0}) Stop) → all ≡ done ++ next → Appends a b done → Puts b c next r → Puts a c all r
+Puts-last a b c all done next (Ok u) e h k = subst (Appends a c) (sym e) (Appends-trans a b c done next h k)
+Puts-last a b c all done next (Err stop) e h k = Puts-failed a b c all done next [] stop (Err stop) (e ∙ ap (λ l. done ++ l) (sym (append-nil next))) h k refl
 
 -- a reader is at its end where nothing is left
 pub IsAtEnd-read : (unread : List ℕ) (r : Option (List ℕ)) → IsAtEnd (prepend_known unread r) → IsAtEnd r

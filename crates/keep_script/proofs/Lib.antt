@@ -1,6 +1,11 @@
+pub mod AnswerLemmas
+pub mod CountLemmas
 pub mod FirstLine
 pub mod HexWord
 pub mod KnownLemmas
+pub mod LineLemmas
 pub mod NextLine
+pub mod RunLemmas
 pub mod StatusLemmas
+pub mod StepLemmas
 pub mod WordLemmas

@@ -1,12 +1,14 @@
--- A run that stops isn't done.
-use Rattle.std.proofs.Common.{◌≢◌, ℕ}
+-- A run that stops for another cause than a bad line.
+use Rattle.std.proofs.Common.{◌≡◌, ℕ, List, Option, refl}
+use Rattle.std.specs.Io.KnownBytes.{Keeps}
+use Rattle.keep_script.specs.Run.{StopsAt}
 use Rattle.keep_script.specs.Status.{status_at}
-use Rattle.keep_script.specs.declared.status.Status.TheVariants.{Done}
+use Rattle.keep_script.specs.declared.status.Status.{Status}
 use Rattle.keep_script.specs.declared.status.Stop.{Stop}
 use Rattle.keep_script.specs.declared.status.Stop.TheVariants.{BadLine, ReadFailed, WriteFailed, NoMemory}
 
-pub status_at-Done : (stop : Stop) (number : ℕ) → status_at stop number ≢ Done
-status_at-Done BadLine number e = cc e
-status_at-Done ReadFailed number e = cc e
-status_at-Done WriteFailed number e = cc e
-status_at-Done NoMemory number e = cc e
+pub StopsAt-other : (a b : Option (List ℕ)) (number : ℕ) (stop : Stop) (status : Status) → (stop ≡ BadLine → ⊥) → Keeps a b → status ≡ status_at stop number → StopsAt a b number stop status
+StopsAt-other a b number BadLine status other kept same = absurd (other refl)
+StopsAt-other a b number ReadFailed status other kept same = (same, kept)
+StopsAt-other a b number WriteFailed status other kept same = (same, kept)
+StopsAt-other a b number NoMemory status other kept same = (same, kept)

@@ -1,5 +1,5 @@
 -- Each word is the text of at most one value.
-use Rattle.std.proofs.Common.{◌≡◌, ◌≢◌, ℕ, ◌<◌, ◌^◌, inl, inr, List, ◌∷◌, length, slice_index, Result, Ok, Err, Option, Some, IfSome, true, refl, sym, ap, ◌∙◌, arith}
+use Rattle.std.proofs.Common.{◌≡◌, ◌≢◌, ℕ, ◌<◌, ◌^◌, inl, inr, List, ◌∷◌, length, slice_index, Result, Ok, Err, Option, Some, IfSome, true, refl, sym, ap, subst, ◌∙◌, arith}
 use Rattle.std.proofs.lemmas.Bool.{cases_lt}
 use Rattle.std.proofs.lemmas.Fmt.{decimal-digits_value, decimal_digit, decimal_nonempty, digits_decimal, first_decimal, parse-decimal}
 use Rattle.std.proofs.lemmas.List.Elements.{All-head}
@@ -7,8 +7,8 @@ use Rattle.std.proofs.lemmas.Str.Parse.{IsNumeralModel, not_in_digits, numerals_
 use Rattle.std.specs.Fmt.{decimal}
 use Rattle.std.specs.Result.{result_ok}
 use Rattle.std.specs.Str.Parse.{AllDigits, ParsesUnsigned, digits_value}
-use Rattle.keep_names.proofs.IdText.{IsIdText-id_text}
-use Rattle.keep_names.specs.Id.{IsDigest, id_text, is_lower_hex_digit}
+use Rattle.keep_names.proofs.IdText.{IsIdText-id_text, id_of_text}
+use Rattle.keep_names.specs.Id.{IsDigest, IsIdText, id_text, is_lower_hex_digit}
 use Rattle.keep_names.specs.declared.id.Id.{Id}
 use Rattle.std.specs.Option.{option_map}
 use Rattle.keep_script.specs.Word.{HasPlainFront, IsTarget, target_text}
@@ -42,10 +42,10 @@ HasPlainFront-decimal n word small e =
 
 -- what a word of plain front is read as prints as that word
 pub decimal-parsed : {E : Type 0} (word : List ℕ) (r : Result ℕ E) → ParsesUnsigned 64 10 word r → HasPlainFront word
-    → IfSome (result_ok r) (λ n. decimal n ≡ word)
+    → IfSome (result_ok r) (λ n. (n < 2 ^ 64) × (decimal n ≡ word))
 decimal-parsed {E} word (Ok n) h front =
     let read = parse_plain own {E = E} 64 word (Ok n) h front.0 in
-    rw read.1 (decimal-digits_value own word read.0.0 read.0.1 front.1 read.0.2)
+    rw read.1 (read.0.2, decimal-digits_value own word read.0.0 read.0.1 front.1 read.0.2)
 decimal-parsed {E} word (Err e) h front = tt
 
 -- and each printed number is read
@@ -54,6 +54,12 @@ pub parsed-decimal : {E : Type 0} (word : List ℕ) (r : Result ℕ E) (n : ℕ)
 parsed-decimal word r n h small e = ap result_ok (parse-decimal 64 n word r small small (sym e) h)
 
 -- ---- targets
+
+-- an id that is the only one with a text has 32 bytes
+pub IsDigest-parsed : (word : List ℕ) (id : Id) → IsIdText word → ((other : Id) → IsDigest other → id_text other ≡ word → id ≡ other) → IsDigest id
+IsDigest-parsed word id digits only =
+    let found = id_of_text word digits in
+    subst IsDigest (sym (only found.0 found.1 found.2)) found.1
 
 -- no id's text begins with the sign of a change
 pub id_text-at : (id : Id) (rest : List ℕ) → IsDigest id → id_text id ≢ 64 ∷ rest

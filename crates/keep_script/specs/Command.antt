@@ -24,7 +24,9 @@ command_text History = codes "history"
 
 -- no text of `drop` goes on like this
 abbrev pub NamesNoFile : List ℕ → Type 0
-NamesNoFile rest = (kind : Kind) (target : Target) → IsTarget target → kind_text kind ++ (codes " " ++ target_text target) ≢ rest
+NamesNoFile rest =
+    (kind : Kind) (target : Target) → IsTarget target
+    → kind_text kind ++ (codes " " ++ target_text target) ≢ rest
 
 -- no number prints as this word
 abbrev pub IsNoNumber : List ℕ → Type 0
@@ -41,7 +43,8 @@ pub record AsksNothing (verb rest : List ℕ) : Type 0 where
 
 -- no text of `add` goes on like this
 abbrev pub NamesNoBytes : List ℕ → Type 0
-NamesNoBytes rest = (kind : Kind) (bytes : List ℕ) → IsBytes bytes → kind_text kind ++ (codes " " ++ hex_text bytes) ≢ rest
+NamesNoBytes rest =
+    (kind : Kind) (bytes : List ℕ) → IsBytes bytes → kind_text kind ++ (codes " " ++ hex_text bytes) ≢ rest
 
 -- a command whose numbers, bytes and names are in range, as those of each command are
 abbrev pub IsCommand : Command → Type 0
@@ -55,6 +58,10 @@ IsCommand Count = ⊤
 IsCommand (Note name) = IsName name.now
 IsCommand (Same name) = IsName name.now
 IsCommand History = ⊤
+
+-- the line asks for this command
+abbrev pub Asks : List ℕ → Command → Type 0
+Asks line command = IsCommand command × (command_text command ≡ line)
 
 -- the line asks for no command
 abbrev pub IsNoCommand : List ℕ → Type 0

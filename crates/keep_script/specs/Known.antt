@@ -1,11 +1,24 @@
--- What a run does to the bytes that a writer holds, where they are known.
-use Rattle.std.specs.Prelude.{ℕ, List, take, Option}
+-- What is written to a writer whose bytes are known.
+use Rattle.std.specs.Prelude.{◌≡◌, ℕ, List, ◌++◌, Option, Result, Ok, Err}
 use Rattle.std.specs.Io.KnownBytes.{Appends}
+use Rattle.keep_script.specs.declared.status.Stop.{Stop}
+use Rattle.keep_script.specs.declared.status.Stop.TheVariants.{BadLine, ReadFailed, WriteFailed, NoMemory}
 
--- known bytes grow by a first part of bs, which may be none or all of it
-abbrev pub AppendsPrefix : Option (List ℕ) → Option (List ℕ) → List ℕ → Type 0
-AppendsPrefix old new bs = (n : ℕ) × Appends old new (take n bs)
+-- known bytes grow by a first part of the text, which may be none or all of it
+pub record AppendsPart (old new : Option (List ℕ)) (text : List ℕ) : Type 0 where
+  pub part : List ℕ
+  pub rest : List ℕ
+  pub split : text ≡ part ++ rest
+  pub appended : Appends old new part
 
--- known bytes stay at the front, whatever comes after them
-abbrev pub Grows : Option (List ℕ) → Option (List ℕ) → Type 0
-Grows old new = (bs : List ℕ) × Appends old new bs
+-- known bytes grow by the text, and at a failure by a first part of it
+abbrev pub Puts : Option (List ℕ) → Option (List ℕ) → List ℕ → Result (Unit {0}) Stop → Type 0
+Puts old new text (Ok _) = Appends old new text
+Puts old new text (Err BadLine) = ⊥
+Puts old new text (Err ReadFailed) = ⊥
+Puts old new text (Err WriteFailed) = AppendsPart old new text
+Puts old new text (Err NoMemory) = AppendsPart old new text
+
+-- known bytes grow by a text of which this holds
+abbrev pub Writes : Option (List ℕ) → Option (List ℕ) → (List ℕ → Type 0) → Type 0
+Writes old new P = (text : List ℕ) × Appends old new text × P text

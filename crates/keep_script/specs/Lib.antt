@@ -1,7 +1,12 @@
+pub mod Answer
 pub mod Command
 pub mod Input
 pub mod Known
 pub mod Line
 pub mod Plan
+pub mod Run
+pub mod State
 pub mod Status
+pub mod Step
+pub mod Text
 pub mod Word

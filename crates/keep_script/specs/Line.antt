@@ -1,6 +1,36 @@
--- The lines of a script.
-use Rattle.std.specs.Prelude.{◌≡◌, ℕ, ◌<◌, ◌==◌, nat_le, Bool, List, [], Option, None, Some, ⊤, length, slice_index, IsUtf8}
-use Rattle.std.specs.List.{AllPass, after_first, before_first, position_or_len}
+-- The lines of a script, as bytes.
+use Rattle.std.specs.Prelude.{◌≡◌, ℕ, ◌<◌, ◌≤◌, ◌==◌, nat_le, Bool, if◌then◌else◌, List, [], ◌∷◌, ◌++◌, length, slice_index, IsUtf8, codes}
+use Rattle.std.specs.List.{AllPass, flat_map, position_or_len}
+
+-- how many bytes a line has at most, before its end
+abbrev pub longest_line : ℕ
+longest_line = 1048576
+
+-- how many bytes a run reads at most
+abbrev pub longest_script : ℕ
+longest_script = 67108864
+
+-- whether b ends a line
+abbrev pub is_line_end : ℕ → Bool
+is_line_end b = b == 10
+
+-- a line end is among the bytes
+abbrev pub HasLineEnd : List ℕ → Type 0
+HasLineEnd bytes = position_or_len is_line_end bytes < length bytes
+
+-- the byte stands in front of the first line
+abbrev pub onto_first : ℕ → List (List ℕ) → List (List ℕ)
+onto_first b [] = (b ∷ []) ∷ []
+onto_first b (line ∷ lines) = (b ∷ line) ∷ lines
+
+-- the lines of some bytes: each goes up to a line end, which the last one may lack
+abbrev pub lines_of : List ℕ → List (List ℕ)
+lines_of [] = []
+lines_of (b ∷ bytes) = if is_line_end b then [] ∷ lines_of bytes else onto_first b (lines_of bytes)
+
+-- lines, each with its end
+abbrev pub ended : List (List ℕ) → List ℕ
+ended lines = flat_map (λ line. line ++ codes "\n") lines
 
 -- whether b is no control character below the space
 abbrev pub is_printed : ℕ → Bool
@@ -14,17 +44,6 @@ IsText line = IsUtf8 line × AllPass is_printed line
 abbrev pub IsPassedOver : List ℕ → Type 0
 IsPassedOver text = (0 < length text) → (slice_index text 0 ≡ 35)
 
--- whether b ends a line
-abbrev pub is_line_end : ℕ → Bool
-is_line_end b = b == 10
-
--- a line end is among the bytes
-abbrev pub HasLineEnd : List ℕ → Type 0
-HasLineEnd bytes = position_or_len is_line_end bytes < length bytes
-
--- known bytes lose their first line, with its end; no line is taken where there are no bytes
-abbrev pub TakesLine : Option (List ℕ) → Option (List ℕ) → Option (List ℕ) → Type 0
-TakesLine None new line = ⊤
-TakesLine (Some xs) None line = ⊥
-TakesLine (Some xs) (Some ys) None = xs ≡ []
-TakesLine (Some xs) (Some ys) (Some line) = (0 < length xs) × (line ≡ before_first is_line_end xs) × (ys ≡ after_first is_line_end xs)
+-- a text that isn't too long
+abbrev pub IsLine : List ℕ → Type 0
+IsLine line = (length line ≤ longest_line) × IsText line

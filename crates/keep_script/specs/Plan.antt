@@ -1,8 +1,12 @@
 -- The changes that lines ask for.
-use Rattle.std.specs.Prelude.{ℕ, List, [], ◌∷◌, false, Option}
-use Rattle.std.specs.Option.{option_and_then, option_map, unwrap_or}
-use Rattle.std.specs.List.{find}
+use Rattle.std.specs.Prelude.{ℕ, List, [], ◌∷◌, false, filter, map, Option, Some}
+use Rattle.std.specs.Option.{option_and_then, unwrap_or}
+use Rattle.std.specs.Ordering.{min_by_ordering}
+use Rattle.std.specs.List.{reduce}
+use Rattle.keep_names.specs.Orders.{name_cmp}
 use Rattle.std.specs.FinMap as finite
+use Rattle.keep_script.specs.declared.word.Target.{Target}
+use Rattle.keep_script.specs.declared.word.Target.TheVariants.{Named, AddedBy}
 use Rattle.keep_names.specs.Sha256.{sha256}
 use Rattle.keep_names.specs.declared.file_name.FileName.{FileName}
 use Rattle.keep_names.specs.declared.file_name.Kind.{Kind}
@@ -10,16 +14,31 @@ use Rattle.keep_names.specs.contracts.file_name.KindPartialEq.TheImpl as the_kin
 use Rattle.keep_repo.specs.Repository.{Repository}
 use Rattle.keep_change.specs.declared.change.Change.{Change}
 use Rattle.keep_change.specs.declared.change.StoredFile.{StoredFile}
-use Rattle.keep_journal.specs.History.{change_of}
-use Rattle.keep_journal.specs.declared.event.Event.{Event}
+use Rattle.keep_journal.specs.History.{change_of, length_of}
+use Rattle.keep_journal.specs.Journal.{Journal}
+use Rattle.keep_book.specs.BookState.{BookState}
+use Rattle.keep_book.specs.Request.{Request}
+use Rattle.keep_book.specs.Request as request
 
 -- the change that only adds these files and drops those
 abbrev pub change_with : List StoredFile → List StoredFile → Change
-change_with adds drops = record { adds = adds; drops = drops; sets = []; clears = []; present = []; absent = []; marked = []; unmarked = []; strict = false }
+change_with adds drops = record {
+  adds = adds;
+  drops = drops;
+  sets = [];
+  clears = [];
+  present = [];
+  absent = [];
+  marked = [];
+  unmarked = [];
+  strict = false;
+}
 
 -- the change that adds a file of these bytes, under their SHA-256
 abbrev pub added_file : Kind → List ℕ → Change
-added_file kind bytes = change_with (record { name = record { kind = kind; id = record { 0 = sha256 bytes } }; bytes = bytes } ∷ []) []
+added_file kind bytes =
+    let name : FileName = record { kind = kind; id = record { 0 = sha256 bytes } } in
+    change_with (record { name = name; bytes = bytes } ∷ []) []
 
 -- the file's bytes, none where it isn't there
 abbrev pub bytes_in : Repository → FileName → List ℕ
@@ -29,10 +48,27 @@ bytes_in repository name = unwrap_or (finite.get repository.files name) []
 abbrev pub dropped_file : Repository → FileName → Change
 dropped_file repository name = change_with [] (record { name = name; bytes = bytes_in repository name } ∷ [])
 
--- the first of these files that has the kind
-abbrev pub first_of : Kind → List StoredFile → Option FileName
-first_of kind files = option_map (λ f. f.name) (find (λ f. (the_kind_eq.ghosts).eq f.name.kind kind) files)
+-- the names of these files that have the kind
+abbrev pub names_of : Kind → List StoredFile → List FileName
+names_of kind files = filter (λ name. (the_kind_eq.ghosts).eq name.kind kind) (map (λ f. f.name) files)
 
--- the first file of this kind among those that change n added, which is the least, since adds are in order
-abbrev pub added_in : List Event → ℕ → Kind → Option FileName
-added_in es n kind = option_and_then (λ c. first_of kind c.adds) (change_of es n)
+-- the lesser of two names, in the order in which files are listed
+abbrev pub lesser : FileName → FileName → FileName
+lesser a b = min_by_ordering (name_cmp a b) a b
+
+-- the least of these names, if there are any
+abbrev pub least : List FileName → Option FileName
+least names = reduce lesser names
+
+-- the least file of this kind among those that change n added
+abbrev pub added_in : Journal → ℕ → Kind → Option FileName
+added_in j n kind = option_and_then (λ c. least (names_of kind c.adds)) (change_of j n)
+
+-- the file that a target means, if there is one: that of an id, or the least of its kind that a change added
+abbrev pub file_meant : Journal → Kind → Target → Option FileName
+file_meant j kind (Named id) = Some (record { kind = kind; id = id })
+file_meant j kind (AddedBy n) = added_in j n kind
+
+-- to commit the change, planned on the book as it is
+abbrev pub commit_of : BookState → Change → Request
+commit_of book change = request.Commit (record { change = change; seen = length_of book.events })

@@ -1,5 +1,5 @@
 -- How a run ends.
-use Rattle.std.specs.Prelude.{ℕ}
+use Rattle.std.specs.Prelude.{ℕ, Result, Ok, Err}
 use Rattle.keep_script.specs.declared.status.Status.{Status}
 use Rattle.keep_script.specs.declared.status.Status.TheVariants as ended
 use Rattle.keep_script.specs.declared.status.Stop.{Stop}
@@ -11,3 +11,8 @@ status_at BadLine number = ended.BadLine number
 status_at ReadFailed number = ended.ReadFailed
 status_at WriteFailed number = ended.WriteFailed
 status_at NoMemory number = ended.NoMemory
+
+-- the status of a run that would end so, once the writer was flushed: a flush that fails is a failed write
+abbrev pub status_once_flushed : Status → Result (Unit {0}) Stop → Status
+status_once_flushed status (Ok _) = status
+status_once_flushed status (Err stop) = ended.WriteFailed

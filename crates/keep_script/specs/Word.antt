@@ -18,7 +18,8 @@ hex_text (b ∷ bs) = encode_lower (b ∷ bs)
 
 -- whether c is an ASCII letter or digit, or a dash
 abbrev pub is_name_byte : ℕ → Bool
-is_name_byte c = (nat_le 48 c && nat_le c 57) || (nat_le 65 c && nat_le c 90) || (nat_le 97 c && nat_le c 122) || (c == 45)
+is_name_byte c =
+    (nat_le 48 c && nat_le c 57) || (nat_le 65 c && nat_le c 90) || (nat_le 97 c && nat_le c 122) || (c == 45)
 
 -- 1 to 64 ASCII letters, digits or dashes
 abbrev pub IsName : List ℕ → Type 0

@@ -1,13 +1,16 @@
-ghost use Rattle.std.specs.Prelude.{◌≡◌, length};
+ghost use Rattle.std.specs.Prelude.{◌≡◌, IfOk, length, string_bytes};
+ghost use Rattle.keep_script.specs.Plan.{bytes_in};
+ghost use Rattle.keep_script.specs.Text as texts;
 
 use keep_book::{Refusal, Told};
 use keep_change::{Change, What};
-use keep_journal::Event;
+use keep_journal::Entry;
 use keep_names::{FileName, Kind};
 use keep_repo::Repo;
 use std::alloc::{AllocError, Global};
+use std::fmt;
 
-/// How many facets of each sort a change writes.
+/// How many facets of each sort a change writes. They print as they are answered.
 #[derive(Clone, Copy, Debug)]
 pub(crate) struct Sizes {
     adds: usize,
@@ -18,12 +21,7 @@ pub(crate) struct Sizes {
 
 impl Sizes {
     pub fn of(change: &Change) -> Sizes
-        ensures { result ≡ record {
-          adds = length change.now.adds;
-          drops = length change.now.drops;
-          sets = length change.now.sets;
-          clears = length change.now.clears;
-        } }
+        ensures { result ≡ texts.sizes_of change.now }
     {
         Sizes {
             adds: change.adds.as_slice().len(),
@@ -34,83 +32,124 @@ impl Sizes {
     }
 }
 
+impl fmt::Display for Sizes {
+    ghost use Rattle.std.specs.Prelude.{Some};
+    ghost use Rattle.keep_script.specs.Text.{sizes_text};
+
+    ghost output = { λ sizes. Some (sizes_text sizes) };
+
+    fn fmt<W: fmt::Write>(&self, f: &mut fmt::Formatter<W>) -> fmt::Result {
+        let Sizes {
+            adds,
+            drops,
+            sets,
+            clears,
+        } = self;
+        write!(f, "+{adds} -{drops} *{sets} ~{clears}")
+    }
+}
+
 pub(crate) fn commit_text(
     alloc: Global,
     outcome: Result<Told, Refusal>,
     sizes: Sizes,
-) -> Result<String, AllocError> {
+) -> Result<String, AllocError>
+    ensures { IfOk result (λ text. string_bytes text ≡ texts.reply_text (texts.commit_text sizes) outcome) }
+{
     match outcome {
         Ok(told) => accepted_text(alloc, told, sizes),
-        Err(refusal) => format!(in alloc; "no {refusal}\n"),
+        Err(refusal) => refused_text(alloc, refusal),
     }
 }
 
-fn accepted_text(alloc: Global, told: Told, sizes: Sizes) -> Result<String, AllocError> {
+fn accepted_text(alloc: Global, told: Told, sizes: Sizes) -> Result<String, AllocError>
+    ensures { IfOk result (λ text. string_bytes text ≡ texts.commit_text sizes told) }
+{
     let Told { number, at } = told;
-    let Sizes {
-        adds,
-        drops,
-        sets,
-        clears,
-    } = sizes;
-    format!(in alloc; "ok {number} at {at} +{adds} -{drops} *{sets} ~{clears}\n")
+    format!(in alloc; "ok {number} at {at} {sizes}\n")
+}
+
+fn refused_text(alloc: Global, refusal: Refusal) -> Result<String, AllocError>
+    ensures { IfOk result (λ text. string_bytes text ≡ texts.refused_text refusal) }
+{
+    format!(in alloc; "no {refusal}\n")
 }
 
 /// The answer to `undo`, `redo` and `empty`.
-pub(crate) fn told_text(
-    alloc: Global,
-    outcome: Result<Told, Refusal>,
-) -> Result<String, AllocError> {
+pub(crate) fn told_text(alloc: Global, outcome: Result<Told, Refusal>) -> Result<String, AllocError>
+    ensures { IfOk result (λ text. string_bytes text ≡ texts.reply_text texts.told_text outcome) }
+{
     match outcome {
         Ok(told) => {
             let Told { number, at } = told;
             format!(in alloc; "ok {number} at {at}\n")
         }
-        Err(refusal) => format!(in alloc; "no {refusal}\n"),
+        Err(refusal) => refused_text(alloc, refusal),
     }
 }
 
-pub(crate) fn count_text(alloc: Global, repo: &Repo) -> Result<String, AllocError> {
+pub(crate) fn count_text(alloc: Global, repo: &Repo) -> Result<String, AllocError>
+    ensures { IfOk result (λ text. string_bytes text ≡ texts.count_text repo.now) }
+{
     let files = repo.file_count();
     let marks = repo.mark_count();
     format!(in alloc; "files {files} marks {marks}\n")
 }
 
 /// The line of `list` for a file of the repository.
-pub(crate) fn file_line(alloc: Global, repo: &Repo, name: FileName) -> Result<String, AllocError> {
-    let length = match repo.get(name) {
-        Some(bytes) => bytes.as_slice().len(),
-        None => 0,
-    };
-    let marked = if name.kind == Kind::Pack && repo.is_marked(name.id) {
-        " marked"
-    } else {
-        ""
-    };
+pub(crate) fn file_text(alloc: Global, repo: &Repo, name: FileName) -> Result<String, AllocError>
+    ensures { IfOk result (λ text. string_bytes text ≡ texts.file_text repo.now name) }
+{
+    let length = length_of(repo, name);
+    let marked = mark_word(repo, name);
     format!(in alloc; "{name} {length}{marked}\n")
 }
 
-pub(crate) fn noted_text(alloc: Global, name: &str) -> Result<String, AllocError> {
+/// How many bytes the file has, none where it isn't there.
+fn length_of(repo: &Repo, name: FileName) -> usize
+    ensures { result ≡ length (bytes_in repo.now name) }
+{
+    match repo.get(name) {
+        Some(bytes) => bytes.as_slice().len(),
+        None => 0,
+    }
+}
+
+fn mark_word(repo: &Repo, name: FileName) -> &'static str
+    ensures { result.now ≡ texts.mark_text repo.now name }
+{
+    match name.kind {
+        Kind::Pack if repo.is_marked(name.id) => " marked",
+        _ => "",
+    }
+}
+
+pub(crate) fn noted_text(alloc: Global, name: &str) -> Result<String, AllocError>
+    ensures { IfOk result (λ text. string_bytes text ≡ texts.noted_text name.now) }
+{
     format!(in alloc; "noted {name}\n")
 }
 
-pub(crate) fn same_text(alloc: Global, name: &str, same: bool) -> Result<String, AllocError> {
+pub(crate) fn same_text(alloc: Global, name: &str, same: bool) -> Result<String, AllocError>
+    ensures { IfOk result (λ text. string_bytes text ≡ texts.same_text name.now same) }
+{
     let answer = if same { "yes" } else { "no" };
     format!(in alloc; "same {name} {answer}\n")
 }
 
-/// The line of `history` for the event of this number.
-pub(crate) fn event_line(
-    alloc: Global,
-    number: usize,
-    event: &Event,
-) -> Result<String, AllocError> {
-    let what = word_of(event.what());
-    let change = event.number();
-    format!(in alloc; "{number} {what} {change}\n")
+/// The line of `history` for an event.
+pub(crate) fn entry_text(alloc: Global, entry: &Entry) -> Result<String, AllocError>
+    ensures { IfOk result (λ text. string_bytes text ≡ texts.entry_text entry.now) }
+{
+    let at = entry.at;
+    let what = word_of(entry.event.what());
+    let change = entry.event.number();
+    format!(in alloc; "{at} {what} {change}\n")
 }
 
-fn word_of(what: What) -> &'static str {
+fn word_of(what: What) -> &'static str
+    ensures { result.now ≡ texts.what_text what }
+{
     match what {
         What::Commit => "commit",
         What::Undo => "undo",
@@ -119,6 +158,8 @@ fn word_of(what: What) -> &'static str {
     }
 }
 
-pub(crate) fn bad_line_text(alloc: Global, number: u64) -> Result<String, AllocError> {
+pub(crate) fn bad_line_text(alloc: Global, number: u64) -> Result<String, AllocError>
+    ensures { IfOk result (λ text. string_bytes text ≡ texts.bad_line_text number) }
+{
     format!(in alloc; "bad line {number}\n")
 }

@@ -1,5 +1,5 @@
-ghost use Rattle.std.specs.Prelude.{◌≡◌, ◌≢◌, ◌↔◌, ◌++◌, Err, IfNone, IfOk, IfSome, None, Ok, codes};
-ghost use Rattle.keep_script.specs.Command.{AsksNothing, IsNoCommand, NamesNoBytes, NamesNoFile, command_text};
+ghost use Rattle.std.specs.Prelude.{◌≡◌, ◌≢◌, ◌++◌, ◌⊎◌, Err, IfErr, IfNone, IfOk, IfSome, None, Ok, OnOk, codes};
+ghost use Rattle.keep_script.specs.Command.{Asks, AsksNothing, IsNoCommand, NamesNoBytes, NamesNoFile};
 ghost use Rattle.keep_script.specs.Line.{IsPassedOver, IsText};
 
 use crate::line::{is_passed_over, text_of};
@@ -25,10 +25,12 @@ pub(crate) enum Command<'a> {
 
 /// The command of a line, if it has one. A line that isn't of the language is `BadLine`.
 pub(crate) fn parse(alloc: Global, line: &[u8]) -> Result<Option<Command<'_>>, Stop>
-    ensures value { IfOk result (λ found. IfSome found (λ command. command_text command ≡ line.now)) }
-    ensures passed_over { (result ≡ Ok None) ↔ (IsText line.now × IsPassedOver line.now) }
-    ensures bad { result ≡ Err Stop.BadLine → IsText line.now → IsNoCommand line.now }
-    ensures no_text { ¬ (IsText line.now) → result ≡ Err Stop.BadLine }
+    ensures text { OnOk result (IsText line.now) }
+    ensures value { IfOk result (λ found. IfSome found (λ command. Asks line.now command)) }
+    ensures passed_over { result ≡ Ok None → IsPassedOver line.now }
+    ensures bad { result ≡ Err Stop.BadLine →
+        (¬ (IsText line.now)) ⊎ ((¬ (IsPassedOver line.now)) × IsNoCommand line.now) }
+    ensures reason { IfErr result (λ stop. (stop ≡ Stop.BadLine) ⊎ (stop ≡ Stop.NoMemory)) }
 {
     let Some(text) = text_of(line) else {
         return Err(Stop::BadLine);
@@ -41,8 +43,9 @@ pub(crate) fn parse(alloc: Global, line: &[u8]) -> Result<Option<Command<'_>>, S
 }
 
 fn parse_command(alloc: Global, text: &str) -> Result<Command<'_>, Stop>
-    ensures value { IfOk result (λ command. command_text command ≡ text.now) }
+    ensures value { IfOk result (λ command. Asks text.now command) }
     ensures bad { result ≡ Err Stop.BadLine → IsNoCommand text.now }
+    ensures reason { IfErr result (λ stop. (stop ≡ Stop.BadLine) ⊎ (stop ≡ Stop.NoMemory)) }
 {
     match text.split_once(' ') {
         None => alone(text).ok_or(Stop::BadLine),
@@ -53,8 +56,9 @@ fn parse_command(alloc: Global, text: &str) -> Result<Command<'_>, Stop>
 
 /// The command of a line of one word.
 fn alone(verb: &str) -> Option<Command<'_>>
-    ensures value { IfSome result (λ command. command_text command ≡ verb.now) }
-    ensures none { IfNone result ((verb.now ≢ codes "list") × (verb.now ≢ codes "count") × (verb.now ≢ codes "history")) }
+    ensures value { IfSome result (λ command. Asks verb.now command) }
+    ensures none { IfNone result
+        ((verb.now ≢ codes "list") × (verb.now ≢ codes "count") × (verb.now ≢ codes "history")) }
 {
     match verb {
         "list" => Some(Command::List),
@@ -66,7 +70,7 @@ fn alone(verb: &str) -> Option<Command<'_>>
 
 /// The command of a line that goes on after its first word, but for `add`.
 fn with_words<'a>(verb: &str, rest: &'a str) -> Option<Command<'a>>
-    ensures value { IfSome result (λ command. command_text command ≡ verb.now ++ (codes " " ++ rest.now)) }
+    ensures value { IfSome result (λ command. Asks (verb.now ++ (codes " " ++ rest.now)) command) }
     ensures none { IfNone result (AsksNothing verb.now rest.now) }
 {
     match verb {
@@ -81,8 +85,9 @@ fn with_words<'a>(verb: &str, rest: &'a str) -> Option<Command<'a>>
 }
 
 fn parse_add(alloc: Global, rest: &str) -> Result<Command<'_>, Stop>
-    ensures value { IfOk result (λ command. command_text command ≡ codes "add " ++ rest.now) }
+    ensures value { IfOk result (λ command. Asks (codes "add " ++ rest.now) command) }
     ensures bad { result ≡ Err Stop.BadLine → NamesNoBytes rest.now }
+    ensures reason { IfErr result (λ stop. (stop ≡ Stop.BadLine) ⊎ (stop ≡ Stop.NoMemory)) }
 {
     let Some((word, hex)) = rest.split_once(' ') else {
         return Err(Stop::BadLine);
@@ -97,7 +102,7 @@ fn parse_add(alloc: Global, rest: &str) -> Result<Command<'_>, Stop>
 }
 
 fn parse_drop(rest: &str) -> Option<Command<'_>>
-    ensures value { IfSome result (λ command. command_text command ≡ codes "drop " ++ rest.now) }
+    ensures value { IfSome result (λ command. Asks (codes "drop " ++ rest.now) command) }
     ensures none { IfNone result (NamesNoFile rest.now) }
 {
     let (word, target) = rest.split_once(' ')?;

@@ -1,11 +1,12 @@
-ghost use Rattle.std.specs.Prelude.{◌≡◌, ◌↔◌, ◌<◌, ◌≤◌, ◌+◌, ◌++◌, [], Err, IfErr, IfOk, IfSome, IsTrue, None, Ok, OnOk, length, option_map, vec_len, false};
+ghost use Rattle.std.specs.Prelude.{◌≡◌, ◌↔◌, ◌<◌, ◌≤◌, ◌+◌, ◌-◌, ◌++◌, ◌⊎◌, [], Err, IfErr, IfOk, IfSome, IsTrue, Ok, OnOk, length, vec_len, true, false};
 ghost use Rattle.std.specs.Io.KnownBytes.{IsAtEnd, Keeps};
 ghost use Rattle.std.specs.List.{after_first, before_first, position, position_or_len};
-ghost use Rattle.keep_script.specs.Line.{HasLineEnd, TakesLine, is_line_end};
+ghost use Rattle.keep_script.specs.Line.{HasLineEnd, is_line_end, longest_line, longest_script};
 
+use crate::output::flush;
 use crate::status::Stop;
 use std::alloc::{AllocError, Global};
-use std::io::{ErrorKind, Read};
+use std::io::{ErrorKind, Read, Write};
 
 /// How many bytes a run reads, and how often it asks for some.
 const MAX_READ: usize = 67_108_864;
@@ -29,12 +30,22 @@ pub(crate) struct Input {
     ghost in_chunk: { used ≤ vec_len chunk },
 }
 
+/// What a script goes on with.
+#[derive(Debug, Drop)]
+pub(crate) enum Piece {
+    /// A line whose end was taken too.
+    Line(Vec<u8>),
+    /// All that is left, where no line has an end. It may be nothing.
+    Last(Vec<u8>),
+}
+
 impl Input {
-    ghost use Rattle.keep_script.specs.Input.{left_of, unread_of};
+    ghost use Rattle.keep_script.specs.Input.{LosesPiece, Takes, ahead_of, bytes_of, ends_line, left_of, size_of, unread_of};
 
     /// An input that has read nothing.
     pub fn new(alloc: Global) -> Result<Input, AllocError>
-        ensures { IfOk result (λ input. unread_of input ≡ []) }
+        ensures unread { IfOk result (λ input. unread_of input ≡ []) }
+        ensures ahead { IfOk result (λ input. ahead_of input ≡ longest_script) }
     {
         Ok(Input {
             alloc,
@@ -45,25 +56,33 @@ impl Input {
         })
     }
 
-    /// The next line, without its end, or none at the script's end. The last line may lack its end.
+    /// The next line, or what is left where no more line has an end. What was answered is handed
+    /// on before each read.
     ///
     /// A line that is too long is `BadLine`. After an error the input is not to be used again.
-    pub fn next_line<R: Read>(&mut self, reader: &mut R) -> Result<Option<Vec<u8>>, Stop>
-        ensures line { IfOk result (λ line. TakesLine
-            (left_of self.old (R.remaining reader.old)) (left_of self.new (R.remaining reader.new))
-            (option_map (λ bytes. bytes.items) line)) }
-        ensures end { result ≡ Ok None → IsAtEnd (left_of self.new (R.remaining reader.new)) }
-        ensures short { IfOk result (λ line. IfSome line (λ bytes. vec_len bytes ≤ MAX_LINE)) }
+    pub fn next_line<R: Read, W: Write>(
+        &mut self,
+        reader: &mut R,
+        writer: &mut W,
+    ) -> Result<Piece, Stop>
+        ensures taken { IfOk result (λ piece. Takes
+            (left_of self.old (R.remaining reader.old)) (left_of self.new (R.remaining reader.new)) piece) }
+        ensures short { IfOk result (λ piece. length (bytes_of piece) ≤ longest_line) }
+        ensures spent { IfOk result (λ piece. ahead_of self.new + size_of piece ≡ ahead_of self.old) }
+        ensures more { IfOk result (λ piece. ends_line piece ≡ false → 0 < ahead_of self.new) }
         ensures too_long { result ≡ Err Stop.BadLine → IfSome (left_of self.old (R.remaining reader.old))
-            (λ bytes. MAX_LINE < length (before_first is_line_end bytes)) }
+            (λ bytes. longest_line < length (before_first is_line_end bytes)) }
+        ensures failed { result ≡ Err Stop.ReadFailed → LosesPiece
+            (left_of self.old (R.remaining reader.old)) (R.remaining reader.new) }
+        ensures quiet { Keeps (W.contents writer.old) (W.contents writer.new) }
     {
         let mut line = Vec::new(self.alloc);
-        for _ in 0..MAX_READ {
-            if !self.look_ahead(reader)? {
-                return Ok(if line.is_empty() { None } else { Some(line) });
+        for _turn in 0..MAX_READ {
+            if !self.look_ahead(reader, writer)? {
+                return Ok(Piece::Last(line));
             }
             if self.take(&mut line)? {
-                return Ok(Some(line));
+                return Ok(Piece::Line(line));
             }
         }
         Err(Stop::ReadFailed)
@@ -76,13 +95,23 @@ impl Input {
     }
 
     /// Reads on where all is used up, and says whether there are unread bytes.
-    fn look_ahead<R: Read>(&mut self, reader: &mut R) -> Result<bool, Stop>
+    fn look_ahead<R: Read, W: Write>(
+        &mut self,
+        reader: &mut R,
+        writer: &mut W,
+    ) -> Result<bool, Stop>
         ensures kept { OnOk result (Keeps
             (left_of self.old (R.remaining reader.old)) (left_of self.new (R.remaining reader.new))) }
         ensures end { result ≡ Ok false → IsAtEnd (left_of self.new (R.remaining reader.new)) }
+        ensures ahead { OnOk result (ahead_of self.new ≡ ahead_of self.old) }
+        ensures more { result ≡ Ok false → 0 < ahead_of self.new }
+        ensures failed { result ≡ Err Stop.ReadFailed →
+            Keeps (left_of self.old (R.remaining reader.old)) (R.remaining reader.new) }
         ensures never_bad { (result ≡ Err Stop.BadLine) → ⊥ }
+        ensures quiet { Keeps (W.contents writer.old) (W.contents writer.new) }
     {
         if self.is_used_up() {
+            flush(writer)?;
             self.fill(reader)
         } else {
             Ok(true)
@@ -95,9 +124,11 @@ impl Input {
         ensures moved { OnOk result
             (line.new.items ≡ line.old.items ++ before_first is_line_end (unread_of self.old)) }
         ensures rest { OnOk result (unread_of self.new ≡ after_first is_line_end (unread_of self.old)) }
-        ensures short { OnOk result (vec_len line.new ≤ MAX_LINE) }
+        ensures short { OnOk result (vec_len line.new ≤ longest_line) }
         ensures too_long { result ≡ Err Stop.BadLine
-            → MAX_LINE < vec_len line.old + length (before_first is_line_end (unread_of self.old)) }
+            → longest_line < vec_len line.old + length (before_first is_line_end (unread_of self.old)) }
+        ensures same { OnOk result (self.new.bytes_left ≡ self.old.bytes_left) }
+        ensures reason { IfErr result (λ stop. (stop ≡ Stop.BadLine) ⊎ (stop ≡ Stop.NoMemory)) }
     {
         let unread = &self.chunk.as_slice()[self.used..];
         let length = line_length(unread);
@@ -116,6 +147,10 @@ impl Input {
         ensures kept { OnOk result (Keeps
             (left_of self.old (R.remaining reader.old)) (left_of self.new (R.remaining reader.new))) }
         ensures end { result ≡ Ok false → IsAtEnd (left_of self.new (R.remaining reader.new)) }
+        ensures ahead { OnOk result (ahead_of self.new ≡ ahead_of self.old) }
+        ensures more { result ≡ Ok false → 0 < ahead_of self.new }
+        ensures failed { result ≡ Err Stop.ReadFailed →
+            Keeps (R.remaining reader.old) (R.remaining reader.new) }
         ensures never_bad { (result ≡ Err Stop.BadLine) → ⊥ }
     {
         let mut chunk = [0; CHUNK];
@@ -142,7 +177,8 @@ impl Input {
 
     /// Keeps what a read gave, in the place of what the last one gave.
     fn keep(&mut self, chunk: &[u8]) -> Result<(), AllocError>
-        ensures { OnOk result (unread_of self.new ≡ chunk.now) }
+        ensures unread { OnOk result (unread_of self.new ≡ chunk.now) }
+        ensures left { OnOk result (self.new.bytes_left ≡ self.old.bytes_left - length chunk.now) }
     {
         self.used = 0;
         self.chunk.clear();
@@ -172,8 +208,9 @@ fn line_end(bytes: &[u8]) -> Option<usize>
 /// Appends the piece, where the line has room for it.
 fn gather(line: &mut Vec<u8>, piece: &[u8]) -> Result<(), Stop>
     ensures ok { OnOk result (line.new.items ≡ line.old.items ++ piece.now) }
-    ensures short { OnOk result (vec_len line.new ≤ MAX_LINE) }
-    ensures too_long { (result ≡ Err Stop.BadLine) ↔ (MAX_LINE < vec_len line.old + length piece.now) }
+    ensures short { OnOk result (vec_len line.new ≤ longest_line) }
+    ensures too_long { (result ≡ Err Stop.BadLine) ↔ (longest_line < vec_len line.old + length piece.now) }
+    ensures reason { IfErr result (λ stop. (stop ≡ Stop.BadLine) ⊎ (stop ≡ Stop.NoMemory)) }
 {
     if line.len() > MAX_LINE || piece.len() > MAX_LINE - line.len() {
         return Err(Stop::BadLine);

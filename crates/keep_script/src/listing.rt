@@ -1,6 +1,7 @@
-ghost use Rattle.keep_script.specs.Known.{Grows};
+ghost use Rattle.keep_script.specs.Known.{Puts};
+ghost use Rattle.keep_script.specs.Text as texts;
 
-use crate::answer::{count_text, event_line, file_line};
+use crate::answer::{count_text, entry_text, file_text};
 use crate::output::put_text;
 use crate::status::Stop;
 use keep_journal::History;
@@ -12,13 +13,20 @@ use std::io::Write;
 ///
 /// Each line is made, written and let go before the next one, so an error may come after some.
 pub(crate) fn write_list<W: Write>(alloc: Global, repo: &Repo, writer: &mut W) -> Result<(), Stop>
-    ensures { Grows (W.contents writer.old) (W.contents writer.new) }
+    ensures { Puts (W.contents writer.old) (W.contents writer.new) (texts.list_text repo.now) result }
 {
     let (names, _) = repo.list()?;
     for name in &names {
-        let line = file_line(alloc, repo, *name)?;
+        let line = file_text(alloc, repo, *name)?;
         put_text(writer, line)?;
     }
+    write_count(alloc, repo, writer)
+}
+
+/// Writes the answer to `count`.
+pub(crate) fn write_count<W: Write>(alloc: Global, repo: &Repo, writer: &mut W) -> Result<(), Stop>
+    ensures { Puts (W.contents writer.old) (W.contents writer.new) (texts.count_text repo.now) result }
+{
     let counts = count_text(alloc, repo)?;
     put_text(writer, counts)
 }
@@ -31,10 +39,11 @@ pub(crate) fn write_history<W: Write>(
     history: &History,
     writer: &mut W,
 ) -> Result<(), Stop>
-    ensures { Grows (W.contents writer.old) (W.contents writer.new) }
+    ensures { Puts (W.contents writer.old) (W.contents writer.new)
+        (texts.history_text history.now.journal) result }
 {
-    for (place, event) in history.events().iter().enumerate() {
-        let line = event_line(alloc, place + 1, event)?;
+    for entry in history.entries() {
+        let line = entry_text(alloc, entry)?;
         put_text(writer, line)?;
     }
     Ok(())

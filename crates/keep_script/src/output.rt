@@ -1,25 +1,20 @@
-ghost use Rattle.std.specs.Prelude.{◌≡◌, IfErr, OnErr, OnOk};
-ghost use Rattle.std.specs.Io.KnownBytes.{Appends};
-ghost use Rattle.keep_script.specs.Known.{AppendsPrefix, Grows};
+ghost use Rattle.std.specs.Prelude.{◌≡◌, IfErr, string_bytes};
+ghost use Rattle.std.specs.Io.KnownBytes.{Keeps};
+ghost use Rattle.keep_script.specs.Known.{Puts};
 
 use crate::status::Stop;
 use std::io::{ErrorKind, Write};
 
 /// Writes all of the text, and lets it go.
 pub(crate) fn put_text<W: Write>(writer: &mut W, text: String) -> Result<(), Stop>
-    ensures ok { OnOk result (Appends (W.contents writer.old) (W.contents writer.new) text.bytes.items) }
-    ensures err { OnErr result (AppendsPrefix (W.contents writer.old) (W.contents writer.new) text.bytes.items) }
-    ensures reason { IfErr result (λ stop. stop ≡ Stop.WriteFailed) }
-    ensures grows { Grows (W.contents writer.old) (W.contents writer.new) }
+    ensures { Puts (W.contents writer.old) (W.contents writer.new) (string_bytes text) result }
 {
     put(writer, text.as_str().as_bytes())
 }
 
 /// Writes all of the bytes.
 fn put<W: Write>(writer: &mut W, bytes: &[u8]) -> Result<(), Stop>
-    ensures ok { OnOk result (Appends (W.contents writer.old) (W.contents writer.new) bytes.now) }
-    ensures err { OnErr result (AppendsPrefix (W.contents writer.old) (W.contents writer.new) bytes.now) }
-    ensures reason { IfErr result (λ stop. stop ≡ Stop.WriteFailed) }
+    ensures { Puts (W.contents writer.old) (W.contents writer.new) bytes.now result }
 {
     let mut rest = bytes;
     for _ in 0..u64::MAX {
@@ -37,4 +32,15 @@ fn put<W: Write>(writer: &mut W, bytes: &[u8]) -> Result<(), Stop>
         }
     }
     Err(Stop::WriteFailed)
+}
+
+/// Hands on what the writer keeps back.
+pub(crate) fn flush<W: Write>(writer: &mut W) -> Result<(), Stop>
+    ensures kept { Keeps (W.contents writer.old) (W.contents writer.new) }
+    ensures reason { IfErr result (λ stop. stop ≡ Stop.WriteFailed) }
+{
+    match writer.flush() {
+        Ok(()) => Ok(()),
+        Err(_) => Err(Stop::WriteFailed),
+    }
 }

@@ -1,5 +1,5 @@
 ghost use Rattle.std.specs.Prelude.{◌≡◌, [], ◌∷◌, IfOk};
-ghost use Rattle.keep_script.specs.Plan.{added_file, added_in, bytes_in, dropped_file, first_of};
+ghost use Rattle.keep_script.specs.Plan.{added_file, added_in, bytes_in, dropped_file, least, names_of};
 
 use keep_change::{Change, Listed, StoredFile};
 use keep_journal::History;
@@ -40,24 +40,19 @@ fn bytes_of(alloc: Global, repo: &Repo, name: FileName) -> Result<Bytes, AllocEr
     }
 }
 
-/// The least file of this kind among those that change n added, final or not. It is the first,
-/// since the adds of a committed change are in order.
+/// The least file of this kind among those that change n added, final or not.
 pub(crate) fn added_by(history: &History, n: u64, kind: Kind) -> Option<FileName>
-    ensures { result ≡ added_in history.now.events n kind }
+    ensures { result ≡ added_in history.now.journal n kind }
 {
-    first_of(history.change(n)?.adds.as_slice(), kind)
+    least_of(history.change(n)?.adds.as_slice(), kind)
 }
 
-/// The first of these files that has the kind.
-fn first_of(files: &[StoredFile], kind: Kind) -> Option<FileName>
-    ensures { result ≡ first_of kind files.now }
+/// The least name among these files that have the kind.
+fn least_of(files: &[StoredFile], kind: Kind) -> Option<FileName>
+    ensures { result ≡ least (names_of kind files.now) }
 {
-    for file in files {
-        if file.name.kind == kind {
-            return Some(file.name);
-        }
-    }
-    None
+    let names = files.iter().map(|file| file.name);
+    names.filter(|name| name.kind == kind).min()
 }
 
 fn one_file(alloc: Global, file: StoredFile) -> Result<Listed<StoredFile>, AllocError>

@@ -1,13 +1,21 @@
-ghost use Rattle.std.specs.Prelude.{◌≡◌, Ok, false};
-ghost use Rattle.std.specs.Io.KnownBytes.{IsAtEnd};
-ghost use Rattle.keep_script.specs.Known.{Grows};
+ghost use Rattle.std.specs.Prelude.{◌≡◌, ◌≤◌, ◌<◌, ◌⊎◌, IfSome, Ok, OnOk, length, true, false};
+ghost use Rattle.std.specs.Io.KnownBytes.{Keeps};
+ghost use Rattle.keep_script.specs.Input.{Counted, ahead_of, left_of};
+ghost use Rattle.keep_script.specs.Known.{Writes};
+ghost use Rattle.keep_script.specs.Line.{longest_script};
+ghost use Rattle.keep_script.specs.Run.{Ends, Refuses, StopsAt};
+ghost use Rattle.keep_script.specs.State.{State, begun, begun_over, state_of};
+ghost use Rattle.keep_script.specs.Step.{AnswersNext};
 
-use crate::answer::bad_line_text;
-use crate::input::Input;
-use crate::output::put_text;
-use crate::session::Session;
+use crate::input::{Input, Piece};
+use crate::notes::Notes;
+use crate::output::flush;
+use crate::reply::write_bad_line;
+use crate::session::answer_line;
 use crate::status::{Status, Stop};
-use std::alloc::{AllocError, Global};
+use keep_book::Book;
+use keep_repo::Repo;
+use std::alloc::Global;
 use std::io::{Read, Write};
 
 /// Answers the lines of a script in turn, over a repository that begins without files.
@@ -15,71 +23,121 @@ use std::io::{Read, Write};
 /// A line has at most 1,048,576 bytes before its end. The reader is given up after 67,108,864
 /// bytes or reads. Whatever ends the run, the lines before were answered.
 ///
-/// The answers to `list` and `history` are written line by line. Where one finds no memory midway,
-/// its first lines are written already, and the run ends as `NoMemory`.
+/// The writer is flushed before each read, and at the end. The answers to `list` and `history` are
+/// written line by line. Where one finds no memory midway, its first lines are written already, and
+/// the run ends as `NoMemory`.
 pub fn run<R: Read, W: Write>(alloc: Global, reader: &mut R, writer: &mut W) -> Status
-    ensures end { result ≡ Status.Done → IsAtEnd (R.remaining reader.new) }
-    ensures grows { Grows (W.contents writer.old) (W.contents writer.new) }
+    ensures answers { Writes (W.contents writer.old) (W.contents writer.new) (λ text. (after : State)
+        × Ends begun (R.remaining reader.old) (R.remaining reader.new) text result after) }
+    ensures limit { result ≡ Status.Done →
+        IfSome (R.remaining reader.old) (λ script. length script < longest_script) }
 {
-    match begin(alloc) {
-        Ok((mut input, mut session)) => answer_all(alloc, &mut input, &mut session, reader, writer),
-        Err(AllocError) => Status::NoMemory,
-    }
+    let mut book = Book::new(alloc, Repo::new(alloc));
+    run_over(alloc, &mut book, reader, writer)
 }
 
-fn begin(alloc: Global) -> Result<(Input, Session), AllocError> {
-    let input = Input::new(alloc)?;
-    let session = Session::new(alloc)?;
-    Ok((input, session))
+/// Answers the lines of a script over this book, which is left as the last line left it.
+fn run_over<R: Read, W: Write>(
+    alloc: Global,
+    book: &mut Book,
+    reader: &mut R,
+    writer: &mut W,
+) -> Status
+    ensures answers { Writes (W.contents writer.old) (W.contents writer.new) (λ text. (after : State)
+        × (after.book ≡ book.new)
+        × Ends (begun_over book.old) (R.remaining reader.old) (R.remaining reader.new) text result after) }
+    ensures limit { result ≡ Status.Done →
+        IfSome (R.remaining reader.old) (λ script. length script < longest_script) }
+{
+    let Ok(mut input) = Input::new(alloc) else {
+        return Status::NoMemory;
+    };
+    let mut notes = Notes::new(alloc);
+    let status = answer_all(alloc, &mut input, book, &mut notes, reader, writer);
+    finish(status, writer)
+}
+
+/// Hands on what the writer keeps back, and says how the run ended.
+fn finish<W: Write>(status: Status, writer: &mut W) -> Status
+    ensures kept { Keeps (W.contents writer.old) (W.contents writer.new) }
+    ensures status { (result ≡ status) ⊎ (result ≡ Status.WriteFailed) }
+{
+    let flushed = flush(writer);
+    status.once_flushed(flushed)
 }
 
 fn answer_all<R: Read, W: Write>(
     alloc: Global,
     input: &mut Input,
-    session: &mut Session,
+    book: &mut Book,
+    notes: &mut Notes,
     reader: &mut R,
     writer: &mut W,
 ) -> Status
-    ensures end { result ≡ Status.Done → IsAtEnd (R.remaining reader.new) }
-    ensures grows { Grows (W.contents writer.old) (W.contents writer.new) }
+    requires { ahead_of input.old ≤ longest_script }
+    ensures answers { Writes (W.contents writer.old) (W.contents writer.new) (λ text.
+        Ends (state_of book.old notes.old) (left_of input.old (R.remaining reader.old))
+        (R.remaining reader.new) text result (state_of book.new notes.new)) }
+    ensures limit { result ≡ Status.Done →
+        IfSome (left_of input.old (R.remaining reader.old)) (λ script. length script < longest_script) }
 {
     for number in 1..u64::MAX {
-        match answer_next(input, session, reader, writer) {
+        match answer_next(alloc, input, book, notes, reader, writer) {
             Ok(true) => {}
             Ok(false) => return Status::Done,
-            Err(Stop::BadLine) => return refuse(alloc, number, writer),
-            Err(stop) => return stop.status(number),
+            Err(stop) => return stop_at(alloc, number, stop, writer),
         }
     }
-    Status::ReadFailed
+    unreachable!()
 }
 
-/// Answers the next line, if there is one.
+/// Answers the next line, and says whether it had an end.
 fn answer_next<R: Read, W: Write>(
+    alloc: Global,
     input: &mut Input,
-    session: &mut Session,
+    book: &mut Book,
+    notes: &mut Notes,
     reader: &mut R,
     writer: &mut W,
 ) -> Result<bool, Stop>
-    ensures end { result ≡ Ok false → IsAtEnd (R.remaining reader.new) }
-    ensures grows { Grows (W.contents writer.old) (W.contents writer.new) }
+    ensures answers { Writes (W.contents writer.old) (W.contents writer.new) (λ text.
+        AnswersNext (state_of book.old notes.old) (left_of input.old (R.remaining reader.old))
+        (left_of input.new (R.remaining reader.new)) (R.remaining reader.new) text result
+        (state_of book.new notes.new)) }
+    ensures spent { result ≡ Ok true → ahead_of input.new < ahead_of input.old }
+    ensures counted { OnOk result (Counted
+        (left_of input.old (R.remaining reader.old)) (ahead_of input.old)
+        (left_of input.new (R.remaining reader.new)) (ahead_of input.new)) }
+    ensures more { result ≡ Ok false → 0 < ahead_of input.new }
 {
-    let Some(line) = input.next_line(reader)? else {
-        return Ok(false);
-    };
-    session.answer_line(line.as_slice(), writer)?;
-    Ok(true)
+    match input.next_line(reader, writer)? {
+        Piece::Line(line) => {
+            answer_line(alloc, line.as_slice(), book, notes, writer)?;
+            Ok(true)
+        }
+        Piece::Last(line) if line.is_empty() => Ok(false),
+        Piece::Last(line) => {
+            answer_line(alloc, line.as_slice(), book, notes, writer)?;
+            Ok(false)
+        }
+    }
+}
+
+/// How the run ends that stops at the line of this number. Of a bad line it says so.
+fn stop_at<W: Write>(alloc: Global, number: u64, stop: Stop, writer: &mut W) -> Status
+    ensures { StopsAt (W.contents writer.old) (W.contents writer.new) number stop result }
+{
+    match stop {
+        Stop::BadLine => refuse(alloc, number, writer),
+        stop => stop.status(number),
+    }
 }
 
 /// Says that the line of this number is bad, which ends the run.
 fn refuse<W: Write>(alloc: Global, number: u64, writer: &mut W) -> Status
-    ensures never_done { (result ≡ Status.Done) → ⊥ }
-    ensures grows { Grows (W.contents writer.old) (W.contents writer.new) }
+    ensures { Refuses (W.contents writer.old) (W.contents writer.new) number result }
 {
-    let Ok(text) = bad_line_text(alloc, number) else {
-        return Status::NoMemory;
-    };
-    match put_text(writer, text) {
+    match write_bad_line(alloc, number, writer) {
         Ok(()) => Status::BadLine(number),
         Err(stop) => stop.status(number),
     }

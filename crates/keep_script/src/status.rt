@@ -1,5 +1,5 @@
 ghost use Rattle.std.specs.Prelude.{◌≡◌};
-ghost use Rattle.keep_script.specs.Status.{status_at};
+ghost use Rattle.keep_script.specs.Status.{status_at, status_once_flushed};
 ghost use Rattle.keep_script.specs.declared.status.Stop.TheVariants.{NoMemory};
 
 use std::alloc::AllocError;
@@ -19,6 +19,18 @@ pub enum Status {
     /// The run itself found no memory: for a line, a note or an answer. Of the answer to `list` or
     /// `history` the first lines may be written.
     NoMemory,
+}
+
+impl Status {
+    /// How a run ends that would end so, once the writer was flushed.
+    pub(crate) fn once_flushed(self, flushed: Result<(), Stop>) -> Status
+        ensures { result ≡ status_once_flushed self flushed }
+    {
+        match flushed {
+            Ok(()) => self,
+            Err(_) => Status::WriteFailed,
+        }
+    }
 }
 
 /// Why a run ends before its script does.

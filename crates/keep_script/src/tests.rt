@@ -1,148 +1,17 @@
+mod ends;
+mod rows;
+
+use crate::answer::told_text;
 use crate::{Status, run};
+use ends::{ByLine, Endless, Flushed, LineByLine, Narrow, Slow};
+use keep_book::Refusal;
+use keep_names::{FileName, Id, Kind};
+use keep_repo::Facet;
+use rows::{BAD_LINES, EXAMPLES, LISTED, LISTING, ROWS, Row};
 use std::alloc::{AllocError, Global};
-use std::io::{self, ErrorKind, Read, Write};
+use std::io::Read;
 use std::process::Abort;
 use std::test::Fail;
-
-/// A script, what is written for it, and how the run ends.
-type Row = (&'static str, &'static str, Status);
-
-const ROWS: [Row; 5] = [
-    ("", "", Status::Done),
-    ("# nothing\tto do", "bad line 1\n", Status::BadLine(1)),
-    (
-        "add snapshot 61\nadd index 62\nnote n\ndrop index @2\nundo 3\nsame n\nlist",
-        "ok 1 at 1 +1 -0 *0 ~0\nok 2 at 2 +1 -0 *0 ~0\nnoted n\nok 3 at 3 +0 -1 *0 ~0\nok 3 at 4\nsame n yes\nindex 3e23e8160039594a33894f6564e1b1348bbd7a0088d42c4acb73eeaed59c009d 1\nsnapshot ca978112ca1bbdcafac231b39a23dc4da786eff8147c4e72b9807785afee48bb 1\nfiles 2 marks 0\n",
-        Status::Done,
-    ),
-    (
-        "add index 61\ndrop index @1\nundo 1\nundo 2\nundo 1\nredo 2\nempty 1\n\ncount\nhistory\n",
-        "ok 1 at 1 +1 -0 *0 ~0\nok 2 at 2 +0 -1 *0 ~0\nno LeanedOn 2\nok 2 at 3\nok 1 at 4\nno Blocked 2\nok 1 at 5\nfiles 0 marks 0\n1 commit 1\n2 commit 2\n3 undo 2\n4 undo 1\n5 empty 1\n",
-        Status::Done,
-    ),
-    (
-        "add index 61\ndrop index @1\nadd index 61\nundo 2\nundo 3\nundo 2\nredo 3\nadd index 61\nundo 01",
-        "ok 1 at 1 +1 -0 *0 ~0\nok 2 at 2 +0 -1 *0 ~0\nok 3 at 3 +1 -0 *0 ~0\nno LeanedOn 3\nok 3 at 4\nok 2 at 5\nno Blocked 3\nno Unmet index ca978112ca1bbdcafac231b39a23dc4da786eff8147c4e72b9807785afee48bb\nbad line 9\n",
-        Status::BadLine(9),
-    ),
-];
-
-/// Lines that are none of the language after one file was added.
-const BAD_LINES: [&str; 16] = [
-    "list\t",
-    "list ",
-    " list",
-    "add  index 61",
-    "add index",
-    "add index 6",
-    "add index 6A",
-    "add tree 61",
-    "undo +1",
-    "undo 18446744073709551616",
-    "drop index @9",
-    "drop snapshot @1",
-    "drop index 61",
-    "note n_n",
-    "same n",
-    "backup web",
-];
-
-/// A script whose answers to `list` and `history` have several lines.
-const LISTING: &str = "add pack -\nadd index 61\nlist\nundo 1\nhistory";
-
-const LISTED: &str =
-    "ok 1 at 1 +1 -0 *0 ~0\nok 2 at 2 +1 -0 *0 ~0\npack e3b0c44298fc1c149afbf4c8996fb92427ae41e4649b934ca495991b7852b855 0\nindex ca978112ca1bbdcafac231b39a23dc4da786eff8147c4e72b9807785afee48bb 1\nfiles 2 marks 0\nok 1 at 3\n1 commit 1\n2 commit 2\n3 undo 1\n";
-
-/// Gives one byte a read, each after a read that was interrupted, and may fail at the end.
-#[derive(Drop)]
-struct Slow<'a> {
-    bytes: &'a [u8],
-    interrupted: bool,
-    fails: bool,
-}
-
-impl Read for Slow<'_> {
-    fn read(&mut self, buf: &mut [u8]) -> io::Result<usize> {
-        self.interrupted = !self.interrupted;
-        if self.interrupted {
-            return Err(io::Error::from(ErrorKind::Interrupted));
-        }
-        let Some((first, rest)) = self.bytes.split_first() else {
-            return if self.fails {
-                Err(io::Error::from(ErrorKind::Other))
-            } else {
-                Ok(0)
-            };
-        };
-        if buf.is_empty() {
-            return Ok(0);
-        }
-        buf[0] = *first;
-        self.bytes = rest;
-        Ok(1)
-    }
-}
-
-/// Gives comments without end.
-#[derive(Drop)]
-struct Endless;
-
-impl Read for Endless {
-    fn read(&mut self, buf: &mut [u8]) -> io::Result<usize> {
-        for byte in buf.iter_mut() {
-            *byte = b'#';
-        }
-        if let Some(last) = buf.last_mut() {
-            *last = b'\n';
-        }
-        Ok(buf.len())
-    }
-}
-
-/// Takes one byte a call, and no more than it has room for.
-#[derive(Drop)]
-struct Narrow {
-    held: Vec<u8>,
-    room: usize,
-}
-
-impl Write for Narrow {
-    fn write(&mut self, buf: &[u8]) -> io::Result<usize> {
-        if buf.is_empty() || self.room == 0 {
-            return Ok(0);
-        }
-        self.held.push(buf[0])?;
-        self.room -= 1;
-        Ok(1)
-    }
-
-    fn flush(&mut self) -> io::Result<()> {
-        Ok(())
-    }
-}
-
-/// Takes what it is given at once, where that is one line.
-#[derive(Drop)]
-struct ByLine {
-    held: Vec<u8>,
-}
-
-impl Write for ByLine {
-    fn write(&mut self, buf: &[u8]) -> io::Result<usize> {
-        let Some((last, before)) = buf.split_last() else {
-            return Ok(0);
-        };
-        if *last != b'\n' || before.contains(last) {
-            return Err(io::Error::from(ErrorKind::Other));
-        }
-        self.held.extend_from_slice(buf)?;
-        Ok(buf.len())
-    }
-
-    fn flush(&mut self) -> io::Result<()> {
-        Ok(())
-    }
-}
 
 fn expect<R: Read>(rt: &impl Abort, alloc: Global, reader: &mut R, answers: &str, status: Status) {
     let mut written = Vec::new(alloc);
@@ -151,16 +20,29 @@ fn expect<R: Read>(rt: &impl Abort, alloc: Global, reader: &mut R, answers: &str
     assert!(rt; written.as_slice() == answers.as_bytes(), "not {answers}");
 }
 
+/// The answers are the same where the script comes byte by byte.
+fn expect_row(rt: &impl Abort, alloc: Global, row: Row) {
+    let (script, answers, status) = row;
+    expect(rt, alloc, &mut script.as_bytes(), answers, status);
+    let mut slow = Slow {
+        bytes: script.as_bytes(),
+        interrupted: false,
+        fails: false,
+    };
+    expect(rt, alloc, &mut slow, answers, status);
+}
+
 #[test]
 fn scripts_are_answered(rt: HostRuntime) {
-    for (script, answers, status) in ROWS {
-        expect(&rt, rt.alloc(), &mut script.as_bytes(), answers, status);
-        let mut slow = Slow {
-            bytes: script.as_bytes(),
-            interrupted: false,
-            fails: false,
-        };
-        expect(&rt, rt.alloc(), &mut slow, answers, status);
+    for row in ROWS {
+        expect_row(&rt, rt.alloc(), row);
+    }
+}
+
+#[test]
+fn examples_are_answered(rt: HostRuntime) {
+    for row in EXAMPLES {
+        expect_row(&rt, rt.alloc(), row);
     }
 }
 
@@ -286,4 +168,69 @@ fn listings_may_break_off(rt: HostRuntime) {
             "at {room}"
         );
     }
+}
+
+/// A script of three lines, of which the last lacks its end.
+const THREE_LINES: &str = "add index 61\ncount\nundo 1";
+
+#[test]
+fn each_answer_is_handed_on_before_the_next_read(rt: HostRuntime) {
+    let alloc = rt.alloc();
+    for (flushes, lengths, status) in [
+        (99, [0, 22, 38, 38, 48].as_slice(), Status::Done),
+        (4, &[0, 22, 38, 38], Status::WriteFailed),
+        (1, &[0], Status::WriteFailed),
+    ] {
+        let mut writer = Flushed {
+            held: Vec::new(alloc),
+            lengths: Vec::new(alloc),
+            flushes,
+        };
+        let mut reader = LineByLine {
+            bytes: THREE_LINES.as_bytes(),
+        };
+        let ended = run(alloc, &mut reader, &mut writer);
+        assert_eq!(rt; ended, status, "at {flushes}");
+        assert!(rt; writer.lengths.as_slice() == lengths, "at {flushes}");
+    }
+}
+
+#[test]
+fn refusals_are_told_by_their_words(rt: HostRuntime) -> Result<(), Fail> {
+    let mark = Facet::Mark(Id([0x61; 32]));
+    let name = FileName {
+        kind: Kind::Index,
+        id: Id([0x0a; 32]),
+    };
+    for (refusal, answer, number) in [
+        (Refusal::Malformed, "no Malformed\n", Some(12)),
+        (Refusal::Unknown, "no Unknown\n", Some(24)),
+        (Refusal::Final, "no Final\n", Some(25)),
+        (Refusal::NotInForce, "no NotInForce\n", Some(26)),
+        (Refusal::InForce, "no InForce\n", Some(26)),
+        (Refusal::Full, "no Full\n", Some(27)),
+        (Refusal::Stale(5), "no Stale 5\n", Some(28)),
+        (
+            Refusal::Unmet(Facet::File(name)),
+            "no Unmet index 0a0a0a0a0a0a0a0a0a0a0a0a0a0a0a0a0a0a0a0a0a0a0a0a0a0a0a0a0a0a0a0a\n",
+            Some(30),
+        ),
+        (
+            Refusal::Unmet(mark),
+            "no Unmet mark 6161616161616161616161616161616161616161616161616161616161616161\n",
+            Some(30),
+        ),
+        (Refusal::LeanedOn(2), "no LeanedOn 2\n", Some(31)),
+        (
+            Refusal::Blocked(18_446_744_073_709_551_615),
+            "no Blocked 18446744073709551615\n",
+            Some(32),
+        ),
+        (Refusal::Memory, "no Memory\n", None),
+    ] {
+        assert_eq!(rt; refusal.number(), number, "{answer}");
+        let text = told_text(rt.alloc(), Err(refusal))?;
+        assert_eq!(rt; text.as_str(), answer);
+    }
+    Ok(())
 }

@@ -35,7 +35,7 @@ pub(crate) fn parse_kind(word: &str) -> Option<Kind>
 
 /// The number that prints as this word.
 pub(crate) fn parse_number(word: &str) -> Option<u64>
-    ensures value { IfSome result (λ n. decimal n ≡ word.now) }
+    ensures value { IfSome result (λ n. (n < 2 ^ 64) × (decimal n ≡ word.now)) }
     ensures each { (n : ℕ) → n < 2 ^ 64 → decimal n ≡ word.now → result ≡ Some n }
 {
     if !has_plain_front(word) {
@@ -69,7 +69,7 @@ fn has_name_bytes(word: &str) -> bool
 pub(crate) fn parse_hex(alloc: Global, word: &str) -> Result<Option<Vec<u8>>, AllocError>
     ensures { IfOk result (λ found. MatchOption found
         ((bytes : List ℕ) → IsBytes bytes → hex_text bytes ≢ word.now)
-        (λ bytes. hex_text bytes.items ≡ word.now)) }
+        (λ bytes. IsBytes bytes.items × (hex_text bytes.items ≡ word.now))) }
 {
     if word == "-" {
         return Ok(Some(Vec::new(alloc)));
@@ -91,8 +91,9 @@ pub(crate) fn parse_hex(alloc: Global, word: &str) -> Result<Option<Vec<u8>>, Al
 
 /// A file by its 64 digits, or `@` and the number of the change that added it.
 pub(crate) fn parse_target(word: &str) -> Option<Target>
-    ensures value { IfSome result (λ target. target_text target ≡ word.now) }
-    ensures each { (target : Target) → IsTarget target → target_text target ≡ word.now → result ≡ Some target }
+    ensures value { IfSome result (λ target. IsTarget target × (target_text target ≡ word.now)) }
+    ensures each { (target : Target) → IsTarget target → target_text target ≡ word.now →
+        result ≡ Some target }
 {
     match word.strip_prefix('@') {
         Some(number) => {

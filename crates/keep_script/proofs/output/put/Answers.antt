@@ -1,19 +1,20 @@
 use Rattle.std.proofs.lemmas.Grind.{common_steps}
-use Rattle.std.proofs.Common.{arith, Bor, ℕ, List, ◌++◌, ◌∙◌, sym, ap, take}
+use Rattle.std.proofs.Common.{arith, Bor, ℕ, List, [], ◌++◌, ◌∙◌, sym, ap, take, append-nil}
 use Rattle.std.proofs.KnownBytes.{Appends-kept, Appends-trans}
-use Rattle.keep_script.proofs.KnownLemmas.{AppendsPrefix-from, AppendsPrefix-kept, AppendsPrefix-more}
+use Rattle.keep_script.proofs.KnownLemmas.{AppendsPart-from, AppendsPart-more, AppendsPart-taken}
 use Rattle.keep_script.proofs.output.put.Goals as goal
 use Rattle.keep_script.proofs.output.put.Goals.{in-Ok, in-Err+else-ne}
 
-pub returns-in-Ok-eq0-clause-err : goal.returns-in-Ok-eq0-clause-err
-returns-in-Ok-eq0-clause-err g c =
+pub returns-in-Ok-eq0 : goal.returns-in-Ok-eq0
+returns-in-Ok-eq0 g c =
     let (done, split, appended) = c.loop.invariant in
-    AppendsPrefix-more _ _ _ _ done c.loop.rest.now c.in-Ok-eq0.field-0 split appended c.in-Ok-eq0.ensures.bytes
+    let rest = c.loop.rest.now in
+    AppendsPart-more _ _ _ _ done rest [] (split ∙ ap (λ l. done ++ l) (sym (append-nil rest))) appended (AppendsPart-taken _ _ rest c.in-Ok-eq0.field-0 c.in-Ok-eq0.ensures.bytes)
 
-pub returns-then-ne-clause-err : goal.returns-then-ne-clause-err
-returns-then-ne-clause-err g c =
+pub returns-then-ne : goal.returns-then-ne
+returns-then-ne g c =
     let (done, split, appended) = c.loop.invariant in
-    AppendsPrefix-kept _ _ _ _ done c.loop.rest.now split appended c.in-Err.ensures.bytes
+    AppendsPart-from _ _ _ done c.loop.rest.now split (Appends-kept _ _ _ done appended c.in-Err.ensures.bytes)
 
 pub loop-preserved : goal.loop-preserved
 loop-preserved g c =
@@ -24,7 +25,7 @@ loop-preserved g c =
       | in-Err+else-ne w ↦ (done, split ∙ ap (λ (r : Bor (List ℕ)). done ++ r.now) (sym w.rest-is), Appends-kept _ _ _ done appended w.in-Err.ensures.bytes)
     ]
 
-pub returns-clause-err : goal.returns-clause-err
-returns-clause-err g c =
+pub returns : goal.returns
+returns g c =
     let (done, split, appended) = c.loop.invariant in
-    AppendsPrefix-from _ _ _ done c.loop.rest.now split appended
+    AppendsPart-from _ _ _ done c.loop.rest.now split appended

@@ -1,31 +1,45 @@
-use Rattle.std.proofs.Common.{◌≡◌, Err, sym, ◌∙◌, arith}
+use Rattle.std.proofs.Common.{◌≡◌, Err, length, sym, ap, ◌∙◌, arith}
 use Rattle.std.proofs.lemmas.Result.{err_from_is_err_and}
+use Rattle.std.proofs.KnownBytes.{Consumes-kept, Keeps-trans}
 use Rattle.keep_script.specs.declared.status.Stop.TheVariants.{BadLine}
-use Rattle.std.proofs.KnownBytes.{Consumes-kept}
-use Rattle.keep_script.proofs.NextLine.{Consumes-gathered, TakesLine-met, place-gathered, too_long_so_far}
+use Rattle.keep_script.proofs.NextLine.{Consumes-gathered, Consumes-met, none-gathered, too_long_so_far, used-gathered}
 use Rattle.keep_script.specs.Input.{unread_of}
 use Rattle.keep_script.specs.Line.{HasLineEnd}
 use Rattle.keep_script.proofs.input.Input.next_line.Goals as goal
 
 pub returns-in_err-take-clause-too_long : goal.returns-in_err-take-clause-too_long
 returns-in_err-take-clause-too_long g c bad =
-    let split = Consumes-kept _ _ _ c.loop.line.items c.loop.invariant.0 c.in_ok-look_ahead.ensures.kept in
+    let line = c.loop-turn.line.items in
+    let split = Consumes-kept _ _ _ line c.loop-turn.invariant.taken c.in_ok-look_ahead.ensures.kept in
     let passed = err_from_is_err_and c.from_residual-in_err-take.result c.from_residual-in_err-take.ensures.1 in
     let same : Err c.in_err-take.field-0.0 ≡ Err BadLine = cc (passed.1, passed.2, bad) in
     let long = c.in_err-take.ensures.too_long same in
-    too_long_so_far _ _ c.loop.line.items (unread_of c.look_ahead.new.self) _ split c.loop.invariant.1 (omega (arith, long, c.loop.line.ok.0))
+    too_long_so_far _ _ line (unread_of c.look_ahead.new.self) _ split c.loop-turn.invariant.none (omega (arith, long, c.loop-turn.line.ok.0))
 
-pub returns-then-branch-clause-line : goal.returns-then-branch-clause-line
-returns-then-branch-clause-line g c =
-    let split = Consumes-kept _ _ _ c.loop.line.items c.loop.invariant.0 c.in_ok-look_ahead.ensures.kept in
-    let some = c.in_ok-take.ensures.met.0 c.if-branch.true in
-    TakesLine-met _ _ c.loop.line.items (unread_of c.look_ahead.new.self) _ _ split c.loop.invariant.1 some c.in_ok-take.ensures.moved c.in_ok-take.ensures.rest
-
-pub loop-preserved : goal.loop-preserved
-loop-preserved g c =
-    let split = Consumes-kept _ _ _ c.loop.line.items c.loop.invariant.0 c.in_ok-look_ahead.ensures.kept in
-    let none : HasLineEnd (unread_of c.look_ahead.new.self) → ⊥ = λ h. cc (sym c.if-branch.false ∙ c.in_ok-take.ensures.met.1 h) in (
-      Consumes-gathered _ _ c.loop.line.items (unread_of c.look_ahead.new.self) _ _ split none c.in_ok-take.ensures.moved c.in_ok-take.ensures.rest,
-      place-gathered c.loop.line.items (unread_of c.look_ahead.new.self) _ c.loop.invariant.1 none c.in_ok-take.ensures.moved,
-      c.in_ok-take.ensures.short,
+pub returns-then-branch-clause-taken : goal.returns-then-branch-clause-taken
+returns-then-branch-clause-taken g c =
+    let line = c.loop-turn.line.items in
+    let unread = unread_of c.look_ahead.new.self in
+    let split = Consumes-kept _ _ _ line c.loop-turn.invariant.taken c.in_ok-look_ahead.ensures.kept in
+    let some = c.in_ok-take.ensures.met.0 c.if-branch.true in (
+      none-gathered line unread _ c.loop-turn.invariant.none c.in_ok-take.ensures.moved,
+      Consumes-met _ _ line unread _ _ split some c.in_ok-take.ensures.moved c.in_ok-take.ensures.rest,
     )
+
+pub loop-turn-preserved : goal.loop-turn-preserved
+loop-turn-preserved g c =
+    let line = c.loop-turn.line.items in
+    let unread = unread_of c.look_ahead.new.self in
+    let split = Consumes-kept _ _ _ line c.loop-turn.invariant.taken c.in_ok-look_ahead.ensures.kept in
+    let missing : HasLineEnd unread → ⊥ = λ h. cc (sym c.if-branch.false ∙ c.in_ok-take.ensures.met.1 h) in
+    let moved = c.in_ok-take.ensures.moved in
+    let rest = c.in_ok-take.ensures.rest in
+    let used = used-gathered line unread c.take.new.line.items (unread_of c.take.new.self) missing moved rest in
+    record {
+      taken = Consumes-gathered _ _ line unread _ _ split missing moved rest;
+      none = none-gathered line unread _ c.loop-turn.invariant.none moved;
+      short = c.in_ok-take.ensures.short;
+      spent = omega (arith, ap length used.0, used.1, c.in_ok-take.ensures.same, c.in_ok-look_ahead.ensures.ahead, c.loop-turn.invariant.spent, c.loop-turn.line.ok.0, c.take.new.line.ok.0);
+      used = λ _. used.0;
+      quiet = Keeps-trans _ _ _ c.loop-turn.invariant.quiet c.look_ahead.ensures.quiet;
+    }

@@ -1,0 +1,53 @@
+-- How many bytes may still come, beside how many are left.
+use Rattle.std.proofs.Common.{◌≡◌, ℕ, ◌+◌, ◌<◌, ◌≤◌, List, [], ◌∷◌, ◌++◌, Option, Some, None, IfSome, length, ap, ◌∙◌, arith}
+use Rattle.std.proofs.lemmas.List.{length-append}
+use Rattle.std.specs.Io.KnownBytes.{Consumes, IsAtEnd}
+use Rattle.keep_script.specs.Input.{Counted, Takes, size_of}
+use Rattle.keep_script.specs.declared.input.Piece.{Piece}
+use Rattle.keep_script.specs.declared.input.Piece.TheVariants.{Line, Last}
+use Rattle.keep_script.specs.Line.{longest_script}
+use Rattle.keep_script.specs.Run.{StopsAt}
+use Rattle.keep_script.specs.declared.status.Status.TheVariants.{Done}
+use Rattle.keep_script.specs.declared.status.Stop.{Stop}
+use Rattle.keep_script.specs.declared.status.Stop.TheVariants.{BadLine, ReadFailed, WriteFailed, NoMemory}
+
+-- bytes that were taken are counted
+Counted-taken : (a b : Option (List ℕ)) (before after : ℕ) (bytes : List ℕ) → Consumes a b bytes → after + length bytes ≤ before → Counted a before b after
+Counted-taken None b before after bytes taken less = tt
+Counted-taken (Some xs) None before after bytes taken less = absurd taken
+Counted-taken (Some xs) (Some ys) before after bytes taken less =
+    let size = ap length taken ∙ length-append bytes ys in
+    omega (arith, size, less)
+
+pub Counted-piece : (a b : Option (List ℕ)) (before after : ℕ) (piece : Piece) → Takes a b piece → after + size_of piece ≡ before → Counted a before b after
+Counted-piece a b before after (Line line) taken less =
+    let size = length-append line.items (10 ∷ []) in
+    Counted-taken a b before after (line.items ++ 10 ∷ []) taken.1 (omega (arith, size, less))
+Counted-piece a b before after (Last line) taken less = Counted-taken a b before after line.items taken.1 (omega (arith, less))
+
+pub Counted-none : (a : Option (List ℕ)) (n : ℕ) → Counted a n a n
+Counted-none None n = tt
+Counted-none (Some xs) n = omega arith
+
+pub Counted-more : (a b c : Option (List ℕ)) (first then last : ℕ) (bytes : List ℕ) → Consumes a b bytes → Counted a first b then → Counted b then c last → Counted a first c last
+Counted-more None b c first then last bytes taken h k = tt
+Counted-more (Some xs) None c first then last bytes taken h k = absurd taken
+Counted-more (Some xs) (Some ys) None first then last bytes taken h k = tt
+Counted-more (Some xs) (Some ys) (Some zs) first then last bytes taken h k = omega (arith, h, k)
+
+-- a script that was read whole is short enough
+pub Counted-whole : (a b c : Option (List ℕ)) (first then last : ℕ) (bytes more : List ℕ) → Consumes a b bytes → Consumes b c more → Counted a first b then → Counted b then c last → IsAtEnd c → 0 < last → first ≤ longest_script
+    → IfSome a (λ script. length script < longest_script)
+Counted-whole None b c first then last bytes more taken next h k end left low = tt
+Counted-whole (Some xs) None c first then last bytes more taken next h k end left low = absurd taken
+Counted-whole (Some xs) (Some ys) None first then last bytes more taken next h k end left low = absurd next
+Counted-whole (Some xs) (Some ys) (Some zs) first then last bytes more taken next h k end left low =
+    let none = ap length end in
+    omega (arith, h, k, none, left, low)
+
+-- a run that stops isn't done
+pub StopsAt-Done : (a b : Option (List ℕ)) (number : ℕ) (stop : Stop) → StopsAt a b number stop Done → ⊥
+StopsAt-Done a b number BadLine h = h
+StopsAt-Done a b number ReadFailed h = cc h.0
+StopsAt-Done a b number WriteFailed h = cc h.0
+StopsAt-Done a b number NoMemory h = cc h.0

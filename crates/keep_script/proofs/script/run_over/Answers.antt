@@ -1,0 +1,30 @@
+use Rattle.std.proofs.Common.{◌≡◌, ℕ, ◌<◌, List, Option, IfSome, inl, inr, length, sym, ap, subst, ◌∙◌, refl}
+use Rattle.std.proofs.KnownBytes.{prepend_known-nil}
+use Rattle.std.specs.Io.KnownBytes.{prepend_known}
+use Rattle.keep_repo.specs.Repository.{Repository}
+use Rattle.keep_script.proofs.RunLemmas.{Ends-begun, Ends-finished, Ends-nothing}
+use Rattle.keep_script.specs.Line.{longest_script}
+use Rattle.keep_script.specs.declared.status.Status.TheVariants.{Done}
+use Rattle.keep_script.specs.State.{begun_over, state_of}
+use Rattle.keep_script.proofs.script.run_over.Goals as goal
+
+pub returns-in_default-clause-answers : goal.returns-in_default-clause-answers
+returns-in_default-clause-answers g c =
+    let begun = begun_over c.args.book.now in
+    let none = Ends-nothing (g.R.Read.remaining c.args.reader.now) (g.R.Read.remaining c.args.reader.now) (g.W.Write.contents c.args.writer.now) begun in
+    (none.0, none.1, (begun, refl, none.2))
+
+pub returns-clause-answers : goal.returns-clause-answers
+returns-clause-answers g c =
+    let before = ap (λ (n : List ℕ → Option Repository). record { book = c.args.book.now; notes = n }) c.new-notes.ensures in
+    let read = ap (λ bs. prepend_known bs (g.R.Read.remaining c.args.reader.now)) c.in-Ok.ensures.unread ∙ prepend_known-nil (g.R.Read.remaining c.args.reader.now) in
+    let whole = Ends-begun _ (g.R.Read.remaining c.args.reader.now) _ _ _ _ (begun_over c.args.book.now) _ _ before read c.answer_all-status.ensures.answers in
+    let handed = Ends-finished (g.R.Read.remaining c.args.reader.now) _ _ _ _ (begun_over c.args.book.now) _ _ _ whole c.finish.ensures.kept c.finish.ensures.status in
+    (handed.0, handed.1, (state_of c.answer_all-status.new.book c.answer_all-status.new.notes, refl, handed.2))
+
+pub returns-clause-limit : goal.returns-clause-limit
+returns-clause-limit g c done =
+    let known = g.R.Read.remaining c.args.reader.now in
+    let read = ap (λ bs. prepend_known bs known) c.in-Ok.ensures.unread ∙ prepend_known-nil known in
+    let same : c.answer_all-status.result ≡ Done = elim c.finish.ensures.status [ inl kept ↦ sym kept ∙ done | inr failed ↦ cc (sym done ∙ failed) ] in
+    subst (λ k. IfSome k (λ script. length script < longest_script)) read (c.answer_all-status.ensures.limit same)

@@ -1,0 +1,78 @@
+-- What a run over the lines of a script writes, and how it ends.
+use Rattle.std.specs.Prelude.{◌≡◌, ℕ, ◌+◌, ◌⊎◌, List, [], ◌∷◌, ◌++◌, Option, IfSome}
+use Rattle.std.specs.Io.KnownBytes.{Appends, Consumes, IsAtEnd, Keeps}
+use Rattle.std.specs.List.{AllByRecursion}
+use Rattle.keep_script.specs.Answer.{Answered, IsBad}
+use Rattle.keep_script.specs.Known.{AppendsPart}
+use Rattle.keep_script.specs.Line.{HasLineEnd, ended, lines_of}
+use Rattle.keep_script.specs.State.{State}
+use Rattle.keep_script.specs.Text.{bad_line_text}
+use Rattle.keep_script.specs.declared.status.Stop.{Stop}
+use Rattle.keep_script.specs.declared.status.Stop.TheVariants as stop
+use Rattle.keep_script.specs.declared.status.Status.{Status}
+use Rattle.keep_script.specs.declared.status.Status.TheVariants.{Done, BadLine, ReadFailed, WriteFailed, NoMemory}
+
+-- the run ends at a bad line of this number
+pub record Stops (state : State) (number : ℕ) (line written : List ℕ)
+    (status : Status) (after : State) : Type 0 where
+  pub bad : IsBad state line
+  pub text : written ≡ bad_line_text number
+  pub ended : status ≡ BadLine number
+  pub same : after ≡ state
+
+-- the text for these lines, the first of this number, how a run over them ends, and the state that it leaves
+abbrev pub Answer : State → ℕ → List (List ℕ) → List ℕ → Status → State → Type 0
+Answer state number [] text status after = (text ≡ []) × (status ≡ Done) × (after ≡ state)
+Answer state number (line ∷ lines) text status after =
+    Stops state number line text status after
+    ⊎ ((first rest : List ℕ) × (next : State) × Answered state line first next × (text ≡ first ++ rest)
+    × Answer next (number + 1) lines rest status after)
+
+-- the text for the whole script
+abbrev pub IsAnswer : State → Option (List ℕ) → List ℕ → Status → State → Type 0
+IsAnswer state known text status after =
+    IfSome known (λ script. Answer state 1 (lines_of script) text status after)
+
+-- the text for the lines that were whole, where no more than those and a piece of the next was read
+pub record ReadUpTo (state : State) (known left : Option (List ℕ))
+    (text : List ℕ) (after : State) : Type 0 where
+  pub lines : List (List ℕ)
+  pub piece : List ℕ
+  pub each : AllByRecursion (λ line. HasLineEnd line → ⊥) lines
+  pub last : HasLineEnd piece → ⊥
+  pub read : Consumes known left (ended lines ++ piece)
+  pub answer : Answer state 1 lines text Done after
+
+-- the text breaks off: it is a first part of that for some first lines of the script
+pub record BreaksOff (state : State) (script : List (List ℕ)) (text : List ℕ) (after : State) : Type 0 where
+  pub lines : List (List ℕ)
+  pub others : List (List ℕ)
+  pub rest : List ℕ
+  pub status : Status
+  pub split : script ≡ lines ++ others
+  pub answer : Answer state 1 lines (text ++ rest) status after
+
+-- what is written by a run from this state, over a reader that had the known bytes, by how it ended
+abbrev pub Ends : State → Option (List ℕ) → Option (List ℕ) → List ℕ → Status → State → Type 0
+Ends state known left text Done after = IsAtEnd left × IsAnswer state known text Done after
+Ends state known left text (BadLine number) after = IsAnswer state known text (BadLine number) after
+Ends state known left text ReadFailed after = ReadUpTo state known left text after
+Ends state known left text WriteFailed after =
+    IfSome known (λ script. BreaksOff state (lines_of script) text after)
+Ends state known left text NoMemory after =
+    IfSome known (λ script. BreaksOff state (lines_of script) text after)
+
+-- what is written at a bad line, and how the run ends then
+abbrev pub Refuses : Option (List ℕ) → Option (List ℕ) → ℕ → Status → Type 0
+Refuses old new number (BadLine k) = (k ≡ number) × Appends old new (bad_line_text number)
+Refuses old new number WriteFailed = AppendsPart old new (bad_line_text number)
+Refuses old new number NoMemory = AppendsPart old new (bad_line_text number)
+Refuses old new number Done = ⊥
+Refuses old new number ReadFailed = ⊥
+
+-- how a run ends that stops at the line of this number, and what is written then
+abbrev pub StopsAt : Option (List ℕ) → Option (List ℕ) → ℕ → Stop → Status → Type 0
+StopsAt old new number stop.BadLine status = Refuses old new number status
+StopsAt old new number stop.ReadFailed status = (status ≡ ReadFailed) × Keeps old new
+StopsAt old new number stop.WriteFailed status = (status ≡ WriteFailed) × Keeps old new
+StopsAt old new number stop.NoMemory status = (status ≡ NoMemory) × Keeps old new

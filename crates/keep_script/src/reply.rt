@@ -1,0 +1,67 @@
+ghost use Rattle.keep_script.specs.Known.{Puts};
+ghost use Rattle.keep_script.specs.Text as texts;
+
+use crate::answer::{Sizes, bad_line_text, commit_text, noted_text, same_text, told_text};
+use crate::output::put_text;
+use crate::status::Stop;
+use keep_book::{Refusal, Told};
+use std::alloc::Global;
+use std::io::Write;
+
+/// Writes the answer to a change that was to be committed.
+pub(crate) fn write_committed<W: Write>(
+    alloc: Global,
+    outcome: Result<Told, Refusal>,
+    sizes: Sizes,
+    writer: &mut W,
+) -> Result<(), Stop>
+    ensures { Puts (W.contents writer.old) (W.contents writer.new)
+        (texts.reply_text (texts.commit_text sizes) outcome) result }
+{
+    let text = commit_text(alloc, outcome, sizes)?;
+    put_text(writer, text)
+}
+
+/// Writes the answer to `undo`, `redo` and `empty`.
+pub(crate) fn write_told<W: Write>(
+    alloc: Global,
+    outcome: Result<Told, Refusal>,
+    writer: &mut W,
+) -> Result<(), Stop>
+    ensures { Puts (W.contents writer.old) (W.contents writer.new)
+        (texts.reply_text texts.told_text outcome) result }
+{
+    let text = told_text(alloc, outcome)?;
+    put_text(writer, text)
+}
+
+pub(crate) fn write_noted<W: Write>(alloc: Global, name: &str, writer: &mut W) -> Result<(), Stop>
+    ensures { Puts (W.contents writer.old) (W.contents writer.new) (texts.noted_text name.now) result }
+{
+    let text = noted_text(alloc, name)?;
+    put_text(writer, text)
+}
+
+pub(crate) fn write_same<W: Write>(
+    alloc: Global,
+    name: &str,
+    same: bool,
+    writer: &mut W,
+) -> Result<(), Stop>
+    ensures { Puts (W.contents writer.old) (W.contents writer.new) (texts.same_text name.now same) result }
+{
+    let text = same_text(alloc, name, same)?;
+    put_text(writer, text)
+}
+
+/// Says that the line of this number isn't one of the language.
+pub(crate) fn write_bad_line<W: Write>(
+    alloc: Global,
+    number: u64,
+    writer: &mut W,
+) -> Result<(), Stop>
+    ensures { Puts (W.contents writer.old) (W.contents writer.new) (texts.bad_line_text number) result }
+{
+    let text = bad_line_text(alloc, number)?;
+    put_text(writer, text)
+}
