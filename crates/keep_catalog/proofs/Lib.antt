@@ -1,0 +1,13 @@
+pub mod Growing
+pub mod Hashing
+pub mod Heights
+pub mod Kept
+pub mod Least
+pub mod Listing
+pub mod Naming
+pub mod Noted
+pub mod Present
+pub mod Reached
+pub mod SnapsKept
+pub mod SpotOrders
+pub mod Walking

@@ -1,0 +1,43 @@
+-- What nodes name, one node later, and what a piece and a tree name.
+use Rattle.std.proofs.Common.{◌≡◌, ℕ, ◌+◌, ◌<◌, List, [], ◌∷◌, ◌++◌, map, take, length, get_or, Option, None, Some, Ok, Err, sym, ap, ◌∙◌}
+use Rattle.std.proofs.lemmas.List.{append-nil}
+use Rattle.std.proofs.lemmas.Grind.{flat_map-append}
+use Rattle.std.specs.List.{flat_map}
+use Rattle.keep_names.specs.declared.blob.BlobId.{BlobId}
+use Rattle.keep_names.specs.declared.blob.BlobType.TheVariants.{Content}
+use Rattle.keep_names.specs.declared.id.Id.{Id}
+use Rattle.keep_repo.specs.Repository.{Repository}
+use Rattle.keep_tree.specs.Tree.{node_view}
+use Rattle.keep_tree.specs.declared.node.Node.{Node}
+use Rattle.keep_catalog.specs.Naming.{missing, named_at, named_by, named_of, names_at, why_missing}
+use Rattle.keep_catalog.specs.Places.{chosen_listing, spots_of}
+use Rattle.keep_catalog.specs.declared.spot.Spot.{Spot}
+use Rattle.std.specs.FinMap as finite
+use Rattle.keep_catalog.proofs.Growing.{map_taken}
+
+pub named-taken : (nodes : List Node) (i : ℕ) (node : Node) → i < length nodes → node ≡ get_or nodes i node → flat_map named_of (map node_view (take (i + 1) nodes)) ≡ flat_map named_of (map node_view (take i nodes)) ++ named_of (node_view node)
+named-taken nodes i node lt is =
+    ap (flat_map named_of) (map_taken nodes i node node lt is node_view)
+    ∙ flat_map-append named_of (map node_view (take i nodes)) (node_view node ∷ [])
+    ∙ ap (λ names. flat_map named_of (map node_view (take i nodes)) ++ names) (append-nil (named_of (node_view node)))
+
+-- what a blob names, by its chosen listing
+pub named_there : (r : Repository) (blob : BlobId) (e : Spot × Id) → chosen_listing r blob ≡ Some e → named_by r blob ≡ names_at r blob.blob_type e.0
+unfolding named_by
+named_there r blob e is = ap (named_at r blob) is
+
+pub named_nowhere : (r : Repository) (blob : BlobId) → chosen_listing r blob ≡ None → named_by r blob ≡ Err (missing r blob)
+unfolding named_by
+named_nowhere r blob is = ap (named_at r blob) is
+
+pub missing_is : (r : Repository) (blob : BlobId) (es : List (Spot × Id)) → finite.entries (spots_of r blob) ≡ es → why_missing r blob es ≡ missing r blob
+unfolding missing
+missing_is r blob es is = ap (why_missing r blob) (sym is)
+
+-- a piece that is had names nothing
+pub pieces_name_nothing : (r : Repository) (blob : BlobId) (names : List BlobId) → blob.blob_type ≡ Content → named_by r blob ≡ Ok names → named_by r blob ≡ Ok []
+unfolding named_by
+pieces_name_nothing r blob names piece is = cases (chosen_listing r blob) is where
+  cases : (o : Option (Spot × Id)) → named_at r blob o ≡ Ok names → named_at r blob o ≡ Ok []
+  cases None h = cc h
+  cases (Some e) h = ap (λ t. names_at r t e.0) piece

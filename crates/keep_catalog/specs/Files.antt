@@ -1,0 +1,105 @@
+-- What the files of a repository say, and which of them can't be read.
+use Rattle.std.specs.Prelude.{ℕ, List, [], ◌++◌, map, filter, Option, None, Some, Result, Ok, Err}
+use Rattle.std.specs.List.{filter_map}
+use Rattle.std.specs.Option.{option_and_then, option_map}
+use Rattle.std.specs.Result.{result_ok}
+use Rattle.std.specs.FinMap as finite
+use Rattle.keep_names.specs.Orders.{id_cmp}
+use Rattle.keep_names.specs.declared.file_name.Kind.{Kind}
+use Rattle.keep_names.specs.declared.file_name.Kind.TheVariants.{Pack, Index, Snapshot}
+use Rattle.keep_names.specs.declared.file_name.FileName.{FileName}
+use Rattle.keep_names.specs.declared.id.Id.{Id}
+use Rattle.keep_repo.specs.Repository.{Repository}
+use Rattle.keep_pack.specs.Reading.{header_of}
+use Rattle.keep_pack.specs.declared.entry.PackEntry.{PackEntry}
+use Rattle.keep_pack.specs.declared.pack_error.PackError.{PackError}
+use Rattle.keep_index.specs.Index.{PackData}
+use Rattle.keep_index.specs.Reading as index_reading
+use Rattle.keep_index.specs.declared.index_error.IndexError.{IndexError}
+use Rattle.keep_snap.specs.Snap.{SnapData}
+use Rattle.keep_snap.specs.Snap as snap_reading
+use Rattle.keep_snap.specs.declared.snap.SnapError.{SnapError}
+use Rattle.keep_catalog.specs.Orders.{kind_eq}
+use Rattle.keep_catalog.specs.declared.unread.FileError.{FileError}
+use Rattle.keep_catalog.specs.declared.unread.FileError.TheVariants as refusal
+use Rattle.keep_catalog.specs.declared.unread.Unread.{Unread}
+
+-- the bytes of the file, none where it isn't there
+unfoldable pub file_in : Repository → Kind → Id → Option (List ℕ)
+file_in r kind id = finite.get r.files (record { kind = kind; id = id })
+
+-- the names of the files of a kind, in order
+abbrev pub ids_among : Kind → List FileName → List Id
+ids_among kind names = map (λ name. name.id) (filter (λ name. kind_eq name.kind kind) names)
+
+abbrev pub ids_in : Repository → Kind → List Id
+ids_in r kind = ids_among kind (finite.keys r.files)
+
+-- what the bytes of an index are to be read as
+unfoldable pub index_of : List ℕ → Result (List PackData) IndexError
+index_of bytes = index_reading.index_of bytes
+
+-- what the bytes of a snapshot are to be read as
+unfoldable pub snap_of : List ℕ → Result SnapData SnapError
+snap_of bytes = snap_reading.snap_of bytes
+
+-- what was read; nothing where there is no file, or none that can be read
+abbrev pub what_is_read : {X E : Type 0} → Option (Result (List X) E) → List X
+what_is_read None = []
+what_is_read (Some (Ok items)) = items
+what_is_read (Some (Err refusal)) = []
+
+-- why a file that is there can't be read
+abbrev pub refusal_in : {X E : Type 0} → Option (Result X E) → Option E
+refusal_in None = None
+refusal_in (Some (Ok x)) = None
+refusal_in (Some (Err refusal)) = Some refusal
+
+-- the header of this pack, as it is to be read
+abbrev pub header_in : Repository → Id → Option (Result (List PackEntry) PackError)
+header_in r pack = option_map header_of (file_in r Pack pack)
+
+-- this index, as it is to be read
+abbrev pub index_in : Repository → Id → Option (Result (List PackData) IndexError)
+index_in r index = option_map index_of (file_in r Index index)
+
+-- this snapshot, as it is to be read
+abbrev pub snapshot_in : Repository → Id → Option (Result SnapData SnapError)
+snapshot_in r snapshot = option_map snap_of (file_in r Snapshot snapshot)
+
+-- what this snapshot says, none where there is no such snapshot, or none that can be read
+unfoldable pub snap_in : Repository → Id → Option SnapData
+snap_in r snapshot = option_and_then result_ok (snapshot_in r snapshot)
+
+-- what this snapshot says, with its name
+abbrev pub named_snap : Repository → Id → Option (Id × SnapData)
+named_snap r snapshot = option_map (λ snap. (snapshot, snap)) (snap_in r snapshot)
+
+-- the snapshots that can be read, by name
+unfoldable pub snaps_in : Repository → finite.FinMap id_cmp SnapData
+snaps_in r = finite.from_entries (filter_map (named_snap r) (ids_in r Snapshot))
+
+-- a file that can't be read, and why
+abbrev pub unread : Kind → Id → FileError → Unread
+unread kind id why = record { name = record { kind = kind; id = id }; refusal = why }
+
+-- this pack, where it can't be read
+unfoldable pub unread_pack : Repository → Id → Option Unread
+unread_pack r pack = option_map (λ why. unread Pack pack (refusal.Pack why)) (refusal_in (header_in r pack))
+
+-- this index, where it can't be read
+unfoldable pub unread_index : Repository → Id → Option Unread
+unread_index r index =
+    option_map (λ why. unread Index index (refusal.Index why)) (refusal_in (index_in r index))
+
+-- this snapshot, where it can't be read
+unfoldable pub unread_snap : Repository → Id → Option Unread
+unread_snap r snapshot =
+    option_map (λ why. unread Snapshot snapshot (refusal.Snap why)) (refusal_in (snapshot_in r snapshot))
+
+-- the files that can't be read, in the order of their names
+abbrev pub unread_in : Repository → List Unread
+unread_in r =
+    filter_map (unread_pack r) (ids_in r Pack)
+    ++ filter_map (unread_index r) (ids_in r Index)
+    ++ filter_map (unread_snap r) (ids_in r Snapshot)

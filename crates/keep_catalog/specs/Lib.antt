@@ -1,0 +1,11 @@
+pub mod Chosen
+pub mod Files
+pub mod Naming
+pub mod Orders
+pub mod Places
+pub mod Reach
+pub mod Read
+pub mod Snapshots
+pub mod Walk
+pub mod Words
+pub mod Wrong

@@ -1,0 +1,110 @@
+-- Where a repository has a blob (restic's design document, "Pack Format" and "Indexing").
+use Rattle.std.specs.Prelude.{ℕ, ◌+◌, Bool, false, ◌&&◌, nat_le, List, map, take, drop, length, Option, None, Some, is_none, if◌then◌else◌}
+use Rattle.std.specs.List.{filter_map, find, flat_map, list_any}
+use Rattle.std.specs.Option.{option_and_then, option_map, option_map_or}
+use Rattle.std.specs.FinMap as finite
+use Rattle.keep_names.specs.Sha256.{sha256}
+use Rattle.keep_names.specs.declared.blob.BlobId.{BlobId}
+use Rattle.keep_names.specs.declared.file_name.Kind.TheVariants.{Pack, Index}
+use Rattle.keep_names.specs.declared.id.Id.{Id}
+use Rattle.keep_repo.specs.Repository.{Repository}
+use Rattle.keep_index.specs.Index.{PackData}
+use Rattle.keep_index.specs.declared.index.IndexedBlob.{IndexedBlob}
+use Rattle.keep_pack.specs.declared.entry.PackEntry.{PackEntry}
+use Rattle.keep_catalog.specs.Files.{file_in, ids_in, header_in, index_in, what_is_read}
+use Rattle.keep_catalog.specs.Orders.{spot_cmp, blob_eq, id_eq, place_eq}
+use Rattle.keep_catalog.specs.declared.spot.Place.{Place}
+use Rattle.keep_catalog.specs.declared.spot.Spot.{Spot}
+
+-- these bytes of a pack, as a place of the blob
+abbrev pub place_in : Id → BlobId → ℕ → ℕ → Place
+place_in pack blob offset length =
+    record { blob = blob; spot = record { pack = pack; offset = offset; length = length } }
+
+-- a blob at a spot
+abbrev pub at : BlobId → Spot → Place
+at blob spot = record { blob = blob; spot = spot }
+
+-- whether the place is one of these
+abbrev pub is_among : List Place → Place → Bool
+is_among places p = list_any (place_eq p) places
+
+-- what an entry of this pack's header says
+abbrev pub stored_of : Id → PackEntry → Place
+stored_of pack entry = place_in pack entry.blob entry.offset entry.length
+
+-- what the header of this pack has; nothing where there is no such pack, or none that can be read
+unfoldable pub stored_in : Repository → Id → List Place
+stored_in r pack = map (stored_of pack) (what_is_read (header_in r pack))
+
+-- what an entry for this pack in an index says
+abbrev pub listing_of : Id → IndexedBlob → Place
+listing_of pack entry = place_in pack entry.blob entry.offset entry.length
+
+-- what an index says of a pack
+abbrev pub listed_of : PackData → List Place
+listed_of listed = map (listing_of listed.id) listed.blobs
+
+-- what this index lists; nothing where there is no such index, or none that can be read
+unfoldable pub listed_in : Repository → Id → List Place
+listed_in r index = flat_map listed_of (what_is_read (index_in r index))
+
+-- whether the header of the place's pack has it
+abbrev pub is_stored : Repository → Place → Bool
+is_stored r p = is_among (stored_in r p.spot.pack) p
+
+-- each place that this index lists, with its name
+abbrev pub listings_of : Repository → Id → List (Place × Id)
+listings_of r index = map (λ p. (p, index)) (listed_in r index)
+
+-- all listings, the indexes by name
+abbrev pub listings_in : Repository → List (Place × Id)
+listings_in r = flat_map (listings_of r) (ids_in r Index)
+
+-- the spot of a listing, where it is the blob's and is stored
+abbrev pub candidate : (Place → Bool) → BlobId → Place × Id → Option (Spot × Id)
+candidate stored blob listing =
+    if blob_eq blob listing.0.blob && stored listing.0 then Some (listing.0.spot, listing.1) else None
+
+-- The spots at which an index lists the blob and a header has it, each with the least-named index that lists
+-- it there: of equal keys `from_entries` keeps the first.
+unfoldable pub spots_of : Repository → BlobId → finite.FinMap spot_cmp Id
+spots_of r blob = finite.from_entries (filter_map (candidate (is_stored r) blob) (listings_in r))
+
+-- bytes of a file, none where it has fewer
+abbrev pub slice_of : ℕ → ℕ → List ℕ → Option (List ℕ)
+slice_of offset count bytes =
+    if nat_le (offset + count) (length bytes) then Some (take count (drop offset bytes)) else None
+
+-- the bytes at a spot
+unfoldable pub bytes_at : Repository → Spot → Option (List ℕ)
+bytes_at r spot = option_and_then (slice_of spot.offset spot.length) (file_in r Pack spot.pack)
+
+-- whether bytes have this SHA-256
+abbrev pub has_id : Id → List ℕ → Bool
+has_id id bytes = id_eq (record { 0 = sha256 bytes }) id
+
+-- whether the bytes at the spot have the blob's id
+abbrev pub is_honest : Repository → BlobId → Spot → Bool
+is_honest r blob spot = option_map_or (has_id blob.id) (bytes_at r spot) false
+
+abbrev pub is_unmarked : Repository → Id → Bool
+is_unmarked r pack = is_none (finite.get r.marks pack)
+
+-- whether the spot is honest and its pack has no mark
+abbrev pub is_open : Repository → BlobId → Spot → Bool
+is_open r blob spot = is_unmarked r spot.pack && is_honest r blob spot
+
+-- the chosen spot of the blob: the first open one by pack and offset, with the least-named index that lists
+-- it
+unfoldable pub chosen_listing : Repository → BlobId → Option (Spot × Id)
+chosen_listing r blob = find (λ e. is_open r blob e.0) (finite.entries (spots_of r blob))
+
+-- the chosen place
+abbrev pub chosen : Repository → BlobId → Option Place
+chosen r blob = option_map (λ e. at blob e.0) (chosen_listing r blob)
+
+-- what a use of the blob where it is rests on: the pack, and the least-named index that lists the chosen
+-- place
+abbrev pub reuse_of : Repository → BlobId → Option (Id × Id)
+reuse_of r blob = option_map (λ e. (e.0.pack, e.1)) (chosen_listing r blob)

@@ -1,0 +1,145 @@
+ghost use Rattle.std.specs.Prelude.{◌≡◌, ◌++◌, ◌↔◌, map, IfOk, OnOk, IsTrue};
+ghost use Rattle.std.specs.BTreeMap.{IsOrdered};
+ghost use Rattle.std.specs.List.{flat_map, list_any};
+ghost use Rattle.keep_catalog.specs.Orders.{spot_cmp};
+ghost use Rattle.keep_docs.specs.Doc.{Answers};
+ghost use Rattle.keep_docs.specs.declared.doc.DocError.TheVariants as the_doc_error;
+ghost use Rattle.keep_tree.specs.Tree.{kind_view, node_view};
+ghost use Rattle.keep_tree.specs.declared.tree.TreeError.TheVariants as the_tree_error;
+ghost use Rattle.keep_catalog.specs.Naming as spec;
+ghost use Rattle.keep_catalog.specs.Places as places;
+ghost use Rattle.keep_catalog.specs.Read.{IsHashed};
+ghost use Rattle.keep_catalog.specs.Naming.{named_in, named_of, names_of, piece_of, tree_of};
+ghost use Rattle.keep_catalog.specs.declared.reach_error.ReachError.TheVariants as the_reach_error;
+
+use crate::bytes_there::{Hashed, bytes_at, is_honest};
+use crate::reach_error::ReachError;
+use crate::spot::Spot;
+use keep_docs::DocError;
+use keep_names::{BlobId, BlobType, Id};
+use keep_repo::Repo;
+use keep_tree::{Node, NodeKind, TreeError, read_tree};
+use std::alloc::{AllocError, Global};
+use std::collections::BTreeMap;
+
+// A chosen listing of a blob, and what the blob names there.
+#[derive(Drop)]
+pub(crate) struct Named {
+    pub(crate) spot: Spot,
+    pub(crate) index: Id,
+    pub(crate) names: Vec<BlobId>,
+}
+
+// What a blob of this type at the spot names.
+pub(crate) fn names_at(
+    alloc: Global,
+    repo: &Repo,
+    blob_type: BlobType,
+    spot: Spot,
+) -> Result<Vec<BlobId>, ReachError>
+    ensures { Answers the_reach_error.Memory (λ names. names.items)
+        (spec.names_at repo.now blob_type spot) result }
+{
+    match blob_type {
+        BlobType::Content => Ok(Vec::new(alloc)),
+        BlobType::Tree => match bytes_at(repo, spot) {
+            Some(bytes) => names_in(alloc, bytes),
+            None => Err(ReachError::BadTree),
+        },
+    }
+}
+
+// What the bytes of a tree name.
+fn names_in(alloc: Global, bytes: &[u8]) -> Result<Vec<BlobId>, ReachError>
+    ensures { Answers the_reach_error.Memory (λ names. names.items) (names_of (tree_of bytes.now)) result }
+{
+    match read_tree(alloc, bytes) {
+        Ok(tree) => Ok(named_blobs(alloc, &tree.nodes)?),
+        Err(refusal) => {
+            if is_memory(refusal) {
+                return Err(ReachError::Memory);
+            }
+            Err(ReachError::BadTree)
+        }
+    }
+}
+
+fn is_memory(refusal: TreeError) -> bool
+    ensures { IsTrue result ↔ (refusal ≡ the_tree_error.Doc the_doc_error.Memory) }
+{
+    matches!(refusal, TreeError::Doc(DocError::Memory))
+}
+
+// What nodes name, in their order.
+fn named_blobs(alloc: Global, nodes: &[Node]) -> Result<Vec<BlobId>, AllocError>
+    ensures { IfOk result (λ names. names.items ≡ flat_map named_of (map node_view nodes.now)) }
+{
+    let mut names = Vec::new(alloc);
+    for node in nodes {
+        add_named(&mut names, &node.kind)?;
+    }
+    Ok(names)
+}
+
+// Adds what a node of this kind names.
+fn add_named(names: &mut Vec<BlobId>, kind: &NodeKind) -> Result<(), AllocError>
+    ensures { OnOk result (names.new.items ≡ names.old.items ++ named_in (kind_view kind.now)) }
+{
+    match kind {
+        NodeKind::Dir { subtree } => {
+            names.push(BlobId {
+                id: *subtree,
+                blob_type: BlobType::Tree,
+            })?;
+            Ok(())
+        }
+        NodeKind::File { content } => add_pieces(names, content),
+        NodeKind::Other { type_name: _ } => Ok(()),
+    }
+}
+
+// Adds the pieces of a file.
+fn add_pieces(names: &mut Vec<BlobId>, content: &[Id]) -> Result<(), AllocError>
+    ensures { OnOk result (names.new.items ≡ names.old.items ++ map piece_of content.now) }
+{
+    for id in content {
+        names.push(BlobId {
+            id: *id,
+            blob_type: BlobType::Content,
+        })?;
+    }
+    Ok(())
+}
+
+// Why a blob with these spots has no chosen one.
+pub(crate) fn why_missing(
+    repo: &Repo,
+    hashed: &Hashed,
+    blob: BlobId,
+    spots: &BTreeMap<Spot, Id>,
+) -> ReachError
+    requires { IsHashed repo.now hashed.now }
+    ensures why { result ≡ spec.why_missing repo.now blob spots.now.entries }
+    ensures ordered { IsOrdered spot_cmp spots.now }
+{
+    let is_empty = spots.is_empty();
+    let is_honest = some_honest(repo, hashed, blob, spots);
+    if is_empty | is_honest {
+        ReachError::MissingBlob(blob.id)
+    } else {
+        ReachError::WrongHash(blob.id)
+    }
+}
+
+fn some_honest(repo: &Repo, hashed: &Hashed, blob: BlobId, spots: &BTreeMap<Spot, Id>) -> bool
+    requires { IsHashed repo.now hashed.now }
+    ensures value { result ≡ list_any (λ e. places.is_honest repo.now blob e.0) spots.now.entries }
+    ensures ordered { IsOrdered spot_cmp spots.now }
+{
+    for (spot, _) in spots {
+        if is_honest(repo, hashed, blob, *spot) {
+            return true;
+        }
+    }
+    false
+}

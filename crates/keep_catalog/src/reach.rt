@@ -1,0 +1,148 @@
+ghost use Rattle.std.specs.Prelude.{◌≡◌, ◌≢◌, ◌++◌, ◌↔◌, [], None, Some, IfErr, IfOk, OnOk};
+ghost use Rattle.std.specs.Prelude.{map, option_map, option_to_list, slice_get};
+ghost use Rattle.std.specs.List.{filter_map};
+ghost use Rattle.keep_names.specs.declared.blob.BlobId as the_blob;
+ghost use Rattle.keep_snap.specs.Snap.{snap_view};
+ghost use Rattle.keep_catalog.specs.Naming.{named_by};
+ghost use Rattle.keep_catalog.specs.Places.{chosen_listing};
+ghost use Rattle.keep_catalog.specs.Reach.{Reaches, most_levels};
+ghost use Rattle.keep_catalog.specs.Snapshots.{IsUsed, Owes, broken_in, refusal_from, refusal_of, root_of};
+ghost use Rattle.keep_catalog.specs.Walk.{AreChosen, HaveHeights, IsWalked, Knows};
+ghost use Rattle.keep_catalog.specs.declared.reach_error.ReachError.TheVariants.{Memory};
+
+use crate::catalog::Catalog;
+use crate::found::Reached;
+use crate::reach_error::ReachError;
+use crate::walk::{levels, walk, walk_all};
+use keep_names::{BlobId, BlobType, Id};
+use keep_snap::Snap;
+use std::alloc::{AllocError, Global};
+use std::collections::BTreeMap;
+
+impl<'a> Catalog<'a> {
+    /// What the snapshot of this name reaches: its root tree at level 1, and what trees name down to level
+    /// 256. It is nothing where no snapshot that can be read has the name. Else the first refusal, depth first.
+    pub fn reach(&self, alloc: Global, snapshot: Id) -> Result<Reached, ReachError>
+        ensures reached { IfOk result (λ reached. (blob : the_blob.BlobId)
+            → Knows reached blob ↔ Owes self.now snapshot blob) }
+        ensures places { IfOk result (AreChosen (chosen_listing self.now)) }
+        ensures heights { IfOk result (HaveHeights (named_by self.now)) }
+        ensures all { IfOk result (λ _. refusal_of self.now snapshot ≡ None) }
+        ensures refused { IfErr result (λ error. error ≢ Memory → refusal_of self.now snapshot ≡ Some error) }
+    {
+        let Some(snap) = self.snaps().get(&snapshot) else {
+            return Ok(BTreeMap::new(alloc));
+        };
+        reach_from(alloc, self, root(snap))
+    }
+
+    /// What the snapshots that can be read reach, all together. Each tree is read once, however many
+    /// snapshots reach it. Else the first refusal of the first snapshot by name that has one.
+    pub fn used(&self, alloc: Global) -> Result<Reached, ReachError>
+        ensures reached { IfOk result (λ reached. (blob : the_blob.BlobId)
+            → Knows reached blob ↔ IsUsed self.now blob) }
+        ensures places { IfOk result (AreChosen (chosen_listing self.now)) }
+        ensures heights { IfOk result (HaveHeights (named_by self.now)) }
+        ensures all { IfOk result (λ _. broken_in self.now ≡ []) }
+        ensures refused { IfErr result (λ error. error ≢ Memory
+            → option_map (λ b. b.1) (slice_get (broken_in self.now) 0) ≡ Some error) }
+    {
+        let roots = roots(alloc, self.snaps())?;
+        let mut walked = BTreeMap::new(alloc);
+        walk_all(alloc, self, &roots, levels(), &mut walked)?;
+        Ok(walked)
+    }
+
+    /// The snapshots that can be read and don't reach all that they name, by name, each with its first
+    /// refusal, depth first. What was walked for one is known for the next, unless it was refused.
+    pub fn broken(&self, alloc: Global) -> Result<Vec<(Id, ReachError)>, AllocError>
+        ensures { IfOk result (λ broken. broken.items ≡ broken_in self.now) }
+    {
+        broken_among(alloc, self, self.snaps())
+    }
+}
+
+// Those of these snapshots that have a refusal, by name.
+fn broken_among(
+    alloc: Global,
+    catalog: &Catalog,
+    snaps: &BTreeMap<Id, Snap>,
+) -> Result<Vec<(Id, ReachError)>, AllocError>
+    ensures { IfOk result (λ broken. broken.items ≡ filter_map (λ e. option_map (λ why. (e.0, why))
+        (refusal_from catalog.now (root_of (snap_view e.1)))) snaps.now.entries) }
+{
+    let mut walked = BTreeMap::new(alloc);
+    let mut broken = Vec::new(alloc);
+    for (name, snap) in snaps {
+        let why = refusal(alloc, catalog, root(snap), &mut walked)?;
+        note_broken(&mut broken, *name, why)?;
+    }
+    Ok(broken)
+}
+
+// The root tree of a snapshot.
+fn root(snap: &Snap) -> BlobId
+    ensures { result ≡ root_of (snap_view snap.now) }
+{
+    BlobId {
+        id: snap.tree,
+        blob_type: BlobType::Tree,
+    }
+}
+
+// The root trees of snapshots, by name.
+fn roots(alloc: Global, snaps: &BTreeMap<Id, Snap>) -> Result<Vec<BlobId>, AllocError>
+    ensures { IfOk result (λ roots. roots.items ≡ map (λ e. root_of (snap_view e.1)) snaps.now.entries) }
+{
+    let mut roots = Vec::new(alloc);
+    for (_, snap) in snaps {
+        roots.push(root(snap))?;
+    }
+    Ok(roots)
+}
+
+// What is reached from this root.
+fn reach_from(alloc: Global, catalog: &Catalog, root: BlobId) -> Result<Reached, ReachError>
+    ensures reached { IfOk result (λ reached. (blob : the_blob.BlobId)
+        → Knows reached blob ↔ Reaches (named_by catalog.now) most_levels root blob) }
+    ensures walked { IfOk result (IsWalked (named_by catalog.now) (chosen_listing catalog.now)) }
+    ensures all { IfOk result (λ _. refusal_from catalog.now root ≡ None) }
+    ensures refused { IfErr result (λ error. error ≢ Memory → refusal_from catalog.now root ≡ Some error) }
+{
+    let mut walked = BTreeMap::new(alloc);
+    walk(alloc, catalog, root, levels(), &mut walked)?;
+    Ok(walked)
+}
+
+// The first refusal from this root, after others were walked.
+fn refusal(
+    alloc: Global,
+    catalog: &Catalog,
+    root: BlobId,
+    walked: &mut Reached,
+) -> Result<Option<ReachError>, AllocError>
+    requires { IsWalked (named_by catalog.now) (chosen_listing catalog.now) walked.old }
+    ensures why { IfOk result (λ why. why ≡ refusal_from catalog.now root) }
+    ensures after { IsWalked (named_by catalog.now) (chosen_listing catalog.now) walked.new }
+{
+    match walk(alloc, catalog, root, levels(), walked) {
+        Ok(_) => Ok(None),
+        Err(ReachError::Memory) => Err(AllocError),
+        Err(why) => Ok(Some(why)),
+    }
+}
+
+// Adds a snapshot that has a refusal.
+fn note_broken(
+    broken: &mut Vec<(Id, ReachError)>,
+    name: Id,
+    why: Option<ReachError>,
+) -> Result<(), AllocError>
+    ensures { OnOk result (broken.new.items
+        ≡ broken.old.items ++ option_to_list (option_map (λ error. (name, error)) why)) }
+{
+    if let Some(error) = why {
+        broken.push((name, error))?;
+    }
+    Ok(())
+}

@@ -1,0 +1,142 @@
+use crate::tests::{FIRST, SECOND, THIRD, put};
+use crate::{Catalog, Found, ReachError, Spot};
+use keep_names::{BlobId, BlobType, Id, Kind, id_of};
+use keep_repo::{Mark, Repo};
+use std::alloc::{AllocError, Global};
+use std::test::Fail;
+
+// Puts a tree there, in a pack and an index of its own, and tells its id.
+fn put_tree(alloc: Global, repo: &mut Repo, tree: &str) -> Result<Id, AllocError> {
+    let id = id_of(tree.as_bytes());
+    let length = tree.len();
+    let mut pack = Vec::from_slice(alloc, tree.as_bytes())?;
+    pack.push(1)?;
+    pack.extend_from_slice(&u32::try_from(length).unwrap_or(0).to_le_bytes())?;
+    pack.extend_from_slice(&id.0)?;
+    pack.extend_from_slice(&[37, 0, 0, 0])?;
+    put(alloc, repo, Kind::Pack, id, &pack)?;
+    let entry = format!(in alloc;
+        "{{\"id\":\"{id}\",\"type\":\"tree\",\"offset\":0,\"length\":{length}}}"
+    )?;
+    let index = format!(in alloc; "{{\"packs\":[{{\"id\":\"{id}\",\"blobs\":[{entry}]}}]}}")?;
+    put(alloc, repo, Kind::Index, id, index.as_bytes())?;
+    Ok(id)
+}
+
+// A tree with two folders.
+fn two_folders(alloc: Global, first: Id, second: Id) -> Result<String, AllocError> {
+    let one = format!(in alloc; "{{\"name\":\"a\",\"type\":\"dir\",\"subtree\":\"{first}\"}}")?;
+    let other = format!(in alloc; "{{\"name\":\"b\",\"type\":\"dir\",\"subtree\":\"{second}\"}}")?;
+    format!(in alloc; "{{\"nodes\":[{one},{other}]}}")
+}
+
+// So many levels of trees, each naming the next twice.
+fn put_levels(alloc: Global, repo: &mut Repo, levels: u16) -> Result<Id, AllocError> {
+    let mut id = put_tree(alloc, repo, "{\"nodes\":[]}")?;
+    for _ in 1..levels {
+        let tree = two_folders(alloc, id, id)?;
+        id = put_tree(alloc, repo, tree.as_str())?;
+    }
+    Ok(id)
+}
+
+// Puts a snapshot of this tree there.
+fn put_snap(alloc: Global, repo: &mut Repo, name: Id, tree: Id) -> Result<(), AllocError> {
+    let text = format!(in alloc;
+        "{{\"time\":\"2026-01-02T03:04:05Z\",\"tree\":\"{tree}\",\"paths\":[\"/\"]}}"
+    )?;
+    put(alloc, repo, Kind::Snapshot, name, text.as_bytes())
+}
+
+#[test]
+fn trees_are_reached_to_level_256(rt: HostRuntime) -> Result<(), Fail> {
+    let alloc = rt.alloc();
+    for (levels, count) in [
+        (1, Ok(1)),
+        (200, Ok(200)),
+        (256, Ok(256)),
+        (257, Err(ReachError::TooDeep)),
+    ] {
+        let mut repo = Repo::new(alloc);
+        let top = put_levels(alloc, &mut repo, levels)?;
+        put_snap(alloc, &mut repo, FIRST, top)?;
+        let catalog = Catalog::of(alloc, &repo)?;
+        let found = catalog.reach(alloc, FIRST).map(|reached| reached.len());
+        assert_eq!(rt; found, count);
+    }
+    Ok(())
+}
+
+#[test]
+fn the_first_refusal_is_found_depth_first(rt: HostRuntime) -> Result<(), Fail> {
+    let alloc = rt.alloc();
+    let mut repo = Repo::new(alloc);
+    let bad = put_tree(alloc, &mut repo, "{}")?;
+    let lost = two_folders(alloc, FIRST, FIRST)?;
+    let lost = put_tree(alloc, &mut repo, lost.as_str())?;
+    let top = two_folders(alloc, lost, SECOND)?;
+    let top = put_tree(alloc, &mut repo, top.as_str())?;
+    put_snap(alloc, &mut repo, FIRST, top)?;
+    put_snap(alloc, &mut repo, THIRD, bad)?;
+    let catalog = Catalog::of(alloc, &repo)?;
+    let missing = ReachError::MissingBlob(FIRST);
+    assert_eq!(rt; catalog.reach(alloc, FIRST).err(), Some(missing));
+    assert_eq!(rt;
+        catalog.reach(alloc, THIRD).err(),
+        Some(ReachError::BadTree)
+    );
+    assert_eq!(rt; catalog.used(alloc).err(), Some(missing));
+    let broken = catalog.broken(alloc)?;
+    let told = [(FIRST, missing), (THIRD, ReachError::BadTree)];
+    assert_eq!(rt; broken.as_slice(), told.as_slice());
+    Ok(())
+}
+
+#[test]
+fn what_snapshots_reach_is_used(rt: HostRuntime) -> Result<(), Fail> {
+    let alloc = rt.alloc();
+    let mut repo = Repo::new(alloc);
+    let low = put_tree(alloc, &mut repo, "{\"nodes\":[]}")?;
+    let top = two_folders(alloc, low, low)?;
+    let length = u32::try_from(top.len()).unwrap_or(0);
+    let top = put_tree(alloc, &mut repo, top.as_str())?;
+    put_snap(alloc, &mut repo, FIRST, low)?;
+    put_snap(alloc, &mut repo, SECOND, top)?;
+    let catalog = Catalog::of(alloc, &repo)?;
+    assert_eq!(rt; catalog.snaps().len(), 2);
+    assert_eq!(rt; catalog.reach(alloc, FIRST)?.len(), 1);
+    assert_eq!(rt; catalog.reach(alloc, THIRD)?.len(), 0);
+    let used = catalog.used(alloc)?;
+    assert_eq!(rt; used.len(), 2);
+    let found = Found {
+        height: 2,
+        spot: Spot {
+            pack: top,
+            offset: 0,
+            length,
+        },
+        index: top,
+    };
+    let blob = BlobId {
+        id: top,
+        blob_type: BlobType::Tree,
+    };
+    assert_eq!(rt; used.get(&blob).copied(), Some(found));
+    assert_eq!(rt; catalog.broken(alloc)?.len(), 0);
+    Ok(())
+}
+
+#[test]
+fn a_blob_in_a_marked_pack_alone_is_missing(rt: HostRuntime) -> Result<(), Fail> {
+    let alloc = rt.alloc();
+    let mut repo = Repo::new(alloc);
+    let tree = put_tree(alloc, &mut repo, "{\"nodes\":[]}")?;
+    put_snap(alloc, &mut repo, FIRST, tree)?;
+    repo.insert_mark(tree, Mark { moment: 0 })?;
+    let catalog = Catalog::of(alloc, &repo)?;
+    assert_eq!(rt;
+        catalog.reach(alloc, FIRST).err(),
+        Some(ReachError::MissingBlob(tree))
+    );
+    Ok(())
+}
