@@ -1,0 +1,5 @@
+pub mod Contents
+pub mod Findings
+pub mod Found
+pub mod Refusals
+pub mod Restored

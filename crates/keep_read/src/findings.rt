@@ -1,0 +1,78 @@
+ghost use Rattle.std.specs.Prelude.{◌≡◌, ◌++◌, IfOk, OnOk, map};
+ghost use Rattle.keep_read.specs.Findings as spec;
+ghost use Rattle.keep_read.specs.Findings.{findings_in, misnamed_in};
+ghost use Rattle.keep_read.specs.declared.finding.Finding.TheVariants.{Broken, Unreadable, WrongBlob, WrongName};
+
+use crate::finding::Finding;
+use keep_catalog::{Catalog, ReachError, Unread};
+use keep_names::{BlobId, FileName, Id, id_of};
+use keep_repo::Repo;
+use std::alloc::{AllocError, Global};
+
+/// All that is wrong with the files of a repository: wrong names, files that can't be read, wrong blobs, and
+/// broken snapshots, each by name. A snapshot that can't be read isn't broken too.
+///
+/// Each file and each blob is hashed once.
+pub fn audit(alloc: Global, repo: &Repo) -> Result<Vec<Finding>, AllocError>
+    ensures { IfOk result (λ findings. findings.items ≡ findings_in repo.now) }
+{
+    let mut findings = wrong_names(alloc, repo)?;
+    let (mut catalog, unread) = Catalog::read_past(alloc, repo)?;
+    add_unread(&mut findings, &unread)?;
+    let wrong = catalog.hash_all(alloc)?;
+    add_wrong(&mut findings, &wrong)?;
+    let broken = catalog.broken(alloc)?;
+    add_broken(&mut findings, &broken)?;
+    Ok(findings)
+}
+
+// The files whose bytes have another SHA-256.
+fn wrong_names(alloc: Global, repo: &Repo) -> Result<Vec<Finding>, AllocError>
+    ensures { IfOk result (λ findings. findings.items ≡ map WrongName (misnamed_in repo.now)) }
+{
+    let (names, _packs) = repo.list()?;
+    names
+        .iter()
+        .filter(|name| is_misnamed(repo, **name))
+        .map(|name| Finding::WrongName(*name))
+        .collect(alloc)
+}
+
+// Whether the file is there and its bytes have another SHA-256.
+fn is_misnamed(repo: &Repo, name: FileName) -> bool
+    ensures { result ≡ spec.is_misnamed repo.now name }
+{
+    match repo.get(name) {
+        Some(bytes) => id_of(bytes.as_slice()) != name.id,
+        None => false,
+    }
+}
+
+fn add_unread(findings: &mut Vec<Finding>, unread: &[Unread]) -> Result<(), AllocError>
+    ensures { OnOk result (findings.new.items ≡ findings.old.items ++ map Unreadable unread.now) }
+{
+    for file in unread {
+        findings.push(Finding::Unreadable(*file))?;
+    }
+    Ok(())
+}
+
+fn add_wrong(findings: &mut Vec<Finding>, wrong: &[(Id, BlobId)]) -> Result<(), AllocError>
+    ensures { OnOk result (findings.new.items
+        ≡ findings.old.items ++ map (λ w. WrongBlob w.0 w.1) wrong.now) }
+{
+    for (pack, blob) in wrong {
+        findings.push(Finding::WrongBlob(*pack, *blob))?;
+    }
+    Ok(())
+}
+
+fn add_broken(findings: &mut Vec<Finding>, broken: &[(Id, ReachError)]) -> Result<(), AllocError>
+    ensures { OnOk result (findings.new.items
+        ≡ findings.old.items ++ map (λ b. Broken b.0 b.1) broken.now) }
+{
+    for (snapshot, refusal) in broken {
+        findings.push(Finding::Broken(*snapshot, *refusal))?;
+    }
+    Ok(())
+}
