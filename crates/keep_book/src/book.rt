@@ -1,4 +1,7 @@
 ghost use Rattle.std.specs.Prelude.{◌≡◌, ◌+◌, ◌<◌, true, IfOk, IsSome, IsTrue, OnOk, OnErr};
+ghost use Rattle.std.specs.BTreeSet.{contains};
+ghost use Rattle.keep_names.specs.Orders.{id_cmp};
+ghost use Rattle.keep_names.specs.declared.id.Id as the_id;
 ghost use Rattle.keep_repo.specs.Repository.{Repository, held};
 ghost use Rattle.keep_change.specs.Change.{is_ready};
 ghost use Rattle.keep_change.specs.Result.{result_of, reverse_of};
@@ -8,12 +11,15 @@ ghost use Rattle.keep_journal.specs.History.{Fits, IsNumbered, change_of, length
 ghost use Rattle.keep_journal.specs.Kept.{is_kept};
 ghost use Rattle.keep_journal.specs.Journal.{posted};
 ghost use Rattle.keep_book.specs.BookState.{BookState, IsOpen, JustCommitted, new_book};
+ghost use Rattle.keep_book.specs.Known.{is_known};
 ghost use Rattle.keep_book.specs.Limits.{event_limit};
 ghost use Rattle.keep_book.specs.Reply.{Replies, Restores, TakesBack, state_after};
 ghost use Rattle.keep_book.specs.Request as request;
 
 use crate::checks::{check_commit, check_empty, check_redo, check_undo};
+use crate::known::known_snapshots;
 use crate::reply::{Refusal, Told};
+use keep_catalog::View;
 use keep_change::Planned;
 use keep_journal::{Entry, Event, History};
 use keep_repo::Repo;
@@ -69,6 +75,22 @@ impl Book {
         ensures { result.now ≡ self.now.live }
     {
         &self.live
+    }
+
+    /// The live repository, the snapshots that the book knows, and the number of the last event.
+    pub fn view(&self, alloc: Global) -> Result<View, AllocError>
+        ensures repo { IfOk result (λ view. view.repo ≡ self.now.live) }
+        ensures known { IfOk result (λ view. (id : the_id.Id) →
+            contains id_cmp view.known id ≡ is_known self.now id) }
+        ensures length { IfOk result (λ view. view.length ≡ length_of self.now.events) }
+    {
+        let repo = self.live.copy()?;
+        let known = known_snapshots(alloc, &self.history, &self.live)?;
+        Ok(View {
+            repo,
+            known,
+            length: self.history.length(),
+        })
     }
 
     pub fn history(&self) -> &History

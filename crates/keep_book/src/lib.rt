@@ -4,6 +4,7 @@
 mod book;
 mod checks;
 mod dependents;
+mod known;
 mod place;
 mod reply;
 #[cfg(test)]

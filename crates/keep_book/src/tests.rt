@@ -6,6 +6,7 @@ use std::alloc::{AllocError, Global};
 use std::test::Fail;
 
 mod model;
+mod view;
 
 const A: Id = Id([1; 32]);
 

@@ -182,3 +182,41 @@ chosen_around_as p q passes j n c h is_c at below above =
     ∙ ap (λ xs. xs ++ (cond (p n) (record { number = n; change = c } ∷ []) [] ++ chosen (λ m. p m && nat_lt n m) j)) front
     ∙ ap (λ b. chosen (λ m. q m && nat_lt m n) j ++ (cond b (record { number = n; change = c } ∷ []) [] ++ chosen (λ m. p m && nat_lt n m) j)) at
     ∙ ap (λ xs. chosen (λ m. q m && nat_lt m n) j ++ (cond passes (record { number = n; change = c } ∷ []) [] ++ xs)) back
+
+-- ---- those above a number, one by one
+
+none_between : (b : Bool) (n m next : ℕ) → next ≡ n + 1 → ((b && nat_lt n m) && nat_lt m next) ≡ false
+none_between true n m next e = grind (arith, nat_tests)
+none_between false n m next e = refl
+
+itself_next : (b : Bool) (n next : ℕ) → next ≡ n + 1 → (b && nat_lt n next) ≡ b
+itself_next true n next e = lt-ltb n next (omega arith)
+itself_next false n next e = refl
+
+above_next : (b : Bool) (n m next : ℕ) → next ≡ n + 1 → ((b && nat_lt n m) && nat_lt next m) ≡ (b && nat_lt next m)
+above_next true n m next e = grind (arith, nat_tests)
+above_next false n m next e = refl
+
+-- the next one, if it passes, comes first
+pub chosen_next : (p : ℕ → Bool) (j : Journal) (n k : ℕ) (c : Change) → IsNumbered j → k ≡ n + 1 → change_of j k ≡ Some c
+    → chosen (λ m. p m && nat_lt n m) j ≡ cond (p k) (record { number = k; change = c } ∷ []) [] ++ chosen (λ m. p m && nat_lt k m) j
+chosen_next p j n k c h next is_c =
+    let it : List Numbered = record { number = k; change = c } ∷ [] in
+    let none = chosen_none (λ m. (p m && nat_lt n m) && nat_lt m k) j h (λ m low high. none_between (p m) n m k next) in
+    let back = chosen_agree (λ m. (p m && nat_lt n m) && nat_lt k m) (λ m. p m && nat_lt k m) j (λ m. above_next (p m) n m k next) in
+    chosen_around (λ m. p m && nat_lt n m) j k c h is_c
+    ∙ ap (λ xs. xs ++ (cond (p k && nat_lt n k) it [] ++ chosen (λ m. (p m && nat_lt n m) && nat_lt k m) j)) none
+    ∙ ap (λ b. cond b it [] ++ chosen (λ m. (p m && nat_lt n m) && nat_lt k m) j) (itself_next (p k) n k next)
+    ∙ ap (λ xs. cond (p k) it [] ++ xs) back
+
+-- a number up to which all was final when the history began is no change's
+pub chosen_below : (p : ℕ → Bool) (j : Journal) (n k : ℕ) → IsNumbered j → k ≡ n + 1 → k ≤ j.base
+    → chosen (λ m. p m && nat_lt n m) j ≡ chosen (λ m. p m && nat_lt k m) j
+chosen_below p j n k h next below =
+    chosen_agree_on (λ m. p m && nat_lt n m) (λ m. p m && nat_lt k m) j h
+    (λ m low high. rw (lt-ltb n m (omega arith), lt-ltb k m (omega arith)) refl)
+
+-- none is above the last
+pub chosen_past : (p : ℕ → Bool) (j : Journal) (n : ℕ) → IsNumbered j → last_change j ≤ n → chosen (λ m. p m && nat_lt n m) j ≡ []
+chosen_past p j n h end =
+    chosen_none (λ m. p m && nat_lt n m) j h (λ m low high. and_false (p m) (nat_lt n m) (le-ltb n m (omega arith)))

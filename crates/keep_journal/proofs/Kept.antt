@@ -7,10 +7,10 @@ use Rattle.keep_change.specs.Fold.{Numbered, fold_of}
 use Rattle.keep_change.specs.Result.{result_of}
 use Rattle.keep_change.specs.declared.change.Change.{Change}
 use Rattle.keep_journal.specs.History.{last_change, change_of, final_number, is_in_force, IsNumbered}
-use Rattle.keep_journal.specs.Kept.{chosen, earlier, is_kept, kept, kept_with, later, others, up_to}
+use Rattle.keep_journal.specs.Kept.{above, chosen, earlier, is_kept, kept, kept_with, later, others, up_to}
 use Rattle.keep_journal.specs.Journal.{Journal, posted}
 use Rattle.keep_journal.specs.declared.event.Event.TheVariants.{Commit, Undo, Redo, Empty}
-use Rattle.keep_journal.proofs.Chosen.{chosen-Commit, chosen-Empty, chosen-Redo, chosen-Undo, chosen_agree, chosen_agree_on, chosen_around, chosen_around_as, chosen_none, chosen_split}
+use Rattle.keep_journal.proofs.Chosen.{chosen-Commit, chosen-Empty, chosen-Redo, chosen-Undo, chosen_agree, chosen_agree_on, chosen_around, chosen_around_as, chosen_below, chosen_next, chosen_past, chosen_split}
 use Rattle.keep_journal.proofs.Commits.{final_number-push, is_in_force-push}
 
 -- ---- tests, f whether a change is in force and k whether it is kept
@@ -54,18 +54,6 @@ with_below false m n = grind (arith, nat_tests)
 with_above : (k : Bool) (m n : ℕ) → ((k || m == n) && nat_lt n m) ≡ (k && nat_lt n m)
 with_above true m n = refl
 with_above false m n = grind (arith, nat_tests)
-
-none_between : (k : Bool) (n m next : ℕ) → next ≡ n + 1 → ((k && nat_lt n m) && nat_lt m next) ≡ false
-none_between true n m next e = grind (arith, nat_tests)
-none_between false n m next e = refl
-
-itself_next : (k : Bool) (n next : ℕ) → next ≡ n + 1 → (k && nat_lt n next) ≡ k
-itself_next true n next e = lt-ltb n next (omega arith)
-itself_next false n next e = refl
-
-above_next : (k : Bool) (n m next : ℕ) → next ≡ n + 1 → ((k && nat_lt n m) && nat_lt next m) ≡ (k && nat_lt next m)
-above_next true n m next e = grind (arith, nat_tests)
-above_next false n m next e = refl
 
 -- ---- whether a change is kept, after one more event
 
@@ -147,26 +135,38 @@ kept_with_around j n c h is_c =
 
 pub later_next : (j : Journal) (n k : ℕ) (c : Change) → IsNumbered j → k ≡ n + 1 → change_of j k ≡ Some c
     → later j n ≡ cond (is_kept j k) (record { number = k; change = c } ∷ []) [] ++ later j k
-later_next j n k c h next is_c =
-    let none = chosen_none (λ m. (is_kept j m && nat_lt n m) && nat_lt m k) j h (λ m low high. none_between (is_kept j m) n m k next) in
-    let back = chosen_agree (λ m. (is_kept j m && nat_lt n m) && nat_lt k m) (λ m. is_kept j m && nat_lt k m) j (λ m. above_next (is_kept j m) n m k next) in
-    chosen_around (λ m. is_kept j m && nat_lt n m) j k c h is_c
-    ∙ ap (λ xs. xs ++ (cond (is_kept j k && nat_lt n k) (the_one k c) [] ++ chosen (λ m. (is_kept j m && nat_lt n m) && nat_lt k m) j)) none
-    ∙ ap (λ b. cond b (the_one k c) [] ++ chosen (λ m. (is_kept j m && nat_lt n m) && nat_lt k m) j) (itself_next (is_kept j k) n k next)
-    ∙ ap (λ xs. cond (is_kept j k) (the_one k c) [] ++ xs) back
+later_next j n k c h next is_c = chosen_next (is_kept j) j n k c h next is_c
 
 -- a number up to which all was final when the history began is no change's
 pub later_below : (j : Journal) (n k : ℕ) → IsNumbered j → k ≡ n + 1 → k ≤ j.base → later j n ≡ later j k
-later_below j n k h next below =
-    chosen_agree_on (λ m. is_kept j m && nat_lt n m) (λ m. is_kept j m && nat_lt k m) j h
-    (λ m low high. rw (lt-ltb n m (omega arith), lt-ltb k m (omega arith)) refl)
+later_below j n k h next below = chosen_below (is_kept j) j n k h next below
 
 pub later_none : (j : Journal) (n : ℕ) → IsNumbered j → last_change j ≤ n → later j n ≡ []
-later_none j n h end =
-    chosen_none (λ m. is_kept j m && nat_lt n m) j h (λ m low high. and_right (is_kept j m) (nat_lt n m) (le-ltb n m (omega arith)))
+later_none j n h end = chosen_past (is_kept j) j n h end
 
 -- ---- folds
 
 pub fold_of-append : (ms ns : List Numbered) (r : Repository) → fold_of (ms ++ ns) r ≡ fold_of ns (fold_of ms r)
 fold_of-append [] ns r = refl
 fold_of-append (m ∷ ms) ns r = fold_of-append ms ns (result_of m.change r)
+
+-- ---- those above a number, undone ones too
+
+pub above-next : (j : Journal) (n k : ℕ) (c : Change) → IsNumbered j → k ≡ n + 1 → change_of j k ≡ Some c
+    → above j n ≡ record { number = k; change = c } ∷ above j k
+above-next j n k c h next is_c = chosen_next (λ m. true) j n k c h next is_c
+
+pub above-below : (j : Journal) (n k : ℕ) → IsNumbered j → k ≡ n + 1 → k ≤ j.base → above j n ≡ above j k
+above-below j n k h next below = chosen_below (λ m. true) j n k h next below
+
+pub above-past : (j : Journal) (n : ℕ) → IsNumbered j → last_change j ≤ n → above j n ≡ []
+above-past j n h end = chosen_past (λ m. true) j n h end
+
+-- the kept changes are those above the final number that are in force
+pub kept_later : (j : Journal) → later j (final_number j) ≡ kept j
+kept_later j = chosen_agree (λ m. is_kept j m && nat_lt (final_number j) m) (is_kept j) j (λ m. twice (is_in_force j m) (nat_lt (final_number j) m))
+  where
+    twice : (a b : Bool) → ((a && b) && b) ≡ (a && b)
+    twice true true = refl
+    twice true false = refl
+    twice false b = refl

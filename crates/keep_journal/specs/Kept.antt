@@ -8,6 +8,14 @@ use Rattle.keep_journal.specs.Journal.{Journal}
 abbrev pub chosen : (ℕ → Bool) → Journal → List Numbered
 chosen test j = filter (λ n. test n.number) (committed j)
 
+-- the changes after change n, undone ones too
+abbrev pub above : Journal → ℕ → List Numbered
+above j n = chosen (nat_lt n) j
+
+-- the changes that aren't final, undone ones too
+abbrev pub unfinal : Journal → List Numbered
+unfinal j = above j (final_number j)
+
 -- whether the change can still be undone: it is in force and not final
 abbrev pub is_kept : Journal → ℕ → Bool
 is_kept j n = is_in_force j n && nat_lt (final_number j) n
