@@ -5,6 +5,7 @@ pub mod HexWord
 pub mod KnownLemmas
 pub mod LineLemmas
 pub mod NextLine
+pub mod RestoreLemmas
 pub mod RunLemmas
 pub mod StatusLemmas
 pub mod StepLemmas

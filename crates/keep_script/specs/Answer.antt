@@ -1,20 +1,23 @@
 -- The answer to a line, by the state that the lines before leave.
-use Rattle.std.specs.Prelude.{◌≡◌, ℕ, Bool, IsTrue, ◌↔◌, List, [], Some, None, Result}
+use Rattle.std.specs.Prelude.{◌≡◌, ℕ, Bool, IsTrue, ◌↔◌, ◌⊎◌, List, [], Some, None, Result}
 use Rattle.keep_repo.specs.Repository.{Repository}
 use Rattle.keep_names.specs.declared.file_name.FileName.{FileName}
+use Rattle.keep_names.specs.declared.file_name.Kind.TheVariants.{Snapshot}
 use Rattle.keep_change.specs.declared.change.Change.{Change}
 use Rattle.keep_book.specs.Reply.{Replies, state_after}
 use Rattle.keep_book.specs.declared.reply.Refusal.{Refusal}
 use Rattle.keep_book.specs.Request.{Request}
 use Rattle.keep_book.specs.Request as request
 use Rattle.keep_book.specs.declared.reply.Told.{Told}
+use Rattle.keep_read.specs.Findings.{findings_in}
+use Rattle.keep_read.specs.Restored.{restored}
 use Rattle.keep_script.specs.Command.{Asks, IsNoCommand}
 use Rattle.keep_script.specs.Line.{IsLine, IsPassedOver}
 use Rattle.keep_script.specs.Plan.{added_file, commit_of, dropped_file, file_meant}
 use Rattle.keep_script.specs.State.{State, noted_under}
-use Rattle.keep_script.specs.Text.{commit_text, count_text, history_text, list_text, noted_text, reply_text, same_text, sizes_of, told_text}
+use Rattle.keep_script.specs.Text.{audit_text, commit_text, count_text, history_text, list_text, no_memory_text, noted_text, reply_text, restore_reply_text, same_text, sizes_of, told_text}
 use Rattle.keep_script.specs.declared.command.Command.{Command}
-use Rattle.keep_script.specs.declared.command.Command.TheVariants.{Add, Drop, Undo, Redo, Empty, List as ListFiles, Count, Note, Same, History}
+use Rattle.keep_script.specs.declared.command.Command.TheVariants.{Add, Drop, Undo, Redo, Empty, List as ListFiles, Count, Note, Same, History, Restore, Audit}
 
 -- this is written, and nothing changes
 pub record Shows (state : State) (shown written : List ℕ) (after : State) : Type 0 where
@@ -28,6 +31,10 @@ pub record Asked (state : State) (request : Request) (accepted : Told → List �
   pub replies : Replies state.book request reply
   pub text : written ≡ reply_text accepted reply
   pub left : after ≡ record state { book = state_after state.book request reply }
+
+-- this is written, or that memory ran out, and nothing changes
+abbrev pub Reads : State → List ℕ → List ℕ → State → Type 0
+Reads state shown written after = Shows state shown written after ⊎ Shows state no_memory_text written after
 
 -- the change is planned on the present state, and its commit follows at once
 abbrev pub Committed : State → Change → List ℕ → State → Type 0
@@ -53,11 +60,16 @@ Answers state (Same name) text after =
     × (same : Bool) × (IsTrue same ↔ (state.book.live ≡ noted))
     × Shows state (same_text name.now same) text after
 Answers state History text after = Shows state (history_text state.book.events) text after
+Answers state (Restore target) text after =
+    (name : FileName) × (file_meant state.book.events Snapshot target ≡ Some name)
+    × Reads state (restore_reply_text (restored state.book.live name.id)) text after
+Answers state Audit text after = Reads state (audit_text (findings_in state.book.live)) text after
 
 -- a command names what isn't there: a file by a change that added none of its kind, or no note
 abbrev pub NamesNothing : State → Command → Type 0
 NamesNothing state (Drop kind target) = file_meant state.book.events kind target ≡ None
 NamesNothing state (Same name) = state.notes name.now ≡ None
+NamesNothing state (Restore target) = file_meant state.book.events Snapshot target ≡ None
 NamesNothing state (Add kind bytes) = ⊥
 NamesNothing state (Undo n) = ⊥
 NamesNothing state (Redo n) = ⊥
@@ -66,6 +78,7 @@ NamesNothing state ListFiles = ⊥
 NamesNothing state Count = ⊥
 NamesNothing state (Note name) = ⊥
 NamesNothing state History = ⊥
+NamesNothing state Audit = ⊥
 
 -- the answer to a line: none where it is passed over, and else that to its command
 pub data Answered (state : State) (line text : List ℕ) (after : State) : Type 0 where

@@ -7,7 +7,7 @@ use Rattle.keep_script.specs.Word.{IsName, IsTarget, hex_text, target_text}
 use Rattle.keep_script.specs.declared.word.Target.{Target}
 use Rattle.keep_names.specs.declared.file_name.Kind.{Kind}
 use Rattle.keep_script.specs.declared.command.Command.{Command}
-use Rattle.keep_script.specs.declared.command.Command.TheVariants.{Add, Drop, Undo, Redo, Empty, List as ListFiles, Count, Note, Same, History}
+use Rattle.keep_script.specs.declared.command.Command.TheVariants.{Add, Drop, Undo, Redo, Empty, List as ListFiles, Count, Note, Same, History, Restore, Audit}
 
 -- the line that asks for a command: its words, with single spaces between
 abbrev pub command_text : Command → List ℕ
@@ -21,12 +21,18 @@ command_text Count = codes "count"
 command_text (Note name) = codes "note " ++ name.now
 command_text (Same name) = codes "same " ++ name.now
 command_text History = codes "history"
+command_text (Restore target) = codes "restore " ++ target_text target
+command_text Audit = codes "audit"
 
 -- no text of `drop` goes on like this
 abbrev pub NamesNoFile : List ℕ → Type 0
 NamesNoFile rest =
     (kind : Kind) (target : Target) → IsTarget target
     → kind_text kind ++ (codes " " ++ target_text target) ≢ rest
+
+-- no file of any kind is named by this word
+abbrev pub IsNoTarget : List ℕ → Type 0
+IsNoTarget word = (target : Target) → IsTarget target → target_text target ≢ word
 
 -- no number prints as this word
 abbrev pub IsNoNumber : List ℕ → Type 0
@@ -40,6 +46,7 @@ pub record AsksNothing (verb rest : List ℕ) : Type 0 where
   pub empties : verb ≡ codes "empty" → IsNoNumber rest
   pub notes : verb ≡ codes "note" → ¬ (IsName rest)
   pub compares : verb ≡ codes "same" → ¬ (IsName rest)
+  pub restores : verb ≡ codes "restore" → IsNoTarget rest
 
 -- no text of `add` goes on like this
 abbrev pub NamesNoBytes : List ℕ → Type 0
@@ -58,6 +65,8 @@ IsCommand Count = ⊤
 IsCommand (Note name) = IsName name.now
 IsCommand (Same name) = IsName name.now
 IsCommand History = ⊤
+IsCommand (Restore target) = IsTarget target
+IsCommand Audit = ⊤
 
 -- the line asks for this command
 abbrev pub Asks : List ℕ → Command → Type 0

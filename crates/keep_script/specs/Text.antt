@@ -1,9 +1,10 @@
 -- The texts of answers.
-use Rattle.std.specs.Prelude.{ℕ, ◌&&◌, Bool, true, false, if◌then◌else◌, List, [], ◌++◌, length, codes, is_some, Result, Ok, Err}
+use Rattle.std.specs.Prelude.{ℕ, ◌&&◌, Bool, true, false, if◌then◌else◌, List, [], ◌++◌, length, codes, is_some, Option, Some, None, Result, Ok, Err}
 use Rattle.std.specs.Fmt.{decimal}
 use Rattle.std.specs.FinMap as map
 use Rattle.std.specs.List.{flat_map}
 use Rattle.keep_names.specs.FileName.{file_name_text}
+use Rattle.keep_names.specs.Id.{id_text}
 use Rattle.keep_names.specs.declared.file_name.FileName.{FileName}
 use Rattle.keep_names.specs.declared.file_name.Kind.{Kind}
 use Rattle.keep_names.specs.declared.file_name.Kind.TheVariants.{Pack, Index, Snapshot}
@@ -16,8 +17,15 @@ use Rattle.keep_journal.specs.Journal.{Journal}
 use Rattle.keep_journal.specs.declared.event.Entry.{Entry}
 use Rattle.keep_book.specs.Refusal.{refusal_text}
 use Rattle.keep_book.specs.declared.reply.Refusal.{Refusal}
+use Rattle.keep_book.specs.declared.reply.Refusal.TheVariants.{Memory}
 use Rattle.keep_book.specs.declared.reply.Told.{Told}
+use Rattle.keep_read.specs.Refusals.{finding_number, restore_text}
+use Rattle.keep_read.specs.Restored.{RestoredData}
+use Rattle.keep_read.specs.declared.finding.Finding.{Finding}
+use Rattle.keep_read.specs.declared.finding.Finding.TheVariants.{Broken, Unreadable, WrongBlob, WrongName}
+use Rattle.keep_read.specs.declared.restore_error.RestoreError.{RestoreError}
 use Rattle.keep_script.specs.Plan.{bytes_in}
+use Rattle.keep_script.specs.Word.{hex_text}
 use Rattle.keep_script.specs.declared.answer.Sizes.{Sizes}
 
 -- the answer to `undo`, `redo` and `empty` where they are accepted: `ok N at K`
@@ -106,6 +114,59 @@ entry_text entry =
 -- the answer to `history`: a line for each event
 abbrev pub history_text : Journal → List ℕ
 history_text j = flat_map entry_text j.entries
+
+-- the answer to a line that only reads, where memory runs out
+abbrev pub no_memory_text : List ℕ
+no_memory_text = refused_text Memory
+
+-- the line of `restore` for a file: `PATH HEX`
+abbrev pub restored_line : List ℕ × List ℕ → List ℕ
+restored_line file = file.0 ++ (codes " " ++ (hex_text file.1 ++ codes "\n"))
+
+-- how many files a restore gives, and how many nodes it skipped: `restored F skipped S`
+abbrev pub restored_counts : ℕ → ℕ → List ℕ
+restored_counts files skipped =
+    codes "restored " ++ (decimal files ++ (codes " skipped " ++ (decimal skipped ++ codes "\n")))
+
+-- what a restore gives: a line for each file, by path, and then the counts
+abbrev pub restored_text : RestoredData → List ℕ
+restored_text restored =
+    flat_map restored_line (map.entries restored.files)
+    ++ restored_counts (map.len restored.files) restored.skipped
+
+-- the answer to `restore`
+abbrev pub restore_reply_text : Result RestoredData RestoreError → List ℕ
+restore_reply_text (Ok restored) = restored_text restored
+restore_reply_text (Err refusal) = codes "no " ++ (restore_text refusal ++ codes "\n")
+
+-- what was found, and where: `wrong-name KIND ID`, `unreadable KIND ID`, `wrong-blob PACK BLOB` or `broken SNAPSHOT`
+abbrev pub finding_text : Finding → List ℕ
+finding_text (WrongName name) = codes "wrong-name " ++ file_name_text name
+finding_text (Unreadable file) = codes "unreadable " ++ file_name_text file.name
+finding_text (WrongBlob pack blob) = codes "wrong-blob " ++ (id_text pack ++ (codes " " ++ id_text blob.id))
+finding_text (Broken snapshot why) = codes "broken " ++ id_text snapshot
+
+-- the number of a refusal behind it, where it carries one
+abbrev pub number_text : Option ℕ → List ℕ
+number_text (Some number) = codes " " ++ decimal number
+number_text None = []
+
+-- the line of `audit` for a finding
+abbrev pub finding_line : Finding → List ℕ
+finding_line finding = finding_text finding ++ (number_text (finding_number finding) ++ codes "\n")
+
+-- how many findings there are: `audit F`
+abbrev pub audit_count : ℕ → List ℕ
+audit_count count = codes "audit " ++ (decimal count ++ codes "\n")
+
+-- what an audit finds: a line for each finding, and then their number
+abbrev pub audit_text : List Finding → List ℕ
+audit_text findings = flat_map finding_line findings ++ audit_count (length findings)
+
+-- the answer to `audit`
+abbrev pub audit_reply_text : {E : Type 0} → Result (List Finding) E → List ℕ
+audit_reply_text (Ok findings) = audit_text findings
+audit_reply_text (Err no_memory) = no_memory_text
 
 -- what is written for a line that isn't of the language: `bad line K`
 abbrev pub bad_line_text : ℕ → List ℕ

@@ -1,11 +1,13 @@
-ghost use Rattle.std.specs.Prelude.{◌≡◌, IfOk, length, string_bytes};
+ghost use Rattle.std.specs.Prelude.{◌≡◌, ◌++◌, Err, IfOk, codes, length, string_bytes};
 ghost use Rattle.keep_script.specs.Plan.{bytes_in};
 ghost use Rattle.keep_script.specs.Text as texts;
 
+use crate::word::print_hex;
 use keep_book::{Refusal, Told};
 use keep_change::{Change, What};
 use keep_journal::Entry;
 use keep_names::{FileName, Kind};
+use keep_read::{Finding, RestoreError};
 use keep_repo::Repo;
 use std::alloc::{AllocError, Global};
 use std::fmt;
@@ -69,7 +71,7 @@ fn accepted_text(alloc: Global, told: Told, sizes: Sizes) -> Result<String, Allo
     format!(in alloc; "ok {number} at {at} {sizes}\n")
 }
 
-fn refused_text(alloc: Global, refusal: Refusal) -> Result<String, AllocError>
+pub(crate) fn refused_text(alloc: Global, refusal: Refusal) -> Result<String, AllocError>
     ensures { IfOk result (λ text. string_bytes text ≡ texts.refused_text refusal) }
 {
     format!(in alloc; "no {refusal}\n")
@@ -156,6 +158,73 @@ fn word_of(what: What) -> &'static str
         What::Redo => "redo",
         What::Empty => "empty",
     }
+}
+
+/// The line of `restore` for a file.
+pub(crate) fn restored_line(alloc: Global, path: &str, bytes: &[u8]) -> Result<String, AllocError>
+    ensures { IfOk result (λ text. string_bytes text ≡ texts.restored_line (path.now, bytes.now)) }
+{
+    let hex = print_hex(alloc, bytes)?;
+    format!(in alloc; "{path} {hex}\n")
+}
+
+pub(crate) fn restored_counts(
+    alloc: Global,
+    files: usize,
+    skipped: u64,
+) -> Result<String, AllocError>
+    ensures { IfOk result (λ text. string_bytes text ≡ texts.restored_counts files skipped) }
+{
+    format!(in alloc; "restored {files} skipped {skipped}\n")
+}
+
+/// The answer to `restore`, where it is refused.
+pub(crate) fn unrestored_text(alloc: Global, refusal: RestoreError) -> Result<String, AllocError>
+    ensures { IfOk result (λ text. string_bytes text ≡ texts.restore_reply_text (Err refusal)) }
+{
+    format!(in alloc; "no {refusal}\n")
+}
+
+/// The line of `audit` for a finding.
+pub(crate) fn finding_line(alloc: Global, finding: &Finding) -> Result<String, AllocError>
+    ensures { IfOk result (λ text. string_bytes text ≡ texts.finding_line finding.now) }
+{
+    let text = finding_text(alloc, finding)?;
+    numbered_line(alloc, text.as_str(), finding.number())
+}
+
+/// The text, with the number behind it where there is one.
+fn numbered_line(alloc: Global, text: &str, number: Option<u8>) -> Result<String, AllocError>
+    ensures { IfOk result (λ line. string_bytes line ≡ text.now ++ (texts.number_text number ++ codes "\n")) }
+{
+    match number {
+        Some(number) => format!(in alloc; "{text} {number}\n"),
+        None => format!(in alloc; "{text}\n"),
+    }
+}
+
+/// What was found, and where.
+fn finding_text(alloc: Global, finding: &Finding) -> Result<String, AllocError>
+    ensures { IfOk result (λ text. string_bytes text ≡ texts.finding_text finding.now) }
+{
+    match finding {
+        Finding::WrongName(name) => format!(in alloc; "wrong-name {name}"),
+        Finding::Unreadable(file) => {
+            let name = file.name;
+            format!(in alloc; "unreadable {name}")
+        }
+        Finding::WrongBlob(pack, blob) => {
+            let id = blob.id;
+            format!(in alloc; "wrong-blob {pack} {id}")
+        }
+        Finding::Broken(snapshot, _) => format!(in alloc; "broken {snapshot}"),
+    }
+}
+
+pub(crate) fn audit_count(alloc: Global, count: usize) -> Result<String, AllocError>
+    ensures { IfOk result (λ text. string_bytes text ≡ texts.audit_count count) }
+{
+    format!(in alloc; "audit {count}\n")
 }
 
 pub(crate) fn bad_line_text(alloc: Global, number: u64) -> Result<String, AllocError>

@@ -21,6 +21,8 @@ pub(crate) enum Command<'a> {
     Note(&'a str),
     Same(&'a str),
     History,
+    Restore(Target),
+    Audit,
 }
 
 /// The command of a line, if it has one. A line that isn't of the language is `BadLine`.
@@ -58,12 +60,14 @@ fn parse_command(alloc: Global, text: &str) -> Result<Command<'_>, Stop>
 fn alone(verb: &str) -> Option<Command<'_>>
     ensures value { IfSome result (λ command. Asks verb.now command) }
     ensures none { IfNone result
-        ((verb.now ≢ codes "list") × (verb.now ≢ codes "count") × (verb.now ≢ codes "history")) }
+        ((verb.now ≢ codes "list") × (verb.now ≢ codes "count") × (verb.now ≢ codes "history")
+        × (verb.now ≢ codes "audit")) }
 {
     match verb {
         "list" => Some(Command::List),
         "count" => Some(Command::Count),
         "history" => Some(Command::History),
+        "audit" => Some(Command::Audit),
         _ => None,
     }
 }
@@ -80,6 +84,7 @@ fn with_words<'a>(verb: &str, rest: &'a str) -> Option<Command<'a>>
         "empty" => Some(Command::Empty(parse_number(rest)?)),
         "note" if is_name(rest) => Some(Command::Note(rest)),
         "same" if is_name(rest) => Some(Command::Same(rest)),
+        "restore" => Some(Command::Restore(parse_target(rest)?)),
         _ => None,
     }
 }

@@ -1,11 +1,18 @@
+ghost use Rattle.std.specs.Result.{result_map_both};
+ghost use Rattle.keep_read.specs.Restored.{restored_view};
 ghost use Rattle.keep_script.specs.Known.{Puts};
 ghost use Rattle.keep_script.specs.Text as texts;
 
-use crate::answer::{Sizes, bad_line_text, commit_text, noted_text, same_text, told_text};
+use crate::answer::{
+    Sizes, bad_line_text, commit_text, noted_text, refused_text, same_text, told_text,
+    unrestored_text,
+};
+use crate::listing::{write_findings, write_restored};
 use crate::output::put_text;
 use crate::status::Stop;
 use keep_book::{Refusal, Told};
-use std::alloc::Global;
+use keep_read::{Finding, RestoreError, Restored};
+use std::alloc::{AllocError, Global};
 use std::io::Write;
 
 /// Writes the answer to a change that was to be committed.
@@ -52,6 +59,42 @@ pub(crate) fn write_same<W: Write>(
 {
     let text = same_text(alloc, name, same)?;
     put_text(writer, text)
+}
+
+/// Writes the answer to `restore`.
+pub(crate) fn write_restore<W: Write>(
+    alloc: Global,
+    outcome: Result<Restored, RestoreError>,
+    writer: &mut W,
+) -> Result<(), Stop>
+    ensures { Puts (W.contents writer.old) (W.contents writer.new)
+        (texts.restore_reply_text (result_map_both restored_view (λ refusal. refusal) outcome)) result }
+{
+    match outcome {
+        Ok(restored) => write_restored(alloc, &restored, writer),
+        Err(refusal) => {
+            let text = unrestored_text(alloc, refusal)?;
+            put_text(writer, text)
+        }
+    }
+}
+
+/// Writes the answer to `audit`.
+pub(crate) fn write_audit<W: Write>(
+    alloc: Global,
+    outcome: Result<Vec<Finding>, AllocError>,
+    writer: &mut W,
+) -> Result<(), Stop>
+    ensures { Puts (W.contents writer.old) (W.contents writer.new)
+        (texts.audit_reply_text (result_map_both (λ findings. findings.items) (λ error. error) outcome)) result }
+{
+    match outcome {
+        Ok(findings) => write_findings(alloc, &findings, writer),
+        Err(_) => {
+            let text = refused_text(alloc, Refusal::Memory)?;
+            put_text(writer, text)
+        }
+    }
 }
 
 /// Says that the line of this number isn't one of the language.

@@ -12,13 +12,16 @@ use crate::command::{Command, parse};
 use crate::listing::{write_count, write_history, write_list};
 use crate::notes::Notes;
 use crate::plan::{added_by, plan_add, plan_drop};
-use crate::reply::{write_committed, write_noted, write_same, write_told};
+use crate::reply::{
+    write_audit, write_committed, write_noted, write_restore, write_same, write_told,
+};
 use crate::status::Stop;
 use crate::word::Target;
 use keep_book::{Book, Refusal, Told};
 use keep_change::{Change, Planned};
 use keep_journal::History;
 use keep_names::{FileName, Kind};
+use keep_read::{audit, restore};
 use std::alloc::Global;
 use std::io::Write;
 
@@ -80,6 +83,12 @@ fn answer<W: Write>(
             write_same(alloc, name, same, writer)
         }
         Command::History => write_history(alloc, book.history(), writer),
+        Command::Restore(target) => {
+            let name = find(book.history(), Kind::Snapshot, target).ok_or(Stop::BadLine)?;
+            let outcome = restore(alloc, book.live(), name.id);
+            write_restore(alloc, outcome, writer)
+        }
+        Command::Audit => write_audit(alloc, audit(alloc, book.live()), writer),
     }
 }
 

@@ -16,8 +16,8 @@ pub enum Status {
     ReadFailed,
     /// A write failed, so what is written may break off anywhere.
     WriteFailed,
-    /// The run itself found no memory: for a line, a note or an answer. Of the answer to `list` or
-    /// `history` the first lines may be written.
+    /// The run itself found no memory: for a line, a note or an answer. Of the answer to `list`,
+    /// `history`, `restore` or `audit` the first lines may be written.
     NoMemory,
 }
 

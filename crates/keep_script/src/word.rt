@@ -1,4 +1,4 @@
-ghost use Rattle.std.specs.Prelude.{◌≡◌, ℕ, ◌↔◌, ◌<◌, ◌^◌, ◌≢◌, List, Some, None, IfOk, IfSome, IsTrue, MatchOption, Ok};
+ghost use Rattle.std.specs.Prelude.{◌≡◌, ℕ, ◌↔◌, ◌<◌, ◌^◌, ◌≢◌, List, Some, None, IfOk, IfSome, IsTrue, MatchOption, Ok, string_bytes};
 ghost use Rattle.std.specs.Fmt.{decimal};
 ghost use Rattle.std.specs.List.{AllPass};
 ghost use Rattle.hex.specs.Hex.{IsBytes};
@@ -87,6 +87,16 @@ pub(crate) fn parse_hex(alloc: Global, word: &str) -> Result<Option<Vec<u8>>, Al
             _ => Ok(None),
         },
     }
+}
+
+/// The bytes in lower case hex, or a dash where there are none.
+pub(crate) fn print_hex(alloc: Global, bytes: &[u8]) -> Result<String, AllocError>
+    ensures { IfOk result (λ text. string_bytes text ≡ hex_text bytes.now) }
+{
+    if bytes.is_empty() {
+        return String::from_str(alloc, "-");
+    }
+    hex::encode(alloc, bytes)
 }
 
 /// A file by its 64 digits, or `@` and the number of the change that added it.

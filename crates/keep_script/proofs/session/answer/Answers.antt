@@ -4,6 +4,7 @@ use Rattle.std.specs.Option.{option_copied}
 use Rattle.keep_book.specs.BookState.{BookState}
 use Rattle.keep_repo.specs.Repository.{Repository}
 use Rattle.keep_script.proofs.AnswerLemmas.{AnswersCommand-bad, AnswersCommand-none, AnswersCommand-puts, Committed-by, NamesNothing-file, NamesNothing-note, ok_or-Err}
+use Rattle.keep_script.proofs.RestoreLemmas.{Audited-answer, NamesNothing-snapshot, Restored-answer}
 use Rattle.keep_script.specs.State.{notes_of, state_of}
 use Rattle.keep_script.proofs.session.answer.Goals as goal
 
@@ -75,3 +76,23 @@ returns-in-Undo g c = AnswersCommand-puts _ _ _ _ _ _ _ c.write_told.ensures (rw
   text = refl;
   left = ap (λ (b : BookState). record { book = b; notes = notes_of c.args.notes.now }) c.undo.ensures.after;
 }))
+
+pub returns-in_err-name-in-Restore : goal.returns-in_err-name-in-Restore
+returns-in_err-name-in-Restore g c =
+    let passed = err_from_is_err_and c.from_residual-in_err-name-in-Restore.result c.from_residual-in_err-name-in-Restore.ensures.1 in
+    let lacks = ok_or-Err c.find-in-Restore.result _ c.in_err-name-in-Restore.field-0.0 c.in_err-name-in-Restore.ensures.value in
+    let meant = rw c.history-in-Restore.ensures at c.find-in-Restore.ensures in
+    AnswersCommand-bad _ _ _ _ (passed.1 ∙ ap Err (passed.2 ∙ lacks.1)) (NamesNothing-snapshot (state_of c.args.book.now c.args.notes.now) c.args.command c.in-Restore.target c.in-Restore.is (sym meant ∙ lacks.0))
+
+pub returns-in_ok-name-in-Restore : goal.returns-in_ok-name-in-Restore
+returns-in_ok-name-in-Restore g c =
+    let meant = rw c.history-in-Restore.ensures at c.find-in-Restore.ensures in
+    let told = rw c.live-in-Restore.ensures at c.restore-outcome.ensures in
+    AnswersCommand-puts _ _ _ _ _ _ _ c.write_restore.ensures
+    (Restored-answer (state_of c.args.book.now c.args.notes.now) c.args.command c.in-Restore.target c.in_ok-name-in-Restore.name c.restore-outcome.result c.in-Restore.is
+    (sym meant ∙ c.in_ok-name-in-Restore.ensures.ok_part) told)
+
+pub returns-in-Audit : goal.returns-in-Audit
+returns-in-Audit g c =
+    let found = rw c.live-in-Audit.ensures at c.audit.ensures in
+    AnswersCommand-puts _ _ _ _ _ _ _ c.write_audit.ensures (Audited-answer (state_of c.args.book.now c.args.notes.now) c.args.command c.audit.result c.in-Audit.is found)

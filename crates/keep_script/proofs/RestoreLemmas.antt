@@ -1,0 +1,116 @@
+-- What a restore gives, entry by entry.
+use Rattle.std.proofs.Common.{◌≡◌, ℕ, List, [], ◌∷◌, ◌++◌, map, length, Option, Some, None, Result, Ok, Err, IfOk, Less, String, Vec, Global, string_bytes, refl, sym, ap, subst, ◌∙◌, append_assoc, inl, inr, ◌⊎◌}
+use Rattle.std.specs.String.{string_cmp}
+use Rattle.std.proofs.lemmas.Cmp.{nat_list_cmp_total}
+use Rattle.std.proofs.lemmas.List.{length-map}
+use Rattle.std.specs.FinMap as finite
+use Rattle.std.specs.List.{AllByRecursion, flat_map}
+use Rattle.std.specs.List.Sorted.{IsStrictlySortedBy}
+use Rattle.std.specs.Map.{keys_of}
+use Rattle.std.specs.Result.{result_map_both}
+use Rattle.keep_docs.specs.Doc.{Answers}
+use Rattle.keep_names.specs.declared.file_name.FileName.{FileName}
+use Rattle.keep_names.specs.declared.file_name.Kind.TheVariants.{Snapshot}
+use Rattle.keep_repo.proofs.Maps.{entries_made, len_made}
+use Rattle.keep_read.specs.Findings.{findings_in}
+use Rattle.keep_read.specs.Restored.{RestoredData, path_cmp, restored, restored_view}
+use Rattle.keep_read.specs.declared.finding.Finding.{Finding}
+use Rattle.keep_read.specs.declared.restore_error.RestoreError.{RestoreError}
+use Rattle.keep_read.specs.declared.restore_error.RestoreError.TheVariants.{NoSnapshot, Reach, Unread}
+use Rattle.keep_catalog.specs.declared.reach_error.ReachError.TheVariants.{BadTree, Memory, MissingBlob, TooDeep, WrongHash}
+use Rattle.keep_read.specs.declared.restored.Restored.{Restored}
+use Rattle.keep_script.specs.Answer as script
+use Rattle.keep_script.specs.Answer.{Reads}
+use Rattle.keep_script.specs.Known.{Puts}
+use Rattle.keep_script.specs.Plan.{file_meant}
+use Rattle.keep_script.specs.State.{State}
+use Rattle.keep_script.specs.Text.{audit_count, audit_text, audit_reply_text, finding_line, no_memory_text, restore_reply_text, restored_counts, restored_line, restored_text}
+use Rattle.keep_script.specs.declared.command.Command.{Command}
+use Rattle.keep_script.specs.declared.command.Command.TheVariants.{Audit, Restore}
+use Rattle.keep_script.specs.declared.status.Stop.{Stop}
+use Rattle.keep_script.specs.declared.word.Target.{Target}
+
+-- the entries as contracts see them
+abbrev pub pairs : List (String Global × Vec ℕ Global) → List (List ℕ × List ℕ)
+pairs es = map (λ e. (string_bytes e.0, e.1.items)) es
+
+all_above : (k : String Global) (es : List (String Global × Vec ℕ Global)) → AllByRecursion (λ y. string_cmp k y ≡ Less) (keys_of es) → AllByRecursion (λ y. path_cmp (string_bytes k) y ≡ Less) (keys_of (pairs es))
+all_above k [] h = tt
+all_above k (e ∷ es) h = (h.0, all_above k es h.1)
+
+-- entries in the order of their keys are in the order of their paths
+sorted_pairs : (es : List (String Global × Vec ℕ Global)) → IsStrictlySortedBy string_cmp (keys_of es) → IsStrictlySortedBy path_cmp (keys_of (pairs es))
+unfolding IsStrictlySortedBy
+sorted_pairs [] h = tt
+sorted_pairs (e ∷ es) h = (all_above e.0 es h.0, sorted_pairs es h.1)
+
+module _ (es : List (String Global × Vec ℕ Global)) (sorted : IsStrictlySortedBy string_cmp (keys_of es)) where
+  files_counted : finite.len (finite.from_entries {R = path_cmp} (pairs es)) ≡ length es
+  files_counted = len_made nat_list_cmp_total (pairs es) (sorted_pairs es sorted) ∙ length-map es _
+
+  -- the counts that were written are those of the files
+  pub Puts-counts : (a b : Option (List ℕ)) (skipped count : ℕ) (text : List ℕ) (r : Result (Unit {0}) Stop) → count ≡ length es → text ≡ restored_counts count skipped
+      → Puts a b text r → Puts a b (restored_counts (finite.len (finite.from_entries {R = path_cmp} (pairs es))) skipped) r
+  Puts-counts a b skipped count text r counted told puts =
+      subst (λ t. Puts a b t r) (told ∙ ap (λ n. restored_counts n skipped) (counted ∙ sym files_counted)) puts
+
+  -- the lines of the files, as far as they were written, and then the rest
+  pub restored_split : (skipped : ℕ) (written rest : List ℕ) → written ++ rest ≡ flat_map restored_line (pairs es)
+      → restored_text (record { files = finite.from_entries (pairs es); skipped = skipped })
+      ≡ written ++ (rest ++ restored_counts (finite.len (finite.from_entries {R = path_cmp} (pairs es))) skipped)
+  restored_split skipped written rest split =
+      let counts : List ℕ = restored_counts (finite.len (finite.from_entries {R = path_cmp} (pairs es))) skipped in
+      ap (λ files. flat_map restored_line files ++ counts) (entries_made nat_list_cmp_total (pairs es) (sorted_pairs es sorted))
+      ∙ ap (λ l. l ++ counts) (sym split) ∙ append_assoc written rest counts
+
+-- one file more was written
+pub next_split : (all left rest : List (String Global × Vec ℕ Global)) (path : String Global) (bytes : Vec ℕ Global) (written line : List ℕ) → left ≡ (path, bytes) ∷ rest
+    → line ≡ restored_line (string_bytes path, bytes.items) → written ++ flat_map restored_line (pairs left) ≡ flat_map restored_line (pairs all)
+    → (written ++ line) ++ flat_map restored_line (pairs rest) ≡ flat_map restored_line (pairs all)
+next_split all left rest path bytes written line first told split =
+    append_assoc written line (flat_map restored_line (pairs rest))
+    ∙ ap (λ l. written ++ (l ++ flat_map restored_line (pairs rest))) told
+    ∙ ap (λ es. written ++ flat_map restored_line (pairs es)) (sym first) ∙ split
+
+-- all files were written
+pub last_split : (all left : List (String Global × Vec ℕ Global)) (written : List ℕ) → left ≡ []
+    → written ++ flat_map restored_line (pairs left) ≡ flat_map restored_line (pairs all) → written ++ [] ≡ flat_map restored_line (pairs all)
+last_split all left written none split = ap (λ es. written ++ flat_map restored_line (pairs es)) (sym none) ∙ split
+
+-- the lines of the findings, as far as they were written, and then the rest
+pub audit_split : (findings : List Finding) (written rest : List ℕ) → written ++ rest ≡ flat_map finding_line findings
+    → audit_text findings ≡ written ++ (rest ++ audit_count (length findings))
+audit_split findings written rest split = ap (λ l. l ++ audit_count (length findings)) (sym split) ∙ append_assoc written rest (audit_count (length findings))
+
+-- what a restore told is what it has to tell, or that memory ran out
+pub restore_told : (due : Result RestoredData RestoreError) (outcome : Result Restored RestoreError) → Answers (Reach Memory) restored_view due outcome
+    → (restore_reply_text (result_map_both restored_view (λ e. e) outcome) ≡ restore_reply_text due) ⊎ (restore_reply_text (result_map_both restored_view (λ e. e) outcome) ≡ no_memory_text)
+restore_told due (Ok restored) h = inl (ap restore_reply_text (sym h))
+restore_told due (Err NoSnapshot) h = inl (ap restore_reply_text (sym (h (λ e. cc e))))
+restore_told due (Err (Unread file)) h = inl (ap restore_reply_text (sym (h (λ e. cc e))))
+restore_told due (Err (Reach Memory)) h = inr refl
+restore_told due (Err (Reach TooDeep)) h = inl (ap restore_reply_text (sym (h (λ e. cc e))))
+restore_told due (Err (Reach BadTree)) h = inl (ap restore_reply_text (sym (h (λ e. cc e))))
+restore_told due (Err (Reach (MissingBlob blob))) h = inl (ap restore_reply_text (sym (h (λ e. cc e))))
+restore_told due (Err (Reach (WrongHash blob))) h = inl (ap restore_reply_text (sym (h (λ e. cc e))))
+
+Reads-told : (state : State) (shown told : List ℕ) → (told ≡ shown) ⊎ (told ≡ no_memory_text) → Reads state shown told state
+Reads-told state shown told (inl e) = inl (record { text = e; same = refl })
+Reads-told state shown told (inr e) = inr (record { text = e; same = refl })
+
+-- a restore of a snapshot that is named was answered
+pub Restored-answer : (state : State) (command : Command) (target : Target) (name : FileName) (outcome : Result Restored RestoreError) → command ≡ Restore target
+    → file_meant state.book.events Snapshot target ≡ Some name → Answers (Reach Memory) restored_view (restored state.book.live name.id) outcome
+    → script.Answers state command (restore_reply_text (result_map_both restored_view (λ e. e) outcome)) state
+Restored-answer state command target name outcome is meant told =
+    rw is (name, meant, Reads-told state _ _ (restore_told (restored state.book.live name.id) outcome told))
+
+pub NamesNothing-snapshot : (state : State) (command : Command) (target : Target) → command ≡ Restore target → file_meant state.book.events Snapshot target ≡ None → script.NamesNothing state command
+NamesNothing-snapshot state command target e h = rw e h
+
+-- what an audit told is what it has to tell, or that memory ran out
+pub Audited-answer : {E : Type 0} (state : State) (command : Command) (outcome : Result (Vec Finding Global) E) → command ≡ Audit
+    → IfOk outcome (λ findings. findings.items ≡ findings_in state.book.live)
+    → script.Answers state command (audit_reply_text (result_map_both (λ findings. findings.items) (λ e. e) outcome)) state
+Audited-answer state command (Ok findings) is found = rw is (inl (record { text = ap audit_text found; same = refl }))
+Audited-answer state command (Err e) is found = rw is (inr (record { text = refl; same = refl }))
