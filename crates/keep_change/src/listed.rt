@@ -34,6 +34,14 @@ impl<T> Listed<T> {
         Listed { items }
     }
 
+    /// The elements. It takes no memory.
+    pub fn into_vec(self) -> Vec<T>
+        ensures { result.items ≡ self }
+    {
+        let Listed { items } = self;
+        items
+    }
+
     pub fn as_slice(&self) -> &[T]
         ensures { result.now ≡ self.now }
     {

@@ -26,10 +26,14 @@ entry_bytes listed = type_byte listed.blob.blob_type ∷ (to_le_bytes w32 listed
 abbrev pub HasEntry : Listed → Type 0
 HasEntry listed = (length listed.blob.id.0 ≡ 32) × (listed.length < 2 ^ 32)
 
+-- these blobs one after the other, an entry for each listed one, and how many bytes the entries have
+abbrev pub pack_text : List (List ℕ) → List Listed → List ℕ
+pack_text blobs listed = concat blobs ++ (flat_map entry_bytes listed ++ to_le_bytes w32 (37 * length listed))
+
 -- The pack is these blobs one after the other, an entry for each in the same order, and how many bytes the
 -- entries have, in four bytes with the low one first.
 pub record IsPackOf (pack : List ℕ) (blobs : List (List ℕ)) (listed : List Listed) : Type 0 where
-  pub bytes : pack ≡ concat blobs ++ (flat_map entry_bytes listed ++ to_le_bytes w32 (37 * length listed))
+  pub bytes : pack ≡ pack_text blobs listed
   pub lengths : map (λ blob. blob.length) listed ≡ map length blobs
   pub entries : AllByRecursion HasEntry listed
   pub header : 37 * length listed < 2 ^ 32
@@ -57,9 +61,13 @@ LiesIn pack entry = entry.offset + entry.length ≤ length pack
 abbrev pub bytes_at : List ℕ → PackEntry → List ℕ
 bytes_at pack entry = take entry.length (drop entry.offset pack)
 
--- a blob without where its bytes lie in memory
-abbrev pub stored : {B : Type 0} → (B → List ℕ) → BlobType × B → BlobType × List ℕ
-stored bytes blob = (blob.0, bytes blob.1)
+-- a blob that is given under its name, as its type and its bytes
+abbrev pub stored : {B : Type 0} → (B → List ℕ) → BlobId × B → BlobType × List ℕ
+stored bytes blob = (blob.0.blob_type, bytes blob.1)
+
+-- the id that it is given under is the SHA-256 of its bytes
+abbrev pub HasOwnId : {B : Type 0} → (B → List ℕ) → BlobId × B → Type 0
+HasOwnId bytes blob = blob.0.id.0 ≡ sha256 (bytes blob.1)
 
 -- what an honest header lists of a blob: the SHA-256 of its bytes is the id
 abbrev pub listing : BlobType × List ℕ → Listed

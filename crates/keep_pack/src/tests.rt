@@ -12,14 +12,13 @@ const HELLO: [u8; 46] = [
 #[test]
 fn a_blob_is_packed_and_read(rt: HostRuntime) -> Result<(), Fail> {
     let alloc = rt.alloc();
-    let hello = Vec::from_slice(alloc, b"hello")?;
-    let pack = build_pack(alloc, &[(BlobType::Content, hello)])?;
-    assert_eq!(rt; pack.as_slice(), HELLO.as_slice());
-    let entries = read_header(alloc, &HELLO)?;
     let blob = BlobId {
         id: id_of(b"hello"),
         blob_type: BlobType::Content,
     };
+    let pack = build_pack(alloc, &[(blob, Vec::from_slice(alloc, b"hello")?)])?;
+    assert_eq!(rt; pack.as_slice(), HELLO.as_slice());
+    let entries = read_header(alloc, &HELLO)?;
     let entry = PackEntry {
         blob,
         offset: 0,
@@ -33,10 +32,15 @@ fn a_blob_is_packed_and_read(rt: HostRuntime) -> Result<(), Fail> {
 #[test]
 fn blobs_stand_one_after_the_other(rt: HostRuntime) -> Result<(), Fail> {
     let alloc = rt.alloc();
-    let blobs = [
-        (BlobType::Tree, b"ab".as_slice()),
-        (BlobType::Content, b"c".as_slice()),
-    ];
+    let tree = BlobId {
+        id: id_of(b"ab"),
+        blob_type: BlobType::Tree,
+    };
+    let piece = BlobId {
+        id: id_of(b"c"),
+        blob_type: BlobType::Content,
+    };
+    let blobs = [(tree, b"ab".as_slice()), (piece, b"c".as_slice())];
     let pack = build_pack(alloc, &blobs)?;
     let mut found = Vec::new(alloc);
     for entry in &read_header(alloc, &pack)? {
