@@ -1,0 +1,34 @@
+use Rattle.std.proofs.Common.{◌≡◌, ℕ, ◌+◌, ◌-◌, ◌<◌, ◌≤◌, length, map, take, get_or, ap, ◌∙◌, arith}
+use Rattle.std.specs.Global.{Vec}
+use Rattle.keep_names.specs.declared.blob.BlobId.{BlobId}
+use Rattle.keep_backup.specs.Packs.{bytes_in, full_pack}
+use Rattle.keep_backup.specs.Storing.{blob_view}
+use Rattle.keep_backup.proofs.Building.{all_taken, bytes_more, first_full, front_low, vec_length}
+use Rattle.keep_backup.proofs.packs.first_pack.Goals as goal
+
+pub returns-then-size-ge-FULL_PACK-clause-first : goal.returns-then-size-ge-FULL_PACK-clause-first
+returns-then-size-ge-FULL_PACK-clause-first c =
+    let kept = c.args.blobs.now in
+    let k = c.loop-place.place in
+    let here = c.index-blobs-place.result in
+    let sum : c.loop-place.size ≡ bytes_in (map blob_view (take k kept)) = c.loop-place.invariant.sum in
+    let low : c.loop-place.size < full_pack = c.loop-place.invariant.low in
+    let more : bytes_in (map blob_view (take (k + 1) kept)) ≡ bytes_in (map blob_view (take k kept)) + length (get_or kept k here).1.items = bytes_more kept k here c.loop-place-test.true in
+    let count : c.len-size.result ≡ length (get_or kept k here).1.items =
+    c.len-size.ensures ∙ vec_length here.1 ∙ ap (λ (blob : BlobId × Vec ℕ). length blob.1.items) c.index-blobs-place.is in
+    let full : 16777216 ≤ c.loop-place.size + c.len-size.result = c.if-size-ge-FULL_PACK.true in
+    first_full kept k c.loop-place-test.true (omega (arith, sum, low)) (omega (arith, sum, more, count, full))
+
+pub returns-clause-first : goal.returns-clause-first
+returns-clause-first c =
+    let kept = c.args.blobs.now in
+    let sum : c.loop-place.size ≡ bytes_in (map blob_view (take c.loop-place.place kept)) = c.loop-place.invariant.sum in
+    let low : c.loop-place.size < full_pack = c.loop-place.invariant.low in
+    all_taken kept c.requires.some (front_low kept (length kept) c.loop-place.place c.loop-place-test.false (omega (arith, sum, low)))
+
+pub returns-clause-front : goal.returns-clause-front
+returns-clause-front c =
+    let kept = c.args.blobs.now in
+    let sum : c.loop-place.size ≡ bytes_in (map blob_view (take c.loop-place.place kept)) = c.loop-place.invariant.sum in
+    let low : c.loop-place.size < full_pack = c.loop-place.invariant.low in
+    front_low kept (length kept - 1) c.loop-place.place c.loop-place-test.false (omega (arith, sum, low))

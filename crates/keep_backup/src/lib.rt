@@ -1,0 +1,27 @@
+//! Backups: what is stored of blobs and files, and what that relies on.
+#![tactic(auto)]
+
+mod backup_error;
+mod laws;
+mod packs;
+mod paths;
+mod plan;
+#[cfg(test)]
+mod plan_tests;
+#[cfg(test)]
+mod refusal_tests;
+mod settling;
+mod snapshot;
+mod stored;
+mod storing;
+#[cfg(test)]
+mod tests;
+mod walk;
+#[cfg(test)]
+mod walk_tests;
+
+pub use backup_error::BackupError;
+pub use laws::packs_are_cut_when_full;
+pub use plan::plan_backup;
+pub use snapshot::BackupFacts;
+pub use stored::{Stored, store};

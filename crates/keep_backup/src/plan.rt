@@ -1,0 +1,96 @@
+ghost use Rattle.std.specs.Prelude.{◌≡◌, ◌≤◌, ◌<◌, IfOk, is_none, map};
+ghost use Rattle.keep_docs.specs.Doc.{Answers};
+ghost use Rattle.keep_snap.specs.Time.{time_in};
+ghost use Rattle.keep_backup.specs.Backup.{backup_change, facts_view, stored_files_of};
+ghost use Rattle.keep_backup.specs.Backup as spec;
+ghost use Rattle.keep_backup.specs.Files.{file_view, given_view, paths_seen};
+ghost use Rattle.keep_backup.specs.Paths.{AreNamed, StandInOrder};
+ghost use Rattle.keep_backup.specs.declared.backup_error.BackupError.TheVariants as the_error;
+
+use crate::backup_error::BackupError;
+use crate::paths::{PathFile, files_in_order};
+use crate::snapshot::{BackupFacts, snapshot_file};
+use crate::stored::Stored;
+use crate::storing::Storing;
+use crate::walk::walk;
+use keep_catalog::{Catalog, View};
+use keep_change::{Change, Listed, Planned, StoredFile};
+use keep_names::Id;
+use keep_repo::{Facet, Repo};
+use keep_snap::parse_time;
+use std::alloc::{AllocError, Global};
+
+/// The change that backs up these files, given by the texts of their absolute paths and their bytes, cut
+/// every `cut` bytes. What the repository has is reused.
+///
+/// The refusals in their order: `BadPath`, `SamePathTwice`, `BadTime`, `Unread`, `TooDeep`, `Full`,
+/// `SnapshotThere`.
+pub fn plan_backup(
+    alloc: Global,
+    view: &View,
+    files: &[(String, Vec<u8>)],
+    facts: &BackupFacts,
+    cut: u32,
+) -> Result<Planned, BackupError>
+    requires some { 0 < cut }
+    requires most { cut ≤ 8_388_608 }
+    ensures change { Answers the_error.Memory (λ planned. planned.change)
+        (backup_change view.now.repo (facts_view facts.now) cut (map given_view files.now)) result }
+    ensures seen { IfOk result (λ planned. planned.seen ≡ view.now.length) }
+{
+    let files = files_in_order(alloc, files)?;
+    if has_bad_time(facts) {
+        return Err(BackupError::BadTime);
+    }
+    let (tree, stored) = store_files(alloc, &view.repo, &files, cut)?;
+    let snapshot = snapshot_file(alloc, facts, tree)?;
+    if view.repo.facet_filled(Facet::File(snapshot.name)) {
+        return Err(BackupError::SnapshotThere);
+    }
+    let change = change_with(alloc, stored, snapshot)?;
+    Ok(Planned {
+        change,
+        seen: view.length,
+    })
+}
+
+// Whether no snapshot can have the time.
+fn has_bad_time(facts: &BackupFacts) -> bool
+    ensures { result ≡ is_none (time_in (facts_view facts.now).time) }
+{
+    parse_time(facts.time.as_str()).is_none()
+}
+
+// The id of the root's tree, and what is stored of the files.
+fn store_files(
+    alloc: Global,
+    repo: &Repo,
+    files: &[PathFile],
+    cut: u32,
+) -> Result<(Id, Stored), BackupError>
+    requires cut { 0 < cut }
+    requires in_order { StandInOrder (paths_seen 0 files.now) }
+    requires named { AreNamed (paths_seen 0 files.now) }
+    ensures { Answers the_error.Memory (λ made. made)
+        (stored_files_of repo.now cut (map file_view files.now)) result }
+{
+    let catalog = Catalog::of(alloc, repo)?;
+    let mut storing = Storing::new(alloc, catalog);
+    let tree = walk(alloc, files, cut, &mut storing)?;
+    let stored = storing.finish(alloc, repo)?;
+    Ok((tree, stored))
+}
+
+// The change that stores this and adds the snapshot.
+fn change_with(alloc: Global, stored: Stored, snapshot: StoredFile) -> Result<Change, AllocError>
+    ensures { IfOk result (λ change. change ≡ spec.change_of stored snapshot) }
+{
+    let mut adds = stored.adds.into_vec();
+    adds.push(snapshot)?;
+    let mut change = Change::new(alloc);
+    change.adds = Listed::from_vec(adds);
+    change.clears = stored.clears;
+    change.present = stored.present;
+    change.unmarked = stored.unmarked;
+    Ok(change)
+}

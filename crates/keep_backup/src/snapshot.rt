@@ -1,0 +1,67 @@
+ghost use Rattle.std.specs.Prelude.{◌≡◌, IfOk, map, string_bytes};
+ghost use Rattle.keep_snap.specs.Snap.{snap_view};
+ghost use Rattle.keep_backup.specs.Backup.{facts_view};
+ghost use Rattle.keep_backup.specs.Backup as spec;
+
+use crate::packs::new_file;
+use keep_change::StoredFile;
+use keep_names::{Id, Kind, id_of};
+use keep_snap::{Snap, write_snap};
+use serde_json::Map;
+use std::alloc::{AllocError, Global};
+
+/// Who backs up what, and when.
+#[derive(Drop)]
+pub struct BackupFacts {
+    pub host: String,
+    pub user: String,
+    /// What is backed up, as the snapshot is to say it.
+    pub paths: Vec<String>,
+    /// As RFC 3339 writes it.
+    pub time: String,
+}
+
+// The snapshot of a backup whose root's tree has this id.
+pub(crate) fn snapshot_file(
+    alloc: Global,
+    facts: &BackupFacts,
+    tree: Id,
+) -> Result<StoredFile, AllocError>
+    ensures { IfOk result (λ file. file ≡ spec.snapshot_file (facts_view facts.now) tree) }
+{
+    let snap = snapshot_of(alloc, facts, tree)?;
+    let text = write_snap(alloc, &snap)?;
+    let id = id_of(&text);
+    new_file(alloc, Kind::Snapshot, id, text)
+}
+
+// What it says.
+fn snapshot_of(alloc: Global, facts: &BackupFacts, tree: Id) -> Result<Snap, AllocError>
+    ensures { IfOk result (λ snap. snap_view snap ≡ spec.snapshot_of (facts_view facts.now) tree) }
+{
+    let time = facts.time.clone()?;
+    let paths = texts_copy(alloc, &facts.paths)?;
+    let host = facts.host.clone()?;
+    let user = facts.user.clone()?;
+    Ok(Snap {
+        time,
+        tree,
+        paths,
+        hostname: Some(host),
+        username: Some(user),
+        tags: Vec::new(alloc),
+        original: None,
+        dir: None,
+        others: Map::new(alloc),
+    })
+}
+
+fn texts_copy(alloc: Global, texts: &[String]) -> Result<Vec<String>, AllocError>
+    ensures { IfOk result (λ copies. map string_bytes copies.items ≡ map string_bytes texts.now) }
+{
+    let mut copies = Vec::with_capacity(alloc, texts.len())?;
+    for text in texts {
+        copies.push(text.clone()?)?;
+    }
+    Ok(copies)
+}
