@@ -3,6 +3,8 @@ use Rattle.std.specs.Prelude.{ℕ, List, [], ◌++◌, codes}
 use Rattle.std.specs.Fmt.{decimal}
 use Rattle.keep_script.specs.declared.status.Status.{Status}
 use Rattle.keep_script.specs.declared.status.Status.TheVariants.{Done, BadLine, ReadFailed, WriteFailed, NoMemory}
+use Rattle.keep_main.specs.declared.options.BadOptions.{BadOptions}
+use Rattle.keep_main.specs.declared.options.BadOptions.TheVariants.{Memory, Refused}
 
 -- the exit status: 0 where the script was answered, 2 where a line isn't of the language, 1 where the run failed
 abbrev pub code_of : Status → ℕ
@@ -11,6 +13,11 @@ code_of (BadLine number) = 2
 code_of ReadFailed = 1
 code_of WriteFailed = 1
 code_of NoMemory = 1
+
+-- the exit status where no options are read: 2 where the words aren't options, 1 for want of memory
+abbrev pub code_of_refusal : BadOptions → ℕ
+code_of_refusal Refused = 2
+code_of_refusal Memory = 1
 
 -- the line on standard error, none where the script was answered
 abbrev pub cause_of : Status → List ℕ

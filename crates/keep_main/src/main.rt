@@ -1,32 +1,47 @@
 //! The program `keepd`: answers the script on its standard input.
 #![tactic(auto)]
 
+mod options;
 mod program;
 #[cfg(test)]
 mod tests;
 
-use program::{keepd, without_memory};
-use std::alloc::AllocError;
+use options::BadOptions;
+use program::{keepd, refuse, without_memory};
 use std::env;
-use std::io::{BufWriter, ErrorKind};
+use std::io::{BufWriter, ErrorKind, Stderr};
 use std::process::ExitCode;
 
-/// How many words stand behind the program's name. One that isn't text counts as one too many.
-fn count_arguments(rt: &HostRuntime) -> Result<usize, AllocError> {
+/// The words behind the program's name. One that isn't UTF-8 is no option.
+fn read_words(rt: &HostRuntime) -> Result<Vec<String>, BadOptions> {
     match env::args(rt) {
-        Ok(words) => Ok(words.len().saturating_sub(1)),
-        Err(error) if error.kind() == ErrorKind::OutOfMemory => Err(AllocError),
-        Err(_) => Ok(1),
+        Ok(words) => Ok(words.skip(1).collect(rt.alloc())?),
+        Err(error) if error.kind() == ErrorKind::OutOfMemory => Err(BadOptions::Memory),
+        Err(_) => Err(BadOptions::Refused),
     }
 }
 
-fn main(rt: HostRuntime) -> ExitCode {
+/// Runs the program between standard input and output.
+fn serve(rt: &HostRuntime, words: &[String], errors: &mut Stderr) -> u8 {
     let alloc = rt.alloc();
-    let mut errors = rt.stderr();
-    let (Ok(arguments), Ok(mut writer)) = (count_arguments(&rt), BufWriter::new(alloc, rt.stdout()))
-    else {
-        return ExitCode::from(without_memory(&mut errors));
+    let words: Result<Vec<&str>, _> = words.iter().map(|word| word.as_str()).collect(alloc);
+    let (Ok(words), Ok(mut writer)) = (words, BufWriter::new(alloc, rt.stdout())) else {
+        return without_memory(errors);
     };
-    let status = keepd(alloc, arguments, &mut rt.stdin(), &mut writer, &mut errors);
+    keepd(
+        alloc,
+        words.as_slice(),
+        &mut rt.stdin(),
+        &mut writer,
+        errors,
+    )
+}
+
+fn main(rt: HostRuntime) -> ExitCode {
+    let mut errors = rt.stderr();
+    let status = match read_words(&rt) {
+        Ok(words) => serve(&rt, words.as_slice(), &mut errors),
+        Err(error) => refuse(error, &mut errors),
+    };
     ExitCode::from(status)
 }

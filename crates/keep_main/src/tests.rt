@@ -1,3 +1,4 @@
+use crate::options::{BadOptions, read_options};
 use crate::program::{keepd, without_memory};
 use std::alloc::Global;
 use std::io::{self, ErrorKind, Read, Write};
@@ -68,7 +69,7 @@ type Wanted = (&'static str, &'static str, u8);
 fn expect<R: Read>(
     rt: &impl Abort,
     alloc: Global,
-    arguments: usize,
+    words: &[&str],
     reader: &mut R,
     (room, flushes): (usize, usize),
     wanted: Wanted,
@@ -80,7 +81,7 @@ fn expect<R: Read>(
     };
     let mut errors = Vec::new(alloc);
     let (answers, cause, status) = wanted;
-    let ended = keepd(alloc, arguments, reader, &mut writer, &mut errors);
+    let ended = keepd(alloc, words, reader, &mut writer, &mut errors);
     assert_eq!(rt; ended, status, "before {cause}");
     assert!(rt;
         writer.held.as_slice() == answers.as_bytes(),
@@ -96,20 +97,67 @@ const ANSWER: &str = "files 0 marks 0\n";
 #[test]
 fn scripts_give_their_status(rt: HostRuntime) {
     let alloc = rt.alloc();
-    for (arguments, script, wanted) in [
-        (0, "count", (ANSWER, "", 0)),
-        (1, "count", ("", "keepd: bad options\n", 2)),
-        (
-            0,
-            "count\nhelp\ncount\n",
-            (
-                "files 0 marks 0\nbad line 2\n",
-                "keepd: line 2 is not a command\n",
-                2,
-            ),
-        ),
+    let bad_line = (
+        "files 0 marks 0\nbad line 2\n",
+        "keepd: line 2 is not a command\n",
+        2,
+    );
+    for (script, wanted) in [
+        ("count", (ANSWER, "", 0)),
+        ("count\nhelp\ncount\n", bad_line),
     ] {
-        expect(&rt, alloc, arguments, &mut script.as_bytes(), AMPLE, wanted);
+        expect(&rt, alloc, &[], &mut script.as_bytes(), AMPLE, wanted);
+    }
+}
+
+#[test]
+fn words_give_the_options(rt: HostRuntime) {
+    let alloc = rt.alloc();
+    for (words, cut) in [
+        ([].as_slice(), 1_048_576),
+        (&["--cut", "4"], 4),
+        (&["--cut=4"], 4),
+        (&["--cut", "8388608"], 8_388_608),
+        (&["--cut", "+004"], 4),
+    ] {
+        let options = read_options(alloc, words).expect(&rt, "options");
+        assert_eq!(rt; options.cut, cut);
+        expect(
+            &rt,
+            alloc,
+            words,
+            &mut b"count".as_slice(),
+            AMPLE,
+            (ANSWER, "", 0),
+        );
+    }
+}
+
+#[test]
+fn other_words_are_bad_options(rt: HostRuntime) {
+    let alloc = rt.alloc();
+    let refused = ("", "keepd: bad options\n", 2);
+    for words in [
+        ["--cut", "0"].as_slice(),
+        &["--cut", "8388609"],
+        &["--cut", "x"],
+        &["--cut", ""],
+        &["--cut"],
+        &["--cut="],
+        &["--cut", "-4"],
+        &["--cut", "4", "--cut", "5"],
+        &["--help"],
+        &["-h"],
+        &["--version"],
+        &["help"],
+        &["--cut", "4", "help"],
+        &[""],
+        &["--"],
+    ] {
+        let mut script = b"count".as_slice();
+        expect(&rt, alloc, words, &mut script, AMPLE, refused);
+        assert_eq!(rt; script.len(), 5);
+        assert!(rt; read_options(alloc, words) == Err(BadOptions::Refused));
     }
 }
 
@@ -121,13 +169,13 @@ fn failures_give_their_status(rt: HostRuntime) {
     let mut broken = Broken {
         bytes: b"count\ncou",
     };
-    expect(&rt, alloc, 0, &mut broken, AMPLE, (ANSWER, unread, 1));
-    expect(&rt, alloc, 0, &mut Endless, (0, 5000), ("", unread, 1));
+    expect(&rt, alloc, &[], &mut broken, AMPLE, (ANSWER, unread, 1));
+    expect(&rt, alloc, &[], &mut Endless, (0, 5000), ("", unread, 1));
     let script = b"count\n";
     expect(
         &rt,
         alloc,
-        0,
+        &[],
         &mut script.as_slice(),
         (9, 99),
         ("", unwritten, 1),
@@ -135,7 +183,7 @@ fn failures_give_their_status(rt: HostRuntime) {
     expect(
         &rt,
         alloc,
-        0,
+        &[],
         &mut script.as_slice(),
         (99, 2),
         (ANSWER, unwritten, 1),

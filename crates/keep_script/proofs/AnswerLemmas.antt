@@ -1,14 +1,19 @@
 -- What is written for a command, where its answer is known.
-use Rattle.std.proofs.Common.{◌≡◌, ℕ, List, [], Result, Ok, Err, Option, Some, None, ◌⊎◌, inl, inr, Bor, ap, refl, subst}
+use Rattle.std.proofs.Common.{◌≡◌, ◌≢◌, ℕ, List, [], Result, Ok, Err, Option, Some, None, IfOk, IfErr, ◌⊎◌, inl, inr, Bor, ap, refl, subst}
 use Rattle.std.proofs.KnownBytes.{Appends-nil}
 use Rattle.keep_book.specs.BookState.{BookState}
 use Rattle.keep_book.specs.Reply.{Replies, state_after}
 use Rattle.keep_book.specs.declared.reply.Refusal.{Refusal}
 use Rattle.keep_book.specs.declared.reply.Told.{Told}
+use Rattle.keep_backup.specs.declared.backup_error.BackupError.{BackupError}
+use Rattle.keep_backup.specs.declared.backup_error.BackupError.TheVariants as backup_error
+use Rattle.keep_book.specs.Request as request
 use Rattle.keep_change.specs.declared.change.Change.{Change}
+use Rattle.keep_change.specs.declared.change.Planned.{Planned}
+use Rattle.keep_journal.specs.History.{length_of}
 use Rattle.keep_repo.specs.Repository.{Repository}
-use Rattle.keep_script.specs.Plan.{commit_of, file_meant}
-use Rattle.keep_script.specs.Text.{commit_text, reply_text, sizes_of}
+use Rattle.keep_script.specs.Plan.{backed_up, commit_of, file_meant}
+use Rattle.keep_script.specs.Text.{backup_reply_text, commit_text, reply_text, sizes_of}
 use Rattle.keep_script.specs.declared.answer.Sizes.{Sizes}
 use Rattle.std.specs.Option.{ok_or}
 use Rattle.keep_script.specs.Answer.{Answers, Committed, NoCommand, NoLine, IsBad, NamesNothing, Shows, Done, NoName}
@@ -19,7 +24,9 @@ use Rattle.keep_script.specs.State.{State}
 use Rattle.keep_script.specs.Step.{AnswersCommand, AnswersLine}
 use Rattle.keep_names.specs.declared.file_name.Kind.{Kind}
 use Rattle.keep_script.specs.declared.command.Command.{Command}
+use Rattle.keep_script.specs.declared.backup_line.Backup.{Backup}
 use Rattle.keep_script.specs.declared.command.Command.TheVariants.{Drop, Same}
+use Rattle.keep_script.specs.declared.command.Command.TheVariants as the_command
 use Rattle.keep_script.specs.declared.word.Target.{Target}
 use Rattle.keep_script.specs.declared.status.Stop.{Stop}
 use Rattle.keep_script.specs.declared.status.Stop.TheVariants.{BadLine, ReadFailed, WriteFailed, NoMemory}
@@ -85,12 +92,46 @@ pub NamesNothing-note : (state : State) (command : Command) (name : Bor (List �
 NamesNothing-note state command name e h = rw e h
 
 -- the change that was made ready is committed
-pub Committed-by : (book book' : BookState) (notes : List ℕ → Option Repository) (change change' : Change) (sizes : Sizes) (reply : Result Told Refusal)
+pub Committed-by : (cut : ℕ) (book book' : BookState) (notes : List ℕ → Option Repository) (change change' : Change) (sizes : Sizes) (reply : Result Told Refusal)
     → change ≡ change' → Replies book (commit_of book change) reply → book' ≡ state_after book (commit_of book change) reply → sizes ≡ sizes_of change
-    → Committed (record { book = book; notes = notes }) change' (reply_text (commit_text sizes) reply) (record { book = book'; notes = notes })
-Committed-by book book' notes change change' sizes reply same replies left counted = rw (← same) (record {
+    → Committed (record { cut = cut; book = book; notes = notes }) change' (reply_text (commit_text sizes) reply) (record { cut = cut; book = book'; notes = notes })
+Committed-by cut book book' notes change change' sizes reply same replies left counted = rw (← same) (record {
   reply = reply;
   replies = replies;
   text = ap (λ s. reply_text (commit_text s) reply) counted;
-  left = ap (λ b. record { book = b; notes = notes }) left;
+  left = ap (λ b. record { cut = cut; book = b; notes = notes }) left;
 })
+
+-- a change that was planned on the present book is committed on it
+pub commit-planned : (book : BookState) (planned : Planned) → planned.seen ≡ length_of book.events → request.Commit planned ≡ commit_of book planned.change
+commit-planned book planned now = ap (λ (seen : ℕ). request.Commit (record { change = planned.change; seen = seen })) now
+
+-- what came of a backup was answered: it was committed as it was to be planned, it was refused as it was to be, or memory ran out
+BackedUp-made : (cut : ℕ) (book book' : BookState) (notes : List ℕ → Option Repository) (command : Command) (backup : Backup) (made : Result Told Refusal × Sizes) (change : Change)
+    → command ≡ the_command.Backup backup → backed_up book.live cut backup ≡ Ok change → Replies book (commit_of book change) made.0
+    → book' ≡ state_after book (commit_of book change) made.0 → made.1 ≡ sizes_of change
+    → Answers (record { cut = cut; book = book; notes = notes }) command (backup_reply_text (Ok made)) (record { cut = cut; book = book'; notes = notes })
+BackedUp-made cut book book' notes command backup made change is due replies left counted =
+    rw (is, due) (inl (Committed-by cut book book' notes change change made.1 made.0 refl replies left counted))
+
+BackedUp-refused : (state after : State) (command : Command) (backup : Backup) (refusal : BackupError)
+    → command ≡ the_command.Backup backup → (refusal ≢ backup_error.Memory → backed_up state.book.live state.cut backup ≡ Err refusal)
+    → after ≡ state → Answers state command (backup_reply_text (Err refusal)) after
+BackedUp-refused state after command backup backup_error.BadPath is due same = rw (is, due (λ e. cc e)) (inl (record { text = refl; same = same }))
+BackedUp-refused state after command backup backup_error.SamePathTwice is due same = rw (is, due (λ e. cc e)) (inl (record { text = refl; same = same }))
+BackedUp-refused state after command backup backup_error.BadTime is due same = rw (is, due (λ e. cc e)) (inl (record { text = refl; same = same }))
+BackedUp-refused state after command backup (backup_error.Unread file) is due same = rw (is, due (λ e. cc e)) (inl (record { text = refl; same = same }))
+BackedUp-refused state after command backup backup_error.TooDeep is due same = rw (is, due (λ e. cc e)) (inl (record { text = refl; same = same }))
+BackedUp-refused state after command backup backup_error.Full is due same = rw (is, due (λ e. cc e)) (inl (record { text = refl; same = same }))
+BackedUp-refused state after command backup backup_error.SnapshotThere is due same = rw (is, due (λ e. cc e)) (inl (record { text = refl; same = same }))
+BackedUp-refused state after command backup backup_error.Memory is due same = rw is (inr (record { text = refl; same = same }))
+
+pub BackedUp-answer : (cut : ℕ) (book book' : BookState) (notes : List ℕ → Option Repository) (command : Command) (backup : Backup) (outcome : Result (Result Told Refusal × Sizes) BackupError)
+    → command ≡ the_command.Backup backup
+    → IfOk outcome (λ made. (change : Change) × (backed_up book.live cut backup ≡ Ok change) × Replies book (commit_of book change) made.0 × (book' ≡ state_after book (commit_of book change) made.0) × (made.1 ≡ sizes_of change))
+    → IfErr outcome (λ refusal. refusal ≢ backup_error.Memory → backed_up book.live cut backup ≡ Err refusal) → IfErr outcome (λ refusal. book' ≡ book)
+    → Answers (record { cut = cut; book = book; notes = notes }) command (backup_reply_text outcome) (record { cut = cut; book = book'; notes = notes })
+BackedUp-answer cut book book' notes command backup (Ok made) is h refused same = BackedUp-made cut book book' notes command backup made h.0 is h.1 h.2 h.3 h.4
+BackedUp-answer cut book book' notes command backup (Err refusal) is made due same =
+    BackedUp-refused (record { cut = cut; book = book; notes = notes }) (record { cut = cut; book = book'; notes = notes }) command backup refusal is due
+    (ap (λ (b : BookState). record { cut = cut; book = b; notes = notes }) same)

@@ -1,5 +1,5 @@
 -- The answer to a line, by the state that the lines before leave.
-use Rattle.std.specs.Prelude.{◌≡◌, ℕ, Bool, IsTrue, ◌↔◌, ◌⊎◌, List, [], Some, None, Result}
+use Rattle.std.specs.Prelude.{◌≡◌, ℕ, Bool, IsTrue, ◌↔◌, ◌⊎◌, List, [], Some, None, Result, Ok, Err}
 use Rattle.keep_repo.specs.Repository.{Repository}
 use Rattle.keep_names.specs.declared.file_name.FileName.{FileName}
 use Rattle.keep_names.specs.declared.file_name.Kind.TheVariants.{Snapshot}
@@ -9,15 +9,16 @@ use Rattle.keep_book.specs.declared.reply.Refusal.{Refusal}
 use Rattle.keep_book.specs.Request.{Request}
 use Rattle.keep_book.specs.Request as request
 use Rattle.keep_book.specs.declared.reply.Told.{Told}
+use Rattle.keep_backup.specs.declared.backup_error.BackupError.{BackupError}
 use Rattle.keep_read.specs.Findings.{findings_in}
 use Rattle.keep_read.specs.Restored.{restored}
 use Rattle.keep_script.specs.Command.{Asks, IsNoCommand}
 use Rattle.keep_script.specs.Line.{IsLine, IsPassedOver}
-use Rattle.keep_script.specs.Plan.{added_file, commit_of, dropped_file, file_meant}
+use Rattle.keep_script.specs.Plan.{added_file, backed_up, commit_of, dropped_file, file_meant}
 use Rattle.keep_script.specs.State.{State, noted_under}
-use Rattle.keep_script.specs.Text.{audit_text, commit_text, count_text, history_text, list_text, no_memory_text, noted_text, reply_text, restore_reply_text, same_text, sizes_of, told_text}
+use Rattle.keep_script.specs.Text.{audit_text, commit_text, count_text, history_text, list_text, no_memory_text, noted_text, reply_text, restore_reply_text, same_text, sizes_of, told_text, unplanned_text}
 use Rattle.keep_script.specs.declared.command.Command.{Command}
-use Rattle.keep_script.specs.declared.command.Command.TheVariants.{Add, Drop, Undo, Redo, Empty, List as ListFiles, Count, Note, Same, History, Restore, Audit}
+use Rattle.keep_script.specs.declared.command.Command.TheVariants.{Add, Drop, Undo, Redo, Empty, List as ListFiles, Count, Note, Same, History, Restore, Audit, Backup}
 
 -- this is written, and nothing changes
 pub record Shows (state : State) (shown written : List ℕ) (after : State) : Type 0 where
@@ -40,6 +41,11 @@ Reads state shown written after = Shows state shown written after ⊎ Shows stat
 abbrev pub Committed : State → Change → List ℕ → State → Type 0
 Committed state change text after =
     Asked state (commit_of state.book change) (commit_text (sizes_of change)) text after
+
+-- a planned change is committed, or its planner's refusal is written and nothing changes
+abbrev pub Planned : State → Result Change BackupError → List ℕ → State → Type 0
+Planned state (Ok change) text after = Committed state change text after
+Planned state (Err refusal) text after = Shows state (unplanned_text refusal) text after
 
 -- the answer to a command, and the state that it leaves
 abbrev pub Answers : State → Command → List ℕ → State → Type 0
@@ -64,6 +70,8 @@ Answers state (Restore target) text after =
     (name : FileName) × (file_meant state.book.events Snapshot target ≡ Some name)
     × Reads state (restore_reply_text (restored state.book.live name.id)) text after
 Answers state Audit text after = Reads state (audit_text (findings_in state.book.live)) text after
+Answers state (Backup backup) text after =
+    Planned state (backed_up state.book.live state.cut backup) text after ⊎ Shows state no_memory_text text after
 
 -- a command names what isn't there: a file by a change that added none of its kind, or no note
 abbrev pub NamesNothing : State → Command → Type 0
@@ -79,6 +87,7 @@ NamesNothing state Count = ⊥
 NamesNothing state (Note name) = ⊥
 NamesNothing state History = ⊥
 NamesNothing state Audit = ⊥
+NamesNothing state (Backup backup) = ⊥
 
 -- the answer to a line: none where it is passed over, and else that to its command
 pub data Answered (state : State) (line text : List ℕ) (after : State) : Type 0 where

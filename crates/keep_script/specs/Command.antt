@@ -3,11 +3,12 @@ use Rattle.std.specs.Prelude.{◌≡◌, ◌≢◌, ℕ, ◌<◌, ◌^◌, List,
 use Rattle.std.specs.Fmt.{decimal}
 use Rattle.hex.specs.Hex.{IsBytes}
 use Rattle.keep_names.specs.FileName.{kind_text}
+use Rattle.keep_script.specs.BackupLine.{IsBackup, backup_text}
 use Rattle.keep_script.specs.Word.{IsName, IsTarget, hex_text, target_text}
 use Rattle.keep_script.specs.declared.word.Target.{Target}
 use Rattle.keep_names.specs.declared.file_name.Kind.{Kind}
 use Rattle.keep_script.specs.declared.command.Command.{Command}
-use Rattle.keep_script.specs.declared.command.Command.TheVariants.{Add, Drop, Undo, Redo, Empty, List as ListFiles, Count, Note, Same, History, Restore, Audit}
+use Rattle.keep_script.specs.declared.command.Command.TheVariants.{Add, Drop, Undo, Redo, Empty, List as ListFiles, Count, Note, Same, History, Restore, Audit, Backup}
 
 -- the line that asks for a command: its words, with single spaces between
 abbrev pub command_text : Command → List ℕ
@@ -23,6 +24,7 @@ command_text (Same name) = codes "same " ++ name.now
 command_text History = codes "history"
 command_text (Restore target) = codes "restore " ++ target_text target
 command_text Audit = codes "audit"
+command_text (Backup backup) = codes "backup " ++ backup_text backup
 
 -- no text of `drop` goes on like this
 abbrev pub NamesNoFile : List ℕ → Type 0
@@ -38,7 +40,7 @@ IsNoTarget word = (target : Target) → IsTarget target → target_text target �
 abbrev pub IsNoNumber : List ℕ → Type 0
 IsNoNumber word = (n : ℕ) → n < 2 ^ 64 → decimal n ≢ word
 
--- no command but `add` begins with this word and goes on like this
+-- no command but `add` and `backup` begins with this word and goes on like this
 pub record AsksNothing (verb rest : List ℕ) : Type 0 where
   pub drops : verb ≡ codes "drop" → NamesNoFile rest
   pub undoes : verb ≡ codes "undo" → IsNoNumber rest
@@ -67,6 +69,7 @@ IsCommand (Same name) = IsName name.now
 IsCommand History = ⊤
 IsCommand (Restore target) = IsTarget target
 IsCommand Audit = ⊤
+IsCommand (Backup backup) = IsBackup backup
 
 -- the line asks for this command
 abbrev pub Asks : List ℕ → Command → Type 0

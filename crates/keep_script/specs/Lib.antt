@@ -1,4 +1,5 @@
 pub mod Answer
+pub mod BackupLine
 pub mod Command
 pub mod Input
 pub mod Known

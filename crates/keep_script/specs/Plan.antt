@@ -1,10 +1,11 @@
 -- The changes that lines ask for.
-use Rattle.std.specs.Prelude.{ℕ, List, [], ◌∷◌, false, filter, map, Option, Some}
+use Rattle.std.specs.Prelude.{ℕ, List, [], ◌∷◌, codes, false, filter, map, Option, Some, Result}
 use Rattle.std.specs.Option.{option_and_then, unwrap_or}
 use Rattle.std.specs.Ordering.{min_by_ordering}
 use Rattle.std.specs.List.{reduce}
 use Rattle.keep_names.specs.Orders.{name_cmp}
 use Rattle.std.specs.FinMap as finite
+use Rattle.keep_script.specs.declared.backup_line.Backup.{Backup}
 use Rattle.keep_script.specs.declared.word.Target.{Target}
 use Rattle.keep_script.specs.declared.word.Target.TheVariants.{Named, AddedBy}
 use Rattle.keep_names.specs.Sha256.{sha256}
@@ -14,6 +15,9 @@ use Rattle.keep_names.specs.contracts.file_name.KindPartialEq.TheImpl as the_kin
 use Rattle.keep_repo.specs.Repository.{Repository}
 use Rattle.keep_change.specs.declared.change.Change.{Change}
 use Rattle.keep_change.specs.declared.change.StoredFile.{StoredFile}
+use Rattle.keep_backup.specs.Backup.{FactsData, backup_change}
+use Rattle.keep_backup.specs.Files.{given_view}
+use Rattle.keep_backup.specs.declared.backup_error.BackupError.{BackupError}
 use Rattle.keep_journal.specs.History.{change_of, length_of}
 use Rattle.keep_journal.specs.Journal.{Journal}
 use Rattle.keep_book.specs.BookState.{BookState}
@@ -47,6 +51,20 @@ bytes_in repository name = unwrap_or (finite.get repository.files name) []
 -- the change that drops the file as it is, or one without bytes where it isn't there
 abbrev pub dropped_file : Repository → FileName → Change
 dropped_file repository name = change_with [] (record { name = name; bytes = bytes_in repository name } ∷ [])
+
+-- who backs up, and when: the line's host and time, the user `keep`, and one path, the root
+abbrev pub facts_of : Backup → FactsData
+facts_of backup = record {
+  host = backup.host.now;
+  user = codes "keep";
+  paths = codes "/" ∷ [];
+  time = backup.time.now;
+}
+
+-- the change that backs up the files of a line, which are cut every so many bytes, or why there is none
+abbrev pub backed_up : Repository → ℕ → Backup → Result Change BackupError
+backed_up repository cut backup =
+    backup_change repository (facts_of backup) cut (map given_view backup.files.items)
 
 -- the names of these files that have the kind
 abbrev pub names_of : Kind → List StoredFile → List FileName

@@ -6,8 +6,9 @@ use Rattle.keep_repo.specs.Repository.{Repository, empty_repository}
 use Rattle.keep_book.specs.BookState.{BookState, new_book}
 use Rattle.keep_script.specs.declared.notes.Notes.{Notes}
 
--- a book, and under each name the repository that was noted last
+-- after how many bytes backups cut files, a book, and under each name the repository that was noted last
 pub record State : Type 0 where
+  pub cut : ℕ
   pub book : BookState
   pub notes : List ℕ → Option Repository
 
@@ -16,12 +17,12 @@ abbrev pub no_notes : List ℕ → Option Repository
 no_notes name = None
 
 -- a book, and no notes
-abbrev pub begun_over : BookState → State
-begun_over book = record { book = book; notes = no_notes }
+abbrev pub begun_over : ℕ → BookState → State
+begun_over cut book = record { cut = cut; book = book; notes = no_notes }
 
 -- a book over a repository without files and marks, and no notes
-abbrev pub begun : State
-begun = begun_over (new_book empty_repository)
+abbrev pub begun : ℕ → State
+begun cut = begun_over cut (new_book empty_repository)
 
 -- the notes with one more, in the place of an older one of the name
 abbrev pub noted_under : List ℕ → Repository → (List ℕ → Option Repository) → List ℕ → Option Repository
@@ -31,6 +32,6 @@ noted_under name repository notes other = if bytes_eq name other then Some repos
 abbrev pub notes_of : Notes → List ℕ → Option Repository
 notes_of notes name = get_by_text notes.held name
 
--- the state that a book and notes are
-abbrev pub state_of : BookState → Notes → State
-state_of book notes = record { book = book; notes = notes_of notes }
+-- the state that these are
+abbrev pub state_of : ℕ → BookState → Notes → State
+state_of cut book notes = record { cut = cut; book = book; notes = notes_of notes }

@@ -19,6 +19,8 @@ use Rattle.keep_book.specs.Refusal.{refusal_text}
 use Rattle.keep_book.specs.declared.reply.Refusal.{Refusal}
 use Rattle.keep_book.specs.declared.reply.Refusal.TheVariants.{Memory}
 use Rattle.keep_book.specs.declared.reply.Told.{Told}
+use Rattle.keep_backup.specs.Refusal.{backup_text}
+use Rattle.keep_backup.specs.declared.backup_error.BackupError.{BackupError}
 use Rattle.keep_read.specs.Refusals.{finding_number, restore_text}
 use Rattle.keep_read.specs.Restored.{RestoredData}
 use Rattle.keep_read.specs.declared.finding.Finding.{Finding}
@@ -57,10 +59,19 @@ commit_text sizes told =
 abbrev pub refused_text : Refusal → List ℕ
 refused_text refusal = codes "no " ++ (refusal_text refusal ++ codes "\n")
 
+-- the same where no backup is planned
+abbrev pub unplanned_text : BackupError → List ℕ
+unplanned_text refusal = codes "no " ++ (backup_text refusal ++ codes "\n")
+
 -- the answer by a book's reply
 abbrev pub reply_text : (Told → List ℕ) → Result Told Refusal → List ℕ
 reply_text accepted (Ok told) = accepted told
 reply_text accepted (Err refusal) = refused_text refusal
+
+-- the answer to `backup`: its commit's, or why nothing was planned
+abbrev pub backup_reply_text : Result (Result Told Refusal × Sizes) BackupError → List ℕ
+backup_reply_text (Ok made) = reply_text (commit_text made.1) made.0
+backup_reply_text (Err refusal) = unplanned_text refusal
 
 -- the answer to `count`: `files F marks M`
 abbrev pub count_text : Repository → List ℕ

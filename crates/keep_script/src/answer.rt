@@ -3,6 +3,7 @@ ghost use Rattle.keep_script.specs.Plan.{bytes_in};
 ghost use Rattle.keep_script.specs.Text as texts;
 
 use crate::word::print_hex;
+use keep_backup::BackupError;
 use keep_book::{Refusal, Told};
 use keep_change::{Change, What};
 use keep_journal::Entry;
@@ -51,6 +52,9 @@ impl fmt::Display for Sizes {
     }
 }
 
+/// What came of a commit: the book's reply, and how much the change writes.
+pub(crate) type Committed = (Result<Told, Refusal>, Sizes);
+
 pub(crate) fn commit_text(
     alloc: Global,
     outcome: Result<Told, Refusal>,
@@ -73,6 +77,13 @@ fn accepted_text(alloc: Global, told: Told, sizes: Sizes) -> Result<String, Allo
 
 pub(crate) fn refused_text(alloc: Global, refusal: Refusal) -> Result<String, AllocError>
     ensures { IfOk result (λ text. string_bytes text ≡ texts.refused_text refusal) }
+{
+    format!(in alloc; "no {refusal}\n")
+}
+
+/// The answer to `backup`, where it isn't planned.
+pub(crate) fn unplanned_text(alloc: Global, refusal: BackupError) -> Result<String, AllocError>
+    ensures { IfOk result (λ text. string_bytes text ≡ texts.unplanned_text refusal) }
 {
     format!(in alloc; "no {refusal}\n")
 }

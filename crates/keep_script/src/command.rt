@@ -2,6 +2,7 @@ ghost use Rattle.std.specs.Prelude.{◌≡◌, ◌≢◌, ◌++◌, ◌⊎◌, E
 ghost use Rattle.keep_script.specs.Command.{Asks, AsksNothing, IsNoCommand, NamesNoBytes, NamesNoFile};
 ghost use Rattle.keep_script.specs.Line.{IsPassedOver, IsText};
 
+use crate::backup_line::{Backup, parse_backup};
 use crate::line::{is_passed_over, text_of};
 use crate::status::Stop;
 use crate::word::{Target, is_name, parse_hex, parse_kind, parse_number, parse_target};
@@ -23,6 +24,7 @@ pub(crate) enum Command<'a> {
     History,
     Restore(Target),
     Audit,
+    Backup(Backup<'a>),
 }
 
 /// The command of a line, if it has one. A line that isn't of the language is `BadLine`.
@@ -52,6 +54,7 @@ fn parse_command(alloc: Global, text: &str) -> Result<Command<'_>, Stop>
     match text.split_once(' ') {
         None => alone(text).ok_or(Stop::BadLine),
         Some(("add", rest)) => parse_add(alloc, rest),
+        Some(("backup", rest)) => Ok(Command::Backup(parse_backup(alloc, rest)?)),
         Some((verb, rest)) => with_words(verb, rest).ok_or(Stop::BadLine),
     }
 }
@@ -72,7 +75,7 @@ fn alone(verb: &str) -> Option<Command<'_>>
     }
 }
 
-/// The command of a line that goes on after its first word, but for `add`.
+/// The command of a line that goes on after its first word, but for `add` and `backup`.
 fn with_words<'a>(verb: &str, rest: &'a str) -> Option<Command<'a>>
     ensures value { IfSome result (λ command. Asks (verb.now ++ (codes " " ++ rest.now)) command) }
     ensures none { IfNone result (AsksNothing verb.now rest.now) }

@@ -2,6 +2,7 @@
 #![tactic(auto)]
 
 mod answer;
+mod backup_line;
 mod command;
 mod input;
 mod line;

@@ -1,7 +1,15 @@
-ghost use Rattle.std.specs.Prelude.{◌≡◌, [], ◌∷◌, IfOk};
-ghost use Rattle.keep_script.specs.Plan.{added_file, added_in, bytes_in, dropped_file, least, names_of};
+ghost use Rattle.std.specs.Prelude.{◌≡◌, ◌≤◌, ◌<◌, [], ◌∷◌, IfOk};
+ghost use Rattle.keep_backup.specs.Backup.{facts_view};
+ghost use Rattle.keep_backup.specs.declared.backup_error.BackupError.TheVariants as backup_error;
+ghost use Rattle.keep_docs.specs.Doc.{Answers};
+ghost use Rattle.keep_journal.specs.History.{length_of};
+ghost use Rattle.keep_script.specs.Plan as spec;
+ghost use Rattle.keep_script.specs.Plan.{added_file, added_in, backed_up, bytes_in, dropped_file, least, names_of};
 
-use keep_change::{Change, Listed, StoredFile};
+use crate::backup_line::Backup;
+use keep_backup::{BackupError, BackupFacts};
+use keep_book::Book;
+use keep_change::{Change, Listed, Planned, StoredFile};
 use keep_journal::History;
 use keep_names::{FileName, Kind, id_of};
 use keep_repo::{Bytes, Repo};
@@ -28,6 +36,39 @@ pub(crate) fn plan_drop(alloc: Global, repo: &Repo, name: FileName) -> Result<Ch
     let mut change = Change::new(alloc);
     change.drops = one_file(alloc, StoredFile { name, bytes })?;
     Ok(change)
+}
+
+/// The change that backs up what the line says, planned on the present state. Files are cut every
+/// `cut` bytes.
+pub(crate) fn plan_backup(
+    alloc: Global,
+    book: &Book,
+    backup: &Backup<'_>,
+    cut: u32,
+) -> Result<Planned, BackupError>
+    requires some { 0 < cut }
+    requires most { cut ≤ 8_388_608 }
+    ensures change { Answers backup_error.Memory (λ planned. planned.change)
+        (backed_up book.now.live cut backup.now) result }
+    ensures seen { IfOk result (λ planned. planned.seen ≡ length_of book.now.events) }
+{
+    let view = book.view(alloc)?;
+    let facts = facts_of(alloc, backup)?;
+    keep_backup::plan_backup(alloc, &view, backup.files.as_slice(), &facts, cut)
+}
+
+/// Who backs up, and when.
+fn facts_of(alloc: Global, backup: &Backup<'_>) -> Result<BackupFacts, AllocError>
+    ensures { IfOk result (λ facts. facts_view facts ≡ spec.facts_of backup.now) }
+{
+    let mut paths = Vec::with_capacity(alloc, 1)?;
+    paths.push(String::from_str(alloc, "/")?)?;
+    Ok(BackupFacts {
+        host: String::from_str(alloc, backup.host)?,
+        user: String::from_str(alloc, "keep")?,
+        paths,
+        time: String::from_str(alloc, backup.time)?,
+    })
 }
 
 /// The file's bytes, none where it isn't there.

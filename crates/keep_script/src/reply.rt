@@ -4,12 +4,13 @@ ghost use Rattle.keep_script.specs.Known.{Puts};
 ghost use Rattle.keep_script.specs.Text as texts;
 
 use crate::answer::{
-    Sizes, bad_line_text, commit_text, noted_text, refused_text, same_text, told_text,
-    unrestored_text,
+    Committed, Sizes, bad_line_text, commit_text, noted_text, refused_text, same_text, told_text,
+    unplanned_text, unrestored_text,
 };
 use crate::listing::{write_findings, write_restored};
 use crate::output::put_text;
 use crate::status::Stop;
+use keep_backup::BackupError;
 use keep_book::{Refusal, Told};
 use keep_read::{Finding, RestoreError, Restored};
 use std::alloc::{AllocError, Global};
@@ -27,6 +28,24 @@ pub(crate) fn write_committed<W: Write>(
 {
     let text = commit_text(alloc, outcome, sizes)?;
     put_text(writer, text)
+}
+
+/// Writes the answer to a backup that was to be planned and committed.
+pub(crate) fn write_backup<W: Write>(
+    alloc: Global,
+    outcome: Result<Committed, BackupError>,
+    writer: &mut W,
+) -> Result<(), Stop>
+    ensures { Puts (W.contents writer.old) (W.contents writer.new)
+        (texts.backup_reply_text outcome) result }
+{
+    match outcome {
+        Ok((told, sizes)) => write_committed(alloc, told, sizes, writer),
+        Err(refusal) => {
+            let text = unplanned_text(alloc, refusal)?;
+            put_text(writer, text)
+        }
+    }
 }
 
 /// Writes the answer to `undo`, `redo` and `empty`.

@@ -26,14 +26,18 @@ use std::io::{Read, Write};
 /// The writer is flushed before each read, and at the end. The answers to `list` and `history` are
 /// written line by line. Where one finds no memory midway, its first lines are written already, and
 /// the run ends as `NoMemory`.
-pub fn run<R: Read, W: Write>(alloc: Global, reader: &mut R, writer: &mut W) -> Status
+///
+/// Files are cut for a backup after every `cut` bytes, 1 to 8,388,608.
+pub fn run<R: Read, W: Write>(alloc: Global, reader: &mut R, writer: &mut W, cut: u32) -> Status
+    requires some { 0 < cut }
+    requires most { cut ≤ 8_388_608 }
     ensures answers { Writes (W.contents writer.old) (W.contents writer.new) (λ text. (after : State)
-        × Ends begun (R.remaining reader.old) (R.remaining reader.new) text result after) }
+        × Ends (begun cut) (R.remaining reader.old) (R.remaining reader.new) text result after) }
     ensures limit { result ≡ Status.Done →
         IfSome (R.remaining reader.old) (λ script. length script < longest_script) }
 {
     let mut book = Book::new(alloc, Repo::new(alloc));
-    run_over(alloc, &mut book, reader, writer)
+    run_over(alloc, &mut book, reader, writer, cut)
 }
 
 /// Answers the lines of a script over this book, which is left as the last line left it.
@@ -42,10 +46,13 @@ fn run_over<R: Read, W: Write>(
     book: &mut Book,
     reader: &mut R,
     writer: &mut W,
+    cut: u32,
 ) -> Status
+    requires some { 0 < cut }
+    requires most { cut ≤ 8_388_608 }
     ensures answers { Writes (W.contents writer.old) (W.contents writer.new) (λ text. (after : State)
         × (after.book ≡ book.new)
-        × Ends (begun_over book.old) (R.remaining reader.old) (R.remaining reader.new) text result after) }
+        × Ends (begun_over cut book.old) (R.remaining reader.old) (R.remaining reader.new) text result after) }
     ensures limit { result ≡ Status.Done →
         IfSome (R.remaining reader.old) (λ script. length script < longest_script) }
 {
@@ -53,7 +60,7 @@ fn run_over<R: Read, W: Write>(
         return Status::NoMemory;
     };
     let mut notes = Notes::new(alloc);
-    let status = answer_all(alloc, &mut input, book, &mut notes, reader, writer);
+    let status = answer_all(alloc, cut, &mut input, book, &mut notes, reader, writer);
     finish(status, writer)
 }
 
@@ -68,21 +75,24 @@ fn finish<W: Write>(status: Status, writer: &mut W) -> Status
 
 fn answer_all<R: Read, W: Write>(
     alloc: Global,
+    cut: u32,
     input: &mut Input,
     book: &mut Book,
     notes: &mut Notes,
     reader: &mut R,
     writer: &mut W,
 ) -> Status
-    requires { ahead_of input.old ≤ longest_script }
+    requires some { 0 < cut }
+    requires most { cut ≤ 8_388_608 }
+    requires ahead { ahead_of input.old ≤ longest_script }
     ensures answers { Writes (W.contents writer.old) (W.contents writer.new) (λ text.
-        Ends (state_of book.old notes.old) (left_of input.old (R.remaining reader.old))
-        (R.remaining reader.new) text result (state_of book.new notes.new)) }
+        Ends (state_of cut book.old notes.old) (left_of input.old (R.remaining reader.old))
+        (R.remaining reader.new) text result (state_of cut book.new notes.new)) }
     ensures limit { result ≡ Status.Done →
         IfSome (left_of input.old (R.remaining reader.old)) (λ script. length script < longest_script) }
 {
     for number in 1..u64::MAX {
-        match answer_next(alloc, input, book, notes, reader, writer) {
+        match answer_next(alloc, cut, input, book, notes, reader, writer) {
             Ok(true) => {}
             Ok(false) => return Status::Done,
             Err(stop) => return stop_at(alloc, number, stop, writer),
@@ -94,16 +104,19 @@ fn answer_all<R: Read, W: Write>(
 /// Answers the next line, and says whether it had an end.
 fn answer_next<R: Read, W: Write>(
     alloc: Global,
+    cut: u32,
     input: &mut Input,
     book: &mut Book,
     notes: &mut Notes,
     reader: &mut R,
     writer: &mut W,
 ) -> Result<bool, Stop>
+    requires some { 0 < cut }
+    requires most { cut ≤ 8_388_608 }
     ensures answers { Writes (W.contents writer.old) (W.contents writer.new) (λ text.
-        AnswersNext (state_of book.old notes.old) (left_of input.old (R.remaining reader.old))
+        AnswersNext (state_of cut book.old notes.old) (left_of input.old (R.remaining reader.old))
         (left_of input.new (R.remaining reader.new)) (R.remaining reader.new) text result
-        (state_of book.new notes.new)) }
+        (state_of cut book.new notes.new)) }
     ensures spent { result ≡ Ok true → ahead_of input.new < ahead_of input.old }
     ensures counted { OnOk result (Counted
         (left_of input.old (R.remaining reader.old)) (ahead_of input.old)
@@ -112,12 +125,12 @@ fn answer_next<R: Read, W: Write>(
 {
     match input.next_line(reader, writer)? {
         Piece::Line(line) => {
-            answer_line(alloc, line.as_slice(), book, notes, writer)?;
+            answer_line(alloc, cut, line.as_slice(), book, notes, writer)?;
             Ok(true)
         }
         Piece::Last(line) if line.is_empty() => Ok(false),
         Piece::Last(line) => {
-            answer_line(alloc, line.as_slice(), book, notes, writer)?;
+            answer_line(alloc, cut, line.as_slice(), book, notes, writer)?;
             Ok(false)
         }
     }

@@ -1,23 +1,28 @@
-ghost use Rattle.std.specs.Prelude.{◌≡◌, ◌≤◌, length};
+ghost use Rattle.std.specs.Prelude.{◌≡◌, ◌≢◌, ◌≤◌, ◌<◌, Err, IfErr, IfOk, Ok, length};
+ghost use Rattle.keep_backup.specs.declared.backup_error.BackupError.TheVariants as backup_error;
 ghost use Rattle.keep_book.specs.Reply.{Replies, state_after};
+ghost use Rattle.keep_book.specs.Request as request;
+ghost use Rattle.keep_change.specs.declared.change.Change.{Change};
 ghost use Rattle.keep_script.specs.Known.{Writes};
 ghost use Rattle.keep_script.specs.Line.{longest_line};
-ghost use Rattle.keep_script.specs.Plan.{commit_of, file_meant};
+ghost use Rattle.keep_script.specs.Plan.{backed_up, commit_of, file_meant};
 ghost use Rattle.keep_script.specs.State.{state_of};
 ghost use Rattle.keep_script.specs.Step.{AnswersCommand, AnswersLine};
 ghost use Rattle.keep_script.specs.Text.{sizes_of};
 
-use crate::answer::Sizes;
+use crate::answer::{Committed, Sizes};
+use crate::backup_line::Backup;
 use crate::command::{Command, parse};
 use crate::listing::{write_count, write_history, write_list};
 use crate::notes::Notes;
-use crate::plan::{added_by, plan_add, plan_drop};
+use crate::plan::{added_by, plan_add, plan_backup, plan_drop};
 use crate::reply::{
-    write_audit, write_committed, write_noted, write_restore, write_same, write_told,
+    write_audit, write_backup, write_committed, write_noted, write_restore, write_same, write_told,
 };
 use crate::status::Stop;
 use crate::word::Target;
-use keep_book::{Book, Refusal, Told};
+use keep_backup::BackupError;
+use keep_book::Book;
 use keep_change::{Change, Planned};
 use keep_journal::History;
 use keep_names::{FileName, Kind};
@@ -29,42 +34,48 @@ use std::io::Write;
 /// passed over. A failure may come after some of the lines.
 pub(crate) fn answer_line<W: Write>(
     alloc: Global,
+    cut: u32,
     line: &[u8],
     book: &mut Book,
     notes: &mut Notes,
     writer: &mut W,
 ) -> Result<(), Stop>
-    requires { length line.now ≤ longest_line }
+    requires line { length line.now ≤ longest_line }
+    requires some { 0 < cut }
+    requires most { cut ≤ 8_388_608 }
     ensures { Writes (W.contents writer.old) (W.contents writer.new) (λ text.
-        AnswersLine (state_of book.old notes.old) line.now text result (state_of book.new notes.new)) }
+        AnswersLine (state_of cut book.old notes.old) line.now text result (state_of cut book.new notes.new)) }
 {
     match parse(alloc, line)? {
-        Some(command) => answer(alloc, command, book, notes, writer),
+        Some(command) => answer(alloc, cut, command, book, notes, writer),
         None => Ok(()),
     }
 }
 
 fn answer<W: Write>(
     alloc: Global,
+    cut: u32,
     command: Command<'_>,
     book: &mut Book,
     notes: &mut Notes,
     writer: &mut W,
 ) -> Result<(), Stop>
+    requires some { 0 < cut }
+    requires most { cut ≤ 8_388_608 }
     ensures { Writes (W.contents writer.old) (W.contents writer.new) (λ text.
-        AnswersCommand (state_of book.old notes.old) command.entry text result
-        (state_of book.new notes.new)) }
+        AnswersCommand (state_of cut book.old notes.old) command.entry text result
+        (state_of cut book.new notes.new)) }
 {
     match command {
         Command::Add { kind, bytes } => {
             let change = plan_add(alloc, kind, bytes)?;
-            let (outcome, sizes) = commit(book, change);
+            let (outcome, sizes) = commit_now(book, change);
             write_committed(alloc, outcome, sizes, writer)
         }
         Command::Drop { kind, target } => {
             let name = find(book.history(), kind, target).ok_or(Stop::BadLine)?;
             let change = plan_drop(alloc, book.live(), name)?;
-            let (outcome, sizes) = commit(book, change);
+            let (outcome, sizes) = commit_now(book, change);
             write_committed(alloc, outcome, sizes, writer)
         }
         Command::Undo(n) => write_told(alloc, book.undo(n), writer),
@@ -89,18 +100,53 @@ fn answer<W: Write>(
             write_restore(alloc, outcome, writer)
         }
         Command::Audit => write_audit(alloc, audit(alloc, book.live()), writer),
+        Command::Backup(backup) => {
+            let outcome = back_up(alloc, &backup, cut, book);
+            write_backup(alloc, outcome, writer)
+        }
     }
 }
 
-/// Commits a change that was planned on the present state, and says how much it writes.
-fn commit(book: &mut Book, change: Change) -> (Result<Told, Refusal>, Sizes)
+/// Plans the backup on the present state, and commits it at once.
+fn back_up(
+    alloc: Global,
+    backup: &Backup<'_>,
+    cut: u32,
+    book: &mut Book,
+) -> Result<Committed, BackupError>
+    requires some { 0 < cut }
+    requires most { cut ≤ 8_388_608 }
+    ensures made { IfOk result (λ made. (change : Change)
+        × (backed_up book.old.live cut backup.now ≡ Ok change)
+        × Replies book.old (commit_of book.old change) made.0
+        × (book.new ≡ state_after book.old (commit_of book.old change) made.0)
+        × (made.1 ≡ sizes_of change)) }
+    ensures refused { IfErr result (λ refusal.
+        refusal ≢ backup_error.Memory → backed_up book.old.live cut backup.now ≡ Err refusal) }
+    ensures same { IfErr result (λ refusal. book.new ≡ book.old) }
+{
+    let planned = plan_backup(alloc, book, backup, cut)?;
+    Ok(commit(book, planned))
+}
+
+/// Commits a change that is planned on the present state, and says how much it writes.
+fn commit_now(book: &mut Book, change: Change) -> Committed
     ensures replies { Replies book.old (commit_of book.old change) result.0 }
     ensures after { book.new ≡ state_after book.old (commit_of book.old change) result.0 }
     ensures sizes { result.1 ≡ sizes_of change }
 {
-    let sizes = Sizes::of(&change);
     let seen = book.history().length();
-    let outcome = book.commit(Planned { change, seen });
+    commit(book, Planned { change, seen })
+}
+
+/// Commits a planned change, and says how much it writes.
+fn commit(book: &mut Book, planned: Planned) -> Committed
+    ensures replies { Replies book.old (request.Commit planned) result.0 }
+    ensures after { book.new ≡ state_after book.old (request.Commit planned) result.0 }
+    ensures sizes { result.1 ≡ sizes_of planned.change }
+{
+    let sizes = Sizes::of(&planned.change);
+    let outcome = book.commit(planned);
     (outcome, sizes)
 }
 

@@ -1,8 +1,10 @@
+mod backups;
 mod ends;
 mod rows;
 
 use crate::answer::told_text;
 use crate::{Status, run};
+use backups::{BACKUPS, CUT_AFTER_4};
 use ends::{ByLine, Endless, Flushed, LineByLine, Narrow, Slow};
 use keep_book::Refusal;
 use keep_names::{FileName, Id, Kind};
@@ -13,9 +15,12 @@ use std::io::Read;
 use std::process::Abort;
 use std::test::Fail;
 
+/// After how many bytes the runs of these tests cut files.
+const CUT: u32 = 1_048_576;
+
 fn expect<R: Read>(rt: &impl Abort, alloc: Global, reader: &mut R, answers: &str, status: Status) {
     let mut written = Vec::new(alloc);
-    let ended = run(alloc, reader, &mut written);
+    let ended = run(alloc, reader, &mut written, CUT);
     assert_eq!(rt; ended, status, "before {answers}");
     assert!(rt; written.as_slice() == answers.as_bytes(), "not {answers}");
 }
@@ -44,6 +49,23 @@ fn examples_are_answered(rt: HostRuntime) {
     for row in EXAMPLES {
         expect_row(&rt, rt.alloc(), row);
     }
+}
+
+#[test]
+fn backups_are_answered(rt: HostRuntime) {
+    for row in BACKUPS {
+        expect_row(&rt, rt.alloc(), row);
+    }
+}
+
+#[test]
+fn files_are_cut_for_a_backup(rt: HostRuntime) {
+    let alloc = rt.alloc();
+    let (script, answers, status) = CUT_AFTER_4;
+    let mut written = Vec::new(alloc);
+    let ended = run(alloc, &mut script.as_bytes(), &mut written, 4);
+    assert_eq!(rt; ended, status);
+    assert!(rt; written.as_slice() == answers.as_bytes());
 }
 
 /// One file added, the line, and one line more.
@@ -124,7 +146,7 @@ fn failures_end_the_run(rt: HostRuntime) {
             held: Vec::new(alloc),
             room,
         };
-        let status = run(alloc, &mut script.as_slice(), &mut writer);
+        let status = run(alloc, &mut script.as_slice(), &mut writer, CUT);
         let fits = answered.len() <= room;
         assert_eq!(rt;
             status,
@@ -148,7 +170,7 @@ fn lines_are_written_one_by_one(rt: HostRuntime) {
     let mut writer = ByLine {
         held: Vec::new(rt.alloc()),
     };
-    let status = run(rt.alloc(), &mut LISTING.as_bytes(), &mut writer);
+    let status = run(rt.alloc(), &mut LISTING.as_bytes(), &mut writer, CUT);
     assert_eq!(rt; status, Status::Done);
     assert!(rt; writer.held.as_slice() == LISTED.as_bytes());
 }
@@ -161,7 +183,7 @@ fn listings_may_break_off(rt: HostRuntime) {
             held: Vec::new(alloc),
             room,
         };
-        let status = run(alloc, &mut LISTING.as_bytes(), &mut writer);
+        let status = run(alloc, &mut LISTING.as_bytes(), &mut writer, CUT);
         assert_eq!(rt; status, Status::WriteFailed, "at {room}");
         assert!(rt;
             writer.held.as_slice() == &LISTED.as_bytes()[..room],
@@ -189,7 +211,7 @@ fn each_answer_is_handed_on_before_the_next_read(rt: HostRuntime) {
         let mut reader = LineByLine {
             bytes: THREE_LINES.as_bytes(),
         };
-        let ended = run(alloc, &mut reader, &mut writer);
+        let ended = run(alloc, &mut reader, &mut writer, CUT);
         assert_eq!(rt; ended, status, "at {flushes}");
         assert!(rt; writer.lengths.as_slice() == lengths, "at {flushes}");
     }

@@ -7,7 +7,7 @@ use Rattle.keep_script.specs.Input.{left_of, unread_of}
 use Rattle.keep_script.proofs.script.answer_all.Goals as goal
 
 pub loop-number-init : goal.loop-number-init
-loop-number-init g c = record { so_far = Progress-none _ _ _; counted = Counted-none _ _; enough = omega (arith, c.requires) }
+loop-number-init g c = record { so_far = Progress-none _ _ _; counted = Counted-none _ _; enough = omega (arith, c.requires.ahead) }
 
 pub returns-in-Ok-false-clause-answers : goal.returns-in-Ok-false-clause-answers
 returns-in-Ok-false-clause-answers g c =
@@ -27,7 +27,7 @@ returns-in-Ok-false-clause-limit g c _ =
     let h = rw c.in-Ok-false.field-0-test at c.in-Ok-false.ensures.answers in
     let so_far = c.loop-number.invariant.so_far in
     Counted-whole _ _ _ _ _ _ (ended so_far.lines) h.2.0 so_far.read h.2.2 c.loop-number.invariant.counted c.in-Ok-false.ensures.counted h.2.3
-    (c.in-Ok-false.ensures.more (ap Ok c.in-Ok-false.field-0-test)) c.requires
+    (c.in-Ok-false.ensures.more (ap Ok c.in-Ok-false.field-0-test)) c.requires.ahead
 
 pub loop-number-preserved : goal.loop-number-preserved
 loop-number-preserved g c =

@@ -11,7 +11,7 @@ invariant-loop-number g l = record {
   so_far : Progress
       (left_of l.initial.input (g.R.Read.remaining l.initial.reader)) (left_of l.input (g.R.Read.remaining l.reader))
       (g.W.Write.contents l.initial.writer) (g.W.Write.contents l.writer)
-      (state_of l.initial.book l.initial.notes) (state_of l.book l.notes) l.number;
+      (state_of l.cut l.initial.book l.initial.notes) (state_of l.cut l.book l.notes) l.number;
   counted : Counted
       (left_of l.initial.input (g.R.Read.remaining l.initial.reader)) (ahead_of l.initial.input)
       (left_of l.input (g.R.Read.remaining l.reader)) (ahead_of l.input);

@@ -8,4 +8,4 @@ pub returns-clause-answers : goal.returns-clause-answers
 returns-clause-answers g c =
     let h = c.run_over.ensures.answers in
     let same = c.new-book.ensures ∙ ap new_book c.new.ensures in
-    (h.0, h.1, (h.2.0, subst (λ b. Ends (begun_over b) (g.R.Read.remaining c.args.reader.now) (g.R.Read.remaining c.run_over.new.reader) h.0 c.run_over.result h.2.0) same h.2.2))
+    (h.0, h.1, (h.2.0, subst (λ b. Ends (begun_over c.args.cut b) (g.R.Read.remaining c.args.reader.now) (g.R.Read.remaining c.run_over.new.reader) h.0 c.run_over.result h.2.0) same h.2.2))

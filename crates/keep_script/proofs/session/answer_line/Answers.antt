@@ -5,7 +5,7 @@ use Rattle.keep_script.proofs.session.answer_line.Goals as goal
 
 pub returns-in-Some : goal.returns-in-Some
 returns-in-Some g c =
-    AnswersLine-command _ _ _ _ c.args.line.now c.in-Some.command _ (c.requires, c.in_ok-command.ensures.text) (rw c.in-Some.is at c.in_ok-command.ensures.value) c.answer.ensures
+    AnswersLine-command _ _ _ _ c.args.line.now c.in-Some.command _ (c.requires.line, c.in_ok-command.ensures.text) (rw c.in-Some.is at c.in_ok-command.ensures.value) c.answer.ensures
 
 pub returns-in_err-command : goal.returns-in_err-command
 returns-in_err-command g c =

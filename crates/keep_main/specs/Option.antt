@@ -1,0 +1,48 @@
+-- The options of the program, as clap takes them from the words behind the program's name.
+use Rattle.std.specs.Prelude.{ℕ, Bool, true, not, ◌&&◌, List, Option, Some, None, if◌then◌else◌, codes}
+use Rattle.std.specs.List.{list_any}
+use Rattle.std.specs.Str.{bytes_eq}
+use Rattle.std.specs.Option.{option_map_or}
+use Rattle.std.specs.Str.Parse.{digits_value, without_leading_plus}
+use Rattle.clap.specs.ValueTests.{is_unsigned_in}
+use Rattle.clap.specs.Words.{App, Row, Rule, fault_of, first_of, matches_of, new_app, new_rule, with_rule}
+use Rattle.clap.specs.Simple.{on_top}
+use Rattle.clap.specs.Walk.{is_empty}
+use Rattle.keep_docs.specs.Fields.{◌>>=◌}
+use Rattle.keep_main.specs.declared.options.Options.{Options}
+
+-- an option that takes one value: `--NAME VALUE` or `--NAME=VALUE`
+abbrev pub option : List ℕ → Rule
+option name = record (new_rule name) { long = Some name }
+
+-- a command of which each word is one behind the program's name
+abbrev pub program : App
+program = on_top (λ top. record top { no_binary_name = true }) (new_app (codes "keepd"))
+
+-- the program's command: its options
+abbrev pub command : App
+command = with_rule program (option (codes "cut"))
+
+-- the number that a word writes, if it is one from `least` to `most`: decimal digits, a plus in front or not
+abbrev pub number_in : ℕ → ℕ → List ℕ → Option ℕ
+number_in least most word =
+    if is_unsigned_in least most word then Some (digits_value 10 (without_leading_plus word)) else None
+
+-- the number of an option, which is the usual one where the words don't give it
+abbrev pub number_or : ℕ → ℕ → ℕ → Option (List ℕ) → Option ℕ
+number_or least most usual word = option_map_or (number_in least most) word (Some usual)
+
+-- what the command's matches say: each option's value, and its default where the words don't give it
+abbrev pub options_in : List Row → Option Options
+options_in rows = do
+  cut ← number_or 1 8388608 1048576 (first_of (codes "cut") rows)
+  Some (record { cut = cut })
+
+-- the words are options, and `--`, which clap takes where no word follows, isn't among them
+abbrev pub are_options : List (List ℕ) → Bool
+are_options words =
+    not (list_any (λ word. bytes_eq word (codes "--")) words) && is_empty (fault_of command words)
+
+-- the options that the words give, if they are options
+abbrev pub options_of : List (List ℕ) → Option Options
+options_of words = if are_options words then options_in (matches_of command words) else None

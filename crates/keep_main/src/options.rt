@@ -1,0 +1,134 @@
+ghost use Rattle.std.specs.Prelude.{◌≡◌, ◌≤◌, IfOk, codes, map, ok_or, option_map};
+ghost use Rattle.std.specs.List.{list_any};
+ghost use Rattle.std.specs.Str.{bytes_eq};
+ghost use Rattle.clap.specs.Words.{app_of, found_of, kind_of, rows_of, with_rule};
+ghost use Rattle.keep_main.specs.Option as options;
+ghost use Rattle.keep_main.specs.Reading.{Reads, refusal_of};
+ghost use Rattle.keep_main.specs.declared.options.BadOptions.TheVariants.{Memory, Refused};
+
+use clap::error::ErrorKind;
+use clap::{Arg, ArgMatches, Command};
+use std::alloc::{AllocError, Global};
+use thiserror::Error;
+
+/// What the words behind the program's name say.
+#[derive(Clone, Copy, Debug, PartialEq, Eq)]
+pub(crate) struct Options {
+    /// After how many bytes a backup cuts a file into blobs: 1 to 8,388,608.
+    pub cut: u32,
+}
+
+/// Why no options are read.
+#[derive(Clone, Copy, Debug, PartialEq, Eq, Error)]
+pub(crate) enum BadOptions {
+    /// A word is no option, an option has no value or stands twice, or it doesn't take its value.
+    /// The program has no `--help`, `-h` and `--version`.
+    #[error("bad options")]
+    Refused,
+    #[error("no memory")]
+    Memory,
+}
+
+impl From<AllocError> for BadOptions {
+    ghost from_gives = { λ _ error. error ≡ Memory };
+
+    fn from(_error: AllocError) -> BadOptions {
+        BadOptions::Memory
+    }
+}
+
+impl From<clap::Error> for BadOptions {
+    ghost from_gives = { λ cause error. error ≡ refusal_of (kind_of cause) };
+
+    fn from(cause: clap::Error) -> BadOptions {
+        match cause.kind() {
+            ErrorKind::OutOfMemory => BadOptions::Memory,
+            _ => BadOptions::Refused,
+        }
+    }
+}
+
+/// Reads the options from the words behind the program's name.
+///
+/// An option is `--NAME VALUE` or `--NAME=VALUE`, and stands once at most. A value that begins with
+/// `-` has to be joined by `=`. A number is decimal digits, and a plus may stand in front.
+pub(crate) fn read_options<'a>(alloc: Global, words: &'a [&'a str]) -> Result<Options, BadOptions>
+    ensures given { Reads (map (λ word. word.now) words.entry.now) result }
+    ensures range { IfOk result (λ options. (1 ≤ options.cut) × (options.cut ≤ 8388608)) }
+{
+    if has_dashes(words) {
+        return Err(BadOptions::Refused);
+    }
+    let command = command(alloc)?;
+    let matches = command.try_get_matches_from(words)?;
+    options_in(&matches)
+}
+
+/// Whether `--` is among the words.
+fn has_dashes(words: &[&str]) -> bool
+    ensures { result ≡ list_any (λ word. bytes_eq word.now (codes "--")) words.now }
+{
+    words.iter().any(|word| *word == "--")
+}
+
+/// The command whose options the program takes.
+fn command<'a>(alloc: Global) -> Result<Command<'a>, AllocError>
+    ensures { IfOk result (λ command. app_of command ≡ options.command) }
+{
+    let program = Command::new(alloc, "keepd").no_binary_name(true);
+    let command = with_option(alloc, program, "cut")?;
+    Ok(command)
+}
+
+/// The command with one more option, which takes one value.
+fn with_option<'a>(
+    alloc: Global,
+    command: Command<'a>,
+    name: &'a str,
+) -> Result<Command<'a>, AllocError>
+    ensures { IfOk result (λ more.
+        app_of more ≡ with_rule (app_of command.entry) (options.option name.entry.now)) }
+{
+    command.arg(Arg::new(alloc, name).long(name))
+}
+
+/// What the words of these matches say.
+fn options_in(matches: &ArgMatches<'_>) -> Result<Options, BadOptions>
+    ensures { result ≡ ok_or (options.options_in (rows_of (found_of matches.now))) Refused }
+{
+    let cut = CUTS.read(matches.get_str("cut"))?;
+    Ok(Options { cut })
+}
+
+/// The numbers that an option takes, and the one that stands where the words give none.
+#[derive(Clone, Copy)]
+struct Numbers {
+    least: u32,
+    most: u32,
+    usual: u32,
+}
+
+const CUTS: Numbers = Numbers {
+    least: 1,
+    most: 8_388_608,
+    usual: 1_048_576,
+};
+
+impl Numbers {
+    /// The number that the words give, or the usual one.
+    fn read(self, word: Option<&str>) -> Result<u32, BadOptions>
+        ensures { result ≡ ok_or (options.number_or self.least self.most self.usual
+            (option_map (λ text. text.now) word.entry)) Refused }
+    {
+        let Some(text) = word else {
+            return Ok(self.usual);
+        };
+        let Ok(number) = text.parse() else {
+            return Err(BadOptions::Refused);
+        };
+        if number < self.least || self.most < number {
+            return Err(BadOptions::Refused);
+        }
+        Ok(number)
+    }
+}
