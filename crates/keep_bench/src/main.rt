@@ -1,7 +1,8 @@
-//! Reads its input as a document, or as a pack that it hashes too, and says how much there was. So the time
-//! that reading takes can be measured.
+//! Reads its input as a document, or as a pack that it hashes too, or backs it up as a file, and says how
+//! much there was. So the time that this takes can be measured.
 #![tactic(auto)]
 
+mod backup;
 mod document;
 mod input;
 mod pack;
@@ -9,6 +10,7 @@ mod task;
 #[cfg(test)]
 mod tests;
 
+use crate::backup::back_up;
 use crate::document::measure;
 use crate::input::read_all;
 use crate::pack::summarize;
@@ -49,13 +51,17 @@ fn tell(rt: &HostRuntime, task: Task) -> Result<()> {
                 summary.id, summary.entries
             )?;
         }
+        Task::Backup => {
+            let told = back_up(alloc, bytes)?;
+            println!(rt; "snapshot {} adds {}", told.snapshot, told.adds)?;
+        }
     }
     Ok(())
 }
 
 fn main(rt: HostRuntime) -> ExitCode {
     let Ok(Some(task)) = task_asked(&rt) else {
-        let _ = eprintln!(rt; "usage: keep_bench document|pack < INPUT");
+        let _ = eprintln!(rt; "usage: keep_bench document|pack|backup < INPUT");
         return ExitCode::from(BAD_OPTIONS);
     };
     match tell(&rt, task) {

@@ -1,20 +1,23 @@
 ghost use Rattle.std.specs.Prelude.{◌≡◌, ◌↔◌, Some, codes};
 
-/// What the input is read as.
+/// What is done with the input.
 #[derive(Clone, Copy, Debug, PartialEq, Eq)]
 pub(crate) enum Task {
     Document,
     Pack,
+    Backup,
 }
 
 /// The task that a word of the command line names.
 pub(crate) fn task_named(word: &str) -> Option<Task>
     ensures document { (result ≡ Some Task.Document) ↔ (word.now ≡ codes "document") }
     ensures pack { (result ≡ Some Task.Pack) ↔ (word.now ≡ codes "pack") }
+    ensures backup { (result ≡ Some Task.Backup) ↔ (word.now ≡ codes "backup") }
 {
     match word {
         "document" => Some(Task::Document),
         "pack" => Some(Task::Pack),
+        "backup" => Some(Task::Backup),
         _ => None,
     }
 }

@@ -1,0 +1,83 @@
+ghost use Rattle.std.specs.Prelude.{◌≡◌, [], ◌∷◌, IfOk, map};
+ghost use Rattle.keep_docs.specs.Doc.{Answers};
+ghost use Rattle.keep_backup.specs.Backup.{facts_view};
+ghost use Rattle.keep_backup.specs.Files.{given_view};
+ghost use Rattle.keep_backup.specs.declared.backup_error.BackupError.TheVariants.{Memory};
+ghost use Rattle.keep_repo.specs.Repository.{empty_repository};
+ghost use Rattle.keep_bench.specs.Backup.{backed_up_of, bench_facts, bench_file};
+ghost use Rattle.keep_bench.specs.Backup as spec;
+
+use keep_backup::{BackupError, BackupFacts, plan_backup};
+use keep_catalog::View;
+use keep_change::StoredFile;
+use keep_names::Id;
+use keep_repo::Repo;
+use std::alloc::{AllocError, Global};
+use std::collections::BTreeSet;
+
+/// After how many bytes a file is cut.
+const CUT: u32 = 1_048_576;
+
+/// What is told of a backup: its snapshot, and how many files it adds.
+#[derive(Clone, Copy, Debug, PartialEq, Eq)]
+pub(crate) struct BackedUp {
+    pub snapshot: Id,
+    pub adds: usize,
+}
+
+/// Backs up one file of these bytes into an empty repository.
+pub(crate) fn back_up(alloc: Global, bytes: Vec<u8>) -> Result<BackedUp, BackupError>
+    ensures { Answers Memory (λ told. told) (backed_up_of bytes.items) result }
+{
+    let view = empty_view(alloc);
+    let files = files_of(alloc, bytes)?;
+    let facts = facts(alloc)?;
+    let plan = plan_backup(alloc, &view, &files, &facts, CUT)?;
+    told_of(plan.change.adds.as_slice()).ok_or(BackupError::Memory)
+}
+
+/// What is told of a change that adds these files, the snapshot last.
+fn told_of(adds: &[StoredFile]) -> Option<BackedUp>
+    ensures { result ≡ spec.told_of adds.now }
+{
+    let last = adds.last()?;
+    Some(BackedUp {
+        snapshot: last.name.id,
+        adds: adds.len(),
+    })
+}
+
+/// The repository without files, before anything happened.
+fn empty_view(alloc: Global) -> View
+    ensures { result.repo ≡ empty_repository }
+{
+    View {
+        repo: Repo::new(alloc),
+        known: BTreeSet::new(alloc),
+        length: 0,
+    }
+}
+
+/// The one file, by its path.
+fn files_of(alloc: Global, bytes: Vec<u8>) -> Result<Vec<(String, Vec<u8>)>, AllocError>
+    ensures { IfOk result (λ files. map given_view files.items ≡ bench_file bytes.items ∷ []) }
+{
+    let path = String::from_str(alloc, "/a")?;
+    let mut files = Vec::with_capacity(alloc, 1)?;
+    files.push((path, bytes))?;
+    Ok(files)
+}
+
+/// Who backs up, and when.
+fn facts(alloc: Global) -> Result<BackupFacts, AllocError>
+    ensures { IfOk result (λ facts. facts_view facts ≡ bench_facts) }
+{
+    let mut paths = Vec::with_capacity(alloc, 1)?;
+    paths.push(String::from_str(alloc, "/")?)?;
+    Ok(BackupFacts {
+        host: String::from_str(alloc, "web")?,
+        user: String::from_str(alloc, "keep")?,
+        paths,
+        time: String::from_str(alloc, "2024-01-01T10:00:00Z")?,
+    })
+}
