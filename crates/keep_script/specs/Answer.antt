@@ -43,9 +43,9 @@ Committed state change text after =
     Asked state (commit_of state.book change) (commit_text (sizes_of change)) text after
 
 -- a planned change is committed, or its planner's refusal is written and nothing changes
-abbrev pub Planned : State → Result Change BackupError → List ℕ → State → Type 0
-Planned state (Ok change) text after = Committed state change text after
-Planned state (Err refusal) text after = Shows state (unplanned_text refusal) text after
+abbrev pub CommittedOrRefused : State → Result Change BackupError → List ℕ → State → Type 0
+CommittedOrRefused state (Ok change) text after = Committed state change text after
+CommittedOrRefused state (Err refusal) text after = Shows state (unplanned_text refusal) text after
 
 -- the answer to a command, and the state that it leaves
 abbrev pub Answers : State → Command → List ℕ → State → Type 0
@@ -71,7 +71,8 @@ Answers state (Restore target) text after =
     × Reads state (restore_reply_text (restored state.book.live name.id)) text after
 Answers state Audit text after = Reads state (audit_text (findings_in state.book.live)) text after
 Answers state (Backup backup) text after =
-    Planned state (backed_up state.book.live state.cut backup) text after ⊎ Shows state no_memory_text text after
+    CommittedOrRefused state (backed_up state.book.live state.cut backup) text after
+    ⊎ Shows state no_memory_text text after
 
 -- a command names what isn't there: a file by a change that added none of its kind, or no note
 abbrev pub NamesNothing : State → Command → Type 0

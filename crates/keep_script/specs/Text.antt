@@ -55,13 +55,16 @@ commit_text sizes told =
     codes "ok " ++ (decimal told.number ++ (codes " at " ++ (decimal told.at
     ++ (codes " " ++ (sizes_text sizes ++ codes "\n")))))
 
--- a refusal's word, with its value where it has one: `no WORD`
-abbrev pub refused_text : Refusal → List ℕ
-refused_text refusal = codes "no " ++ (refusal_text refusal ++ codes "\n")
+-- the answer where a line is refused, by how the refusal prints: `no WORD`, with its value where it has one
+abbrev pub no_text : List ℕ → List ℕ
+no_text refusal = codes "no " ++ (refusal ++ codes "\n")
 
--- the same where no backup is planned
+-- the same of a request to the book, and of a backup that isn't planned
+abbrev pub refused_text : Refusal → List ℕ
+refused_text refusal = no_text (refusal_text refusal)
+
 abbrev pub unplanned_text : BackupError → List ℕ
-unplanned_text refusal = codes "no " ++ (backup_text refusal ++ codes "\n")
+unplanned_text refusal = no_text (backup_text refusal)
 
 -- the answer by a book's reply
 abbrev pub reply_text : (Told → List ℕ) → Result Told Refusal → List ℕ
@@ -148,7 +151,7 @@ restored_text restored =
 -- the answer to `restore`
 abbrev pub restore_reply_text : Result RestoredData RestoreError → List ℕ
 restore_reply_text (Ok restored) = restored_text restored
-restore_reply_text (Err refusal) = codes "no " ++ (restore_text refusal ++ codes "\n")
+restore_reply_text (Err refusal) = no_text (restore_text refusal)
 
 -- what was found, and where: `wrong-name KIND ID`, `unreadable KIND ID`, `wrong-blob PACK BLOB` or `broken SNAPSHOT`
 abbrev pub finding_text : Finding → List ℕ

@@ -53,7 +53,7 @@ impl fmt::Display for Sizes {
 }
 
 /// What came of a commit: the book's reply, and how much the change writes.
-pub(crate) type Committed = (Result<Told, Refusal>, Sizes);
+pub(crate) type Outcome = (Result<Told, Refusal>, Sizes);
 
 pub(crate) fn commit_text(
     alloc: Global,

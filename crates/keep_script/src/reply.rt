@@ -4,7 +4,7 @@ ghost use Rattle.keep_script.specs.Known.{Puts};
 ghost use Rattle.keep_script.specs.Text as texts;
 
 use crate::answer::{
-    Committed, Sizes, bad_line_text, commit_text, noted_text, refused_text, same_text, told_text,
+    Outcome, bad_line_text, commit_text, noted_text, refused_text, same_text, told_text,
     unplanned_text, unrestored_text,
 };
 use crate::listing::{write_findings, write_restored};
@@ -19,28 +19,28 @@ use std::io::Write;
 /// Writes the answer to a change that was to be committed.
 pub(crate) fn write_committed<W: Write>(
     alloc: Global,
-    outcome: Result<Told, Refusal>,
-    sizes: Sizes,
+    outcome: Outcome,
     writer: &mut W,
 ) -> Result<(), Stop>
     ensures { Puts (W.contents writer.old) (W.contents writer.new)
-        (texts.reply_text (texts.commit_text sizes) outcome) result }
+        (texts.reply_text (texts.commit_text outcome.1) outcome.0) result }
 {
-    let text = commit_text(alloc, outcome, sizes)?;
+    let (reply, sizes) = outcome;
+    let text = commit_text(alloc, reply, sizes)?;
     put_text(writer, text)
 }
 
 /// Writes the answer to a backup that was to be planned and committed.
 pub(crate) fn write_backup<W: Write>(
     alloc: Global,
-    outcome: Result<Committed, BackupError>,
+    outcome: Result<Outcome, BackupError>,
     writer: &mut W,
 ) -> Result<(), Stop>
     ensures { Puts (W.contents writer.old) (W.contents writer.new)
         (texts.backup_reply_text outcome) result }
 {
     match outcome {
-        Ok((told, sizes)) => write_committed(alloc, told, sizes, writer),
+        Ok(committed) => write_committed(alloc, committed, writer),
         Err(refusal) => {
             let text = unplanned_text(alloc, refusal)?;
             put_text(writer, text)

@@ -10,7 +10,7 @@ ghost use Rattle.keep_script.specs.State.{state_of};
 ghost use Rattle.keep_script.specs.Step.{AnswersCommand, AnswersLine};
 ghost use Rattle.keep_script.specs.Text.{sizes_of};
 
-use crate::answer::{Committed, Sizes};
+use crate::answer::{Outcome, Sizes};
 use crate::backup_line::Backup;
 use crate::command::{Command, parse};
 use crate::listing::{write_count, write_history, write_list};
@@ -69,14 +69,12 @@ fn answer<W: Write>(
     match command {
         Command::Add { kind, bytes } => {
             let change = plan_add(alloc, kind, bytes)?;
-            let (outcome, sizes) = commit_now(book, change);
-            write_committed(alloc, outcome, sizes, writer)
+            write_committed(alloc, commit_now(book, change), writer)
         }
         Command::Drop { kind, target } => {
             let name = find(book.history(), kind, target).ok_or(Stop::BadLine)?;
             let change = plan_drop(alloc, book.live(), name)?;
-            let (outcome, sizes) = commit_now(book, change);
-            write_committed(alloc, outcome, sizes, writer)
+            write_committed(alloc, commit_now(book, change), writer)
         }
         Command::Undo(n) => write_told(alloc, book.undo(n), writer),
         Command::Redo(n) => write_told(alloc, book.redo(n), writer),
@@ -101,8 +99,7 @@ fn answer<W: Write>(
         }
         Command::Audit => write_audit(alloc, audit(alloc, book.live()), writer),
         Command::Backup(backup) => {
-            let outcome = back_up(alloc, &backup, cut, book);
-            write_backup(alloc, outcome, writer)
+            write_backup(alloc, back_up(alloc, &backup, cut, book), writer)
         }
     }
 }
@@ -113,7 +110,7 @@ fn back_up(
     backup: &Backup<'_>,
     cut: u32,
     book: &mut Book,
-) -> Result<Committed, BackupError>
+) -> Result<Outcome, BackupError>
     requires some { 0 < cut }
     requires most { cut ≤ 8_388_608 }
     ensures made { IfOk result (λ made. (change : Change)
@@ -130,7 +127,7 @@ fn back_up(
 }
 
 /// Commits a change that is planned on the present state, and says how much it writes.
-fn commit_now(book: &mut Book, change: Change) -> Committed
+fn commit_now(book: &mut Book, change: Change) -> Outcome
     ensures replies { Replies book.old (commit_of book.old change) result.0 }
     ensures after { book.new ≡ state_after book.old (commit_of book.old change) result.0 }
     ensures sizes { result.1 ≡ sizes_of change }
@@ -140,14 +137,13 @@ fn commit_now(book: &mut Book, change: Change) -> Committed
 }
 
 /// Commits a planned change, and says how much it writes.
-fn commit(book: &mut Book, planned: Planned) -> Committed
+fn commit(book: &mut Book, planned: Planned) -> Outcome
     ensures replies { Replies book.old (request.Commit planned) result.0 }
     ensures after { book.new ≡ state_after book.old (request.Commit planned) result.0 }
     ensures sizes { result.1 ≡ sizes_of planned.change }
 {
     let sizes = Sizes::of(&planned.change);
-    let outcome = book.commit(planned);
-    (outcome, sizes)
+    (book.commit(planned), sizes)
 }
 
 fn find(history: &History, kind: Kind, target: Target) -> Option<FileName>

@@ -43,13 +43,13 @@ returns-in_err-noted-in-Same g c =
 
 pub returns-in_ok-change-in-Add : goal.returns-in_ok-change-in-Add
 returns-in_ok-change-in-Add g c =
-    let made = c.commit_now-outcome in
+    let made = c.commit_now in
     AnswersCommand-puts _ _ _ _ _ _ _ c.write_committed.ensures (rw c.in-Add.is (
     Committed-by c.args.cut c.args.book.now made.new.book (notes_of c.args.notes.now) c.in_ok-change-in-Add.change _ made.result.1 made.result.0 c.in_ok-change-in-Add.ensures made.ensures.replies made.ensures.after made.ensures.sizes))
 
 pub returns-in_ok-change-in-Drop : goal.returns-in_ok-change-in-Drop
 returns-in_ok-change-in-Drop g c =
-    let made = c.commit_now-outcome-in-Drop in
+    let made = c.commit_now-in-Drop in
     let meant = rw c.history.ensures at c.find.ensures in
     let change = rw c.live.ensures at c.in_ok-change-in-Drop.ensures in
     AnswersCommand-puts _ _ _ _ _ _ _ c.write_committed-in-Drop.ensures (rw c.in-Drop.is (
@@ -99,6 +99,6 @@ returns-in-Audit g c =
 
 pub returns-in-Backup : goal.returns-in-Backup
 returns-in-Backup g c =
-    let made = c.back_up-outcome in
+    let made = c.back_up in
     AnswersCommand-puts _ _ _ _ _ _ _ c.write_backup.ensures
     (BackedUp-answer c.args.cut c.args.book.now made.new.book (notes_of c.args.notes.now) c.args.command c.in-Backup.backup made.result c.in-Backup.is made.ensures.made made.ensures.refused made.ensures.same)
