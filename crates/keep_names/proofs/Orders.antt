@@ -4,14 +4,13 @@ use Rattle.std.specs.Cmp.{IsTotalOrder}
 use Rattle.std.specs.FinMap.{IsAntisymmetric, nat_cmp-IsAntisymmetric, slice_cmp-IsAntisymmetric}
 use Rattle.std.specs.declared.cmp.Ordering.{Ordering}
 use Rattle.std.proofs.lemmas.Map.Lookups.{exact_pairs}
-use Rattle.keep_names.specs.Orders.{id_cmp, kind_cmp, name_cmp, blob_cmp}
+use Rattle.keep_names.specs.Orders.{id_cmp, kind_cmp, name_cmp, blob_cmp, blob_type_cmp}
 use Rattle.keep_names.specs.declared.blob.BlobType.{BlobType}
 use Rattle.keep_names.specs.declared.blob.BlobType.TheVariants.{Content, Tree}
 use Rattle.keep_names.specs.declared.file_name.Kind.{Kind}
 use Rattle.keep_names.specs.declared.file_name.Kind.TheVariants.{Pack, Index, Snapshot}
 use Rattle.keep_names.specs.declared.id.Id.{Id}
 use Rattle.keep_names.specs.contracts.blob.BlobIdOrd.TheImpl.Laws as the_blob_laws
-use Rattle.keep_names.specs.contracts.blob.BlobTypeOrd.TheImpl as the_blob_type_order
 use Rattle.keep_names.specs.contracts.file_name.FileNameOrd.TheImpl.Laws as the_name_laws
 use Rattle.keep_names.specs.contracts.file_name.KindOrd.TheImpl.Laws as the_kind_laws
 use Rattle.keep_names.specs.contracts.id.IdOrd.TheImpl.Laws as the_id_laws
@@ -47,10 +46,6 @@ pub name_exact : IsAntisymmetric name_cmp
 name_exact a b tied =
     ap (λ (p : Kind × Id). record { kind = p.0; id = p.1 })
     (exact_pairs kind_cmp id_cmp kind_exact id_exact (a.kind, a.id) (b.kind, b.id) tied)
-
--- the derived order of the types of blobs
-abbrev blob_type_cmp : BlobType → BlobType → Ordering
-blob_type_cmp = (the_blob_type_order.ghosts).cmp
 
 blob_type_exact : IsAntisymmetric blob_type_cmp
 blob_type_exact Content Content tied = refl

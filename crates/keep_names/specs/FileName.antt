@@ -4,6 +4,11 @@ use Rattle.keep_names.specs.declared.file_name.FileName.{FileName}
 use Rattle.keep_names.specs.declared.file_name.Kind.{Kind}
 use Rattle.keep_names.specs.declared.file_name.Kind.TheVariants.{Pack, Index, Snapshot}
 use Rattle.keep_names.specs.Id.{id_text}
+use Rattle.keep_names.specs.declared.id.Id.{Id}
+
+-- the name of the file of this kind and id
+abbrev pub named : Kind → Id → FileName
+named kind id = record { kind = kind; id = id }
 
 -- the word for a kind
 abbrev pub kind_text : Kind → List ℕ

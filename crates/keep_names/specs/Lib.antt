@@ -1,3 +1,4 @@
+pub mod BlobId
 pub mod FileName
 pub mod Id
 pub mod Orders

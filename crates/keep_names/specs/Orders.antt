@@ -10,6 +10,7 @@ use Rattle.keep_names.specs.declared.file_name.Kind.{Kind}
 use Rattle.keep_names.specs.declared.file_name.Kind.TheVariants.{Pack, Index, Snapshot}
 use Rattle.keep_names.specs.declared.id.Id.{Id}
 use Rattle.keep_names.specs.contracts.blob.BlobIdOrd.TheImpl as the_blob_order
+use Rattle.keep_names.specs.contracts.blob.BlobTypeOrd.TheImpl as the_blob_type_order
 use Rattle.keep_names.specs.contracts.file_name.FileNameOrd.TheImpl as the_name_order
 use Rattle.keep_names.specs.contracts.file_name.KindOrd.TheImpl as the_kind_order
 use Rattle.keep_names.specs.contracts.id.IdOrd.TheImpl as the_id_order
@@ -25,6 +26,10 @@ kind_cmp = (the_kind_order.ghosts).cmp
 -- by kind, and then by id
 abbrev pub name_cmp : FileName → FileName → Ordering
 name_cmp = (the_name_order.ghosts).cmp
+
+-- pieces of files, trees
+abbrev pub blob_type_cmp : BlobType → BlobType → Ordering
+blob_type_cmp = (the_blob_type_order.ghosts).cmp
 
 -- by id, and then by type
 abbrev pub blob_cmp : BlobId → BlobId → Ordering

@@ -33,6 +33,38 @@ pub struct FileName {
     pub id: Id,
 }
 
+impl FileName {
+    ghost use Rattle.keep_names.specs.FileName.{named};
+    ghost use Rattle.keep_names.specs.declared.file_name.Kind.TheVariants as kind;
+
+    pub fn pack(id: Id) -> FileName
+        ensures { result ≡ named kind.Pack id }
+    {
+        FileName {
+            kind: Kind::Pack,
+            id,
+        }
+    }
+
+    pub fn index(id: Id) -> FileName
+        ensures { result ≡ named kind.Index id }
+    {
+        FileName {
+            kind: Kind::Index,
+            id,
+        }
+    }
+
+    pub fn snapshot(id: Id) -> FileName
+        ensures { result ≡ named kind.Snapshot id }
+    {
+        FileName {
+            kind: Kind::Snapshot,
+            id,
+        }
+    }
+}
+
 impl fmt::Display for FileName {
     ghost output = { λ name. Some (file_name_text name) };
 

@@ -7,6 +7,6 @@ mod id;
 #[cfg(test)]
 mod tests;
 
-pub use blob::{BlobId, BlobType};
+pub use blob::{Blob, BlobId, BlobType};
 pub use file_name::{FileName, Kind, path_of};
 pub use id::{BadId, Id, id_of, is_lower_hex, parse_id, print_id, text_names_id};
