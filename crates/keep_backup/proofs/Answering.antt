@@ -11,12 +11,13 @@ use Rattle.keep_catalog.specs.declared.catalog_error.CatalogError.{CatalogError}
 use Rattle.keep_catalog.specs.declared.catalog_error.CatalogError.TheVariants as the_catalog_error
 use Rattle.keep_catalog.specs.declared.unread.Unread.{Unread}
 use Rattle.keep_backup.specs.Blobs.{BlobData, is_full}
-use Rattle.keep_backup.specs.Refusal.{of_catalog}
-use Rattle.keep_backup.specs.Stored.{store_of, stored_of, stored_short, unless, unread_first}
+use Rattle.keep_plan.specs.Refusal.{of_catalog}
+use Rattle.keep_plan.specs.Refusal.{unless, unread_first}
+use Rattle.keep_backup.specs.Stored.{store_of, stored_of, stored_short}
 use Rattle.keep_backup.specs.Storing.{Keeps, given}
-use Rattle.keep_backup.specs.declared.backup_error.BackupError.{BackupError}
-use Rattle.keep_backup.specs.declared.backup_error.BackupError.TheVariants as the_error
-use Rattle.keep_backup.specs.declared.stored.Stored.{Stored}
+use Rattle.keep_plan.specs.declared.plan_error.PlanError.{PlanError}
+use Rattle.keep_plan.specs.declared.plan_error.PlanError.TheVariants as the_error
+use Rattle.keep_plan.specs.declared.stored.Stored.{Stored}
 use Rattle.keep_backup.specs.declared.storing.Storing.{Storing}
 
 module _ (r : Repository) (blobs : List BlobData) where
@@ -25,7 +26,7 @@ module _ (r : Repository) (blobs : List BlobData) where
 
   read_past : unread_in r ≡ [] → store_of r blobs ≡ stored_short r blobs
   unfolding store_of
-  read_past none = ap (λ (o : Option BackupError). unless o (stored_short r blobs)) (all_read none)
+  read_past none = ap (λ (o : Option PlanError). unless o (stored_short r blobs)) (all_read none)
 
   pub stored_is : (stored : Stored) → unread_in r ≡ [] → list_any is_full blobs ≡ false → stored ≡ stored_of r blobs → store_of r blobs ≡ Ok stored
   stored_is stored none fits is = read_past none ∙ ap (λ t. cond t (Err the_error.Full) (Ok (stored_of r blobs))) fits ∙ ap Ok (sym is)

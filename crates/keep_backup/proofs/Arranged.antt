@@ -14,9 +14,9 @@ use Rattle.std.specs.Ordering.{eq_by_cmp}
 use Rattle.keep_docs.specs.Lists.{each}
 use Rattle.keep_tree.specs.Names.{is_name}
 use Rattle.keep_tree.proofs.Answered.{none_from_err}
-use Rattle.keep_backup.specs.Paths.{AreNamed, FileData, Path, StandInOrder, any_clash, by_path, components_of, file_of, files_of, is_slash, path_cmp, path_of, stands_before, without_clash}
-use Rattle.keep_backup.specs.declared.backup_error.BackupError.{BackupError}
-use Rattle.keep_backup.specs.declared.backup_error.BackupError.TheVariants.{BadPath, SamePathTwice}
+use Rattle.keep_backup.specs.Paths.{AreNamed, FileData, Path, StandInOrder, any_clash, by_path, components_of, given_file, files_in_order, is_slash, path_cmp, path_of, stands_before, without_clash}
+use Rattle.keep_plan.specs.declared.plan_error.PlanError.{PlanError}
+use Rattle.keep_plan.specs.declared.plan_error.PlanError.TheVariants.{BadPath, SamePathTwice}
 use Rattle.keep_backup.proofs.Clashes.{clash_permuted}
 use Rattle.keep_backup.proofs.Groups.{same_name}
 use Rattle.keep_backup.proofs.Neighbours.{before_less, in_order_no_clash}
@@ -144,37 +144,37 @@ mapped_rest : (o : Option (List FileData)) (f : FileData) (fs : List FileData) �
 mapped_rest None f fs is = cc
 mapped_rest (Some ys) f fs is = (ys, refl, cc)
 
-each_named : (given : List (List ℕ × List ℕ)) (fs : List FileData) → each file_of given ≡ Some fs → AllByRecursion IsNamed fs
+each_named : (given : List (List ℕ × List ℕ)) (fs : List FileData) → each given_file given ≡ Some fs → AllByRecursion IsNamed fs
 each_named [] fs is = let none : [] ≡ fs = cc in subst (AllByRecursion IsNamed) none tt
 each_named (g ∷ given) fs is =
-    option_and_then_some (λ f. option_map (λ ys. f ∷ ys) (each file_of given)) (file_of g) fs is (λ f found rest.
-    let tail = mapped_rest (each file_of given) f fs rest in
+    option_and_then_some (λ f. option_map (λ ys. f ∷ ys) (each given_file given)) (given_file g) fs is (λ f found rest.
+    let tail = mapped_rest (each given_file given) f fs rest in
     subst (AllByRecursion IsNamed) tail.2 (read_named (components_of g.0) g.1 f (names_some g.0) found, each_named given tail.0 tail.1))
 
 named_paths : (fs : List FileData) → AllByRecursion IsNamed fs → AreNamed (map path_of fs)
 named_paths [] all = tt
 named_paths (f ∷ fs) all = (all.0, named_paths fs all.1)
 
-pub named_permuted : (given : List (List ℕ × List ℕ)) (fs gs : List FileData) → each file_of given ≡ Some fs → IsPermutation fs gs → AreNamed (map path_of gs)
+pub named_permuted : (given : List (List ℕ × List ℕ)) (fs gs : List FileData) → each given_file given ≡ Some fs → IsPermutation fs gs → AreNamed (map path_of gs)
 named_permuted given fs gs is h =
     named_paths gs (recursion_from_All IsNamed gs (All-permutation IsNamed fs gs h (All-from_recursion IsNamed fs (each_named given fs is))))
 
 same_clash : (fs gs : List FileData) → IsPermutation fs gs → any_clash (map path_of fs) ≡ any_clash (map path_of gs)
 same_clash fs gs h = clash_permuted (map path_of fs) (map path_of gs) (IsPermutation-map path_of fs gs h)
 
-pub clash_refused : (given : List (List ℕ × List ℕ)) (fs gs : List FileData) → each file_of given ≡ Some fs → IsPermutation fs gs → any_clash (map path_of gs) ≡ true → files_of given ≡ Err SamePathTwice
-unfolding files_of
+pub clash_refused : (given : List (List ℕ × List ℕ)) (fs gs : List FileData) → each given_file given ≡ Some fs → IsPermutation fs gs → any_clash (map path_of gs) ≡ true → files_in_order given ≡ Err SamePathTwice
+unfolding files_in_order
 clash_refused given fs gs is h clash =
     ap without_clash is ∙ ap (λ b. cond b (Err SamePathTwice) (Ok (by_path fs))) (same_clash fs gs h ∙ clash)
 
-pub files_taken : (given : List (List ℕ × List ℕ)) (fs gs : List FileData) → each file_of given ≡ Some fs → IsPermutation fs gs → StandInOrder (map path_of gs) → files_of given ≡ Ok gs
-unfolding files_of
+pub files_taken : (given : List (List ℕ × List ℕ)) (fs gs : List FileData) → each given_file given ≡ Some fs → IsPermutation fs gs → StandInOrder (map path_of gs) → files_in_order given ≡ Ok gs
+unfolding files_in_order
 files_taken given fs gs is h order =
     ap without_clash is ∙ ap (λ b. cond b (Err SamePathTwice) (Ok (by_path fs))) (same_clash fs gs h ∙ in_order_no_clash (map path_of gs) order)
     ∙ ap (λ ys. Ok ys) (arranged fs gs h order)
 
-pub path_refused : (given : List (List ℕ × List ℕ)) (error : BackupError) → ok_or (each file_of given) BadPath ≡ Err error → files_of given ≡ Err error
-unfolding files_of
+pub path_refused : (given : List (List ℕ × List ℕ)) (error : PlanError) → ok_or (each given_file given) BadPath ≡ Err error → files_in_order given ≡ Err error
+unfolding files_in_order
 path_refused given error is =
-    let refused = none_from_err (each file_of given) BadPath error is in
+    let refused = none_from_err (each given_file given) BadPath error is in
     ap without_clash refused.0 ∙ ap (λ e. Err e) refused.1

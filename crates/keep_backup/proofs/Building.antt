@@ -1,33 +1,31 @@
 -- What is built of new blobs that are kept.
-use Rattle.std.proofs.Common.{◌≡◌, ℕ, suc, ◌+◌, ◌-◌, ◌*◌, ◌^◌, ◌<◌, ◌≤◌, ◌==◌, true, false, List, [], ◌∷◌, ◌++◌, length, map, take, drop, get_or, Result, Ok, Err, IfOk, refl, sym, ap, subst, ◌∙◌, add-one, append_assoc, arith}
+use Rattle.std.proofs.Common.{◌≡◌, ℕ, suc, ◌+◌, ◌-◌, ◌*◌, ◌^◌, ◌<◌, ◌≤◌, ◌==◌, false, List, [], ◌∷◌, ◌++◌, length, map, take, drop, get_or, refl, sym, ap, subst, ◌∙◌, add-one, append_assoc, arith}
 use Rattle.std.specs.Global.{Vec}
 use Rattle.std.specs.Vec.{vec_len}
 use Rattle.std.specs.List.{count_by, drop-map, take-map}
 use Rattle.std.proofs.lemmas.Bool.Decides.{nat_tests}
-use Rattle.std.proofs.lemmas.List.{append-nil, drop_all, length-map, map_more, nil_from_length, take_all}
+use Rattle.std.proofs.lemmas.List.{append-nil, drop-drop, drop_all, length-drop, length-map, length-take-le, map_more, take-take, take_all, take_rest}
+use Rattle.std.proofs.lemmas.List.Elements.{All-get_or}
+use Rattle.std.proofs.Math.Seq.{drop-cons}
 use Rattle.std.proofs.lemmas.List.Sums.{sum_by-take-le, sum_by_push}
-use Rattle.keep_names.specs.Sha256.{sha256}
 use Rattle.keep_names.specs.declared.blob.BlobId.{BlobId}
 use Rattle.keep_names.specs.declared.file_name.Kind.TheVariants.{Pack, Index}
 use Rattle.keep_names.specs.declared.id.Id.{Id}
-use Rattle.keep_change.specs.declared.change.StoredFile.{StoredFile}
+use Rattle.keep_change.specs.NamedBytes.{NamedBytes, file_of}
 use Rattle.keep_index.specs.Index.{pack_view}
 use Rattle.keep_index.specs.Writing.{index_text}
-use Rattle.keep_index.specs.declared.index.IndexedBlob.{IndexedBlob}
+use Rattle.keep_names.specs.declared.blob.Blob.{Blob}
 use Rattle.keep_index.specs.declared.index.IndexedPack.{IndexedPack}
-use Rattle.keep_pack.specs.Pack.{IsHonestPackOf, entries_from, listing, stored}
-use Rattle.keep_pack.specs.Reading.{header_of}
-use Rattle.keep_pack.specs.declared.entry.PackEntry.{PackEntry}
-use Rattle.keep_pack.proofs.Grammar.{has_header-read}
-use Rattle.keep_backup.specs.Blobs.{BlobData, named}
+use Rattle.keep_pack.specs.Pack.{HasOwnId, IsHonestPackOf, entries_from, listing, stored}
+use Rattle.keep_backup.specs.Blobs.{BlobData}
 use Rattle.keep_backup.specs.Packs.{bytes_in, full_pack, packs_from, packs_of}
-use Rattle.keep_backup.specs.Stored.{files_of, index_file, indexed, pack_file, pack_listed}
-use Rattle.keep_backup.specs.Storing.{CanBePacked, blob_view, bytes_of}
+use Rattle.keep_backup.specs.Stored.{packs_and_index, index_file, pack_file, pack_listed}
+use Rattle.keep_backup.specs.Storing.{CanBePacked, Text, blob_view, text_bytes}
 use Rattle.keep_backup.proofs.Cutting.{cut_at, header_fits, is_empty, uncut}
-use Rattle.keep_backup.proofs.Packable.{empties_kept}
+use Rattle.keep_backup.proofs.Packable.{can_drop, can_same, empties_kept}
 
 abbrev Kept : Type 0
-Kept = List (BlobId × Vec ℕ)
+Kept = List (BlobId × Text)
 
 abbrev bytes_kept : Kept → ℕ
 bytes_kept kept = bytes_in (map blob_view kept)
@@ -36,7 +34,7 @@ abbrev size : BlobData → ℕ
 size blob = length blob.1
 
 -- the bytes of one more
-pub bytes_more : (kept : Kept) (k : ℕ) (d : BlobId × Vec ℕ) → k < length kept → bytes_in (map blob_view (take (k + 1) kept)) ≡ bytes_in (map blob_view (take k kept)) + length (get_or kept k d).1.items
+pub bytes_more : (kept : Kept) (k : ℕ) (d : BlobId × Text) → k < length kept → bytes_in (map blob_view (take (k + 1) kept)) ≡ bytes_in (map blob_view (take k kept)) + length (text_bytes (get_or kept k d).1)
 bytes_more kept k d lt = ap bytes_in (map_more blob_view kept k d lt) ∙ sum_by_push size (map blob_view (take k kept)) (blob_view (get_or kept k d))
 
 -- the first pack, where it is full
@@ -76,21 +74,16 @@ pub all_done : {A B : Type 0} (f : A → B) (done all : List B) (rest : List A) 
 all_done f done all rest none so = sym (append-nil done) ∙ ap (λ xs. done ++ map f xs) (sym none) ∙ so
 
 -- a pack that is built
-pub pack_built : (kept : Kept) (pack : List ℕ) (id : Id) → IsHonestPackOf pack (map (stored bytes_of) kept) → id.0 ≡ sha256 pack → record { name = named Pack id; bytes = pack } ≡ pack_file (map blob_view kept)
+pub pack_built : (kept : Kept) (pack : List ℕ) → IsHonestPackOf pack (map (stored text_bytes) kept) → file_of Pack pack ≡ pack_file (map blob_view kept)
 unfolding pack_file
-pack_built kept pack id honest is =
-    ap (λ (digest : List ℕ). record { name = named Pack (record { 0 = digest }); bytes = pack }) is
-    ∙ ap (λ (bytes : List ℕ). record { name = named Pack (record { 0 = sha256 bytes }); bytes = bytes }) honest.bytes
+pack_built kept pack honest = ap (file_of Pack) honest.bytes
 
-pub listed_built : (kept : Kept) (pack : List ℕ) (id : Id) (blobs : List IndexedBlob) → IsHonestPackOf pack (map (stored bytes_of) kept) → id.0 ≡ sha256 pack
-    → ((entries : List PackEntry) → header_of pack ≡ Ok entries → blobs ≡ map indexed entries)
+pub listed_built : (kept : Kept) (pack : List ℕ) (id : Id) (blobs : List Blob) → IsHonestPackOf pack (map (stored text_bytes) kept) → id ≡ (file_of Pack pack).name.id
+    → blobs ≡ entries_from 0 (map listing (map blob_view kept))
     → record { id = id; blobs = blobs } ≡ pack_listed (map blob_view kept)
 unfolding pack_listed
 listed_built kept pack id blobs honest is says =
-    let bs : List BlobData = map blob_view kept in
-    let reads : header_of pack ≡ Ok (entries_from 0 (map listing bs)) =
-    has_header-read pack (entries_from 0 (map listing bs)) (map listing bs, (map (λ (b : BlobData). b.1) bs, honest), refl) in
-    (λ i. record { id = (ap (λ (file : StoredFile). file.name.id) (pack_built kept pack id honest is)) i; blobs = (says (entries_from 0 (map listing bs)) reads) i })
+    (λ i. record { id = (is ∙ ap (λ (file : NamedBytes). file.name.id) (pack_built kept pack honest)) i; blobs = says i })
 
 pub header_short : (kept : Kept) → CanBePacked kept → 0 < length kept → bytes_in (map blob_view (take (length kept - 1) kept)) < full_pack → 37 * length kept < 2 ^ 32
 header_short kept can some front =
@@ -108,19 +101,17 @@ header_short kept can some front =
       Below bs = bytes_in bs < full_pack
 
 -- the packs with their index behind them
-pub with_index : (files : List StoredFile) (listed : List IndexedPack) (text : List ℕ) (id : Id) (file : StoredFile) (packs : List (List BlobData))
-    → 0 < length listed → text ≡ index_text (map pack_view listed) → id.0 ≡ sha256 text → file ≡ record { name = named Index id; bytes = text }
-    → files ≡ map pack_file packs → map pack_view listed ≡ map pack_listed packs → files ++ file ∷ [] ≡ files_of packs
+pub with_index : (files : List NamedBytes) (listed : List IndexedPack) (text : List ℕ) (file : NamedBytes) (packs : List (List BlobData))
+    → 0 < length listed → text ≡ index_text (map pack_view listed) → file ≡ file_of Index text
+    → files ≡ map pack_file packs → map pack_view listed ≡ map pack_listed packs → files ++ file ∷ [] ≡ packs_and_index packs
 unfolding index_file
-with_index files [] text id file packs some text_is id_is file_is files_are listed_are = absurd (omega arith)
-with_index files (l ∷ ls) text id file [] some text_is id_is file_is files_are listed_are =
+with_index files [] text file packs some text_is file_is files_are listed_are = absurd (omega arith)
+with_index files (l ∷ ls) text file [] some text_is file_is files_are listed_are =
     let count : length (map pack_view (l ∷ ls)) ≡ 0 = ap length listed_are in
     absurd (omega (arith, count, length-map (l ∷ ls) pack_view))
-with_index files (l ∷ ls) text id file (p ∷ ps) some text_is id_is file_is files_are listed_are =
+with_index files (l ∷ ls) text file (p ∷ ps) some text_is file_is files_are listed_are =
     let same : text ≡ index_text (map pack_listed (p ∷ ps)) = text_is ∙ ap index_text listed_are in
-    let last : file ≡ index_file (p ∷ ps) =
-    file_is ∙ ap (λ (digest : List ℕ). record { name = named Index (record { 0 = digest }); bytes = text }) id_is
-    ∙ ap (λ (bytes : List ℕ). record { name = named Index (record { 0 = sha256 bytes }); bytes = bytes }) same in
+    let last : file ≡ index_file (p ∷ ps) = file_is ∙ ap (file_of Index) same in
     (λ i. files_are i ++ last i ∷ [])
 
 -- how long a vector is
@@ -132,13 +123,6 @@ some_of n m is some = grind (arith, nat_tests)
 
 pub some_items : {X : Type 0} (v : Vec X) → (vec_len v == 0) ≡ false → 0 < length v.items
 some_items v some = some_of (vec_len v) (length v.items) (vec_length v) some
-
-none_of : (n : ℕ) → (n == 0) ≡ true → n ≡ 0
-none_of n none = grind (arith, nat_tests)
-
--- no blobs are left, and so no packs
-pub none_left : (kept : Kept) → (length kept == 0) ≡ true → packs_of (map blob_view kept) ≡ []
-none_left kept none = ap (λ (ks : Kept). packs_of (map blob_view ks)) (nil_from_length kept (none_of (length kept) none)) ∙ none_packed
 
 -- all of a list
 pub all_taken : (kept : Kept) → 0 < length kept → bytes_in (map blob_view (take (length kept) kept)) < full_pack
@@ -160,15 +144,68 @@ front_low kept k n whole low =
     let same : bytes_in (take k (map blob_view kept)) ≡ bytes_in (map blob_view (take k kept)) = ap bytes_in (take-map blob_view k kept) in
     omega arith
 
--- what a call that can want memory promises
-pub if_ok : {A E : Type 0} (P Q : A → Type 0) (result : Result A E) → ((a : A) → P a → Q a) → IfOk result P → IfOk result Q
-if_ok P Q (Ok a) then h = then a h
-if_ok P Q (Err e) then h = tt
+-- the blobs from one on, as a slice has them
+abbrev pub from_start : ℕ → Kept → Kept
+from_start start kept = take (length kept - start) (drop start kept)
 
-pub one_answer : {A E : Type 0} (due : Result A E) (a b : A) → due ≡ Ok a → due ≡ Ok b → a ≡ b
-one_answer due a b p q = cc (p, q)
+pub some_rest : (start : ℕ) (kept : Kept) → start < length kept → 0 < length (from_start start kept)
+some_rest start kept lt = omega (arith, ap length (take_rest kept start), length-drop start kept)
 
-pub cut_first : (kept front back : Kept) (n : ℕ) → packs_of (map blob_view kept) ≡ map blob_view (take n kept) ∷ packs_of (map blob_view (drop n kept)) → front ≡ take n kept → back ≡ drop n kept
-    → packs_of (map blob_view kept) ≡ map blob_view front ∷ packs_of (map blob_view back)
-cut_first kept front back n cut front_is back_is =
-    cut ∙ (λ i. map blob_view ((sym front_is) i) ∷ packs_of (map blob_view ((sym back_is) i)))
+pub can_rest : (start : ℕ) (kept : Kept) → CanBePacked kept → CanBePacked (from_start start kept)
+can_rest start kept can = can_same _ _ (sym (take_rest kept start)) (can_drop start kept can)
+
+pub some_front : (n : ℕ) (kept : Kept) → 0 < n → n ≤ length kept → 0 < length (take n kept)
+some_front n kept some within = omega (arith, length-take-le n kept within)
+
+pub front_front : (n : ℕ) (kept : Kept) → n ≤ length kept → bytes_in (map blob_view (take (n - 1) kept)) < full_pack
+    → bytes_in (map blob_view (take (length (take n kept) - 1) (take n kept))) < full_pack
+front_front n kept within low =
+    let same : take (length (take n kept) - 1) (take n kept) ≡ take (n - 1) kept =
+    ap (λ m. take (m - 1) (take n kept)) (length-take-le n kept within) ∙ take-take (n - 1) n kept (omega arith) in
+    subst Below (sym same) low where
+      Below : Kept → Type 0
+      Below ks = bytes_in (map blob_view ks) < full_pack
+
+-- no blobs are left, and so no packs
+pub no_rest : (start : ℕ) (kept : Kept) → length kept ≤ start → packs_of (map blob_view (drop start kept)) ≡ []
+no_rest start kept past = ap (λ (ks : Kept). packs_of (map blob_view ks)) (drop_all start kept past) ∙ none_packed
+
+-- the first pack of those that are left, and the others
+pub cut_rest : (start n : ℕ) (kept : Kept)
+    → packs_of (map blob_view (from_start start kept)) ≡ map blob_view (take n (from_start start kept)) ∷ packs_of (map blob_view (drop n (from_start start kept)))
+    → packs_of (map blob_view (drop start kept)) ≡ map blob_view (take n (from_start start kept)) ∷ packs_of (map blob_view (drop (start + n) kept))
+cut_rest start n kept cut =
+    let same : from_start start kept ≡ drop start kept = take_rest kept start in
+    let later : drop n (from_start start kept) ≡ drop (start + n) kept = ap (drop n) same ∙ drop-drop n start kept in
+    ap (λ (ks : Kept). packs_of (map blob_view ks)) (sym same) ∙ cut
+    ∙ ap (λ (ks : Kept). map blob_view (take n (from_start start kept)) ∷ packs_of (map blob_view ks)) later
+
+-- each blob is short, and stands under its own name
+pub short_at : (kept : Kept) (k : ℕ) (d : BlobId × Text) → k < length kept → CanBePacked kept → length (text_bytes (get_or kept k d).1) < 2 ^ 32
+short_at kept k d lt can = All-get_or (λ (blob : BlobId × Text). length (text_bytes blob.1) < 2 ^ 32) kept k d lt can.lengths
+
+own_listing : (one : BlobId × Text) → HasOwnId text_bytes one → (listing (blob_view one)).blob ≡ one.0
+own_listing one own = ap (λ (digest : List ℕ). record { id = record { 0 = digest }; blob_type = one.0.blob_type }) (sym own)
+
+-- what an index says of the first of some blobs, and of the others behind it
+pub first_listed : (offset : ℕ) (kept : Kept) (k : ℕ) (d : BlobId × Text) → k < length kept → CanBePacked kept
+    → entries_from offset (map listing (map blob_view (drop k kept)))
+    ≡ record { blob = (get_or kept k d).0; offset = offset; length = length (text_bytes (get_or kept k d).1) }
+    ∷ entries_from (offset + length (text_bytes (get_or kept k d).1)) (map listing (map blob_view (drop (k + 1) kept)))
+first_listed offset kept k d lt can =
+    let one = get_or kept k d in
+    let own : HasOwnId text_bytes one = All-get_or (HasOwnId text_bytes) kept k d lt can.ids in
+    let splits : drop k kept ≡ one ∷ drop (k + 1) kept = drop-cons kept k d lt ∙ ap (λ n. one ∷ drop n kept) (sym (add-one k)) in
+    ap (λ (rest : Kept). entries_from offset (map listing (map blob_view rest))) splits
+    ∙ ap (λ (blob : BlobId). record { blob = blob; offset = offset; length = length (text_bytes one.1) }
+    ∷ entries_from (offset + length (text_bytes one.1)) (map listing (map blob_view (drop (k + 1) kept))))
+    (own_listing one own)
+
+-- one more that is listed
+pub listed_more : (all done done' : List Blob) (one : Blob) (rest others : List Blob) → all ≡ done ++ rest → rest ≡ one ∷ others → done' ≡ done ++ one ∷ [] → all ≡ done' ++ others
+listed_more all done done' one rest others so splits step =
+    so ∙ ap (λ xs. done ++ xs) splits ∙ sym (ap (λ xs. xs ++ others) step ∙ append_assoc done (one ∷ []) others)
+
+pub all_listed : (kept : Kept) (offset k : ℕ) (all done : List Blob) → length kept ≤ k → all ≡ done ++ entries_from offset (map listing (map blob_view (drop k kept))) → all ≡ done
+all_listed kept offset k all done whole so =
+    so ∙ ap (λ (rest : Kept). done ++ entries_from offset (map listing (map blob_view rest))) (drop_all k kept whole) ∙ append-nil done

@@ -4,7 +4,7 @@ use Rattle.std.proofs.lemmas.Bool.{ltb-false}
 use Rattle.std.specs.List.{list_any}
 use Rattle.keep_catalog.specs.Reach.{most_levels}
 use Rattle.keep_backup.specs.Files.{file_view, paths_seen, seen}
-use Rattle.keep_backup.specs.Folders.{folder_at, root_of}
+use Rattle.keep_backup.specs.Folders.{folder_at, root_folder}
 use Rattle.keep_backup.specs.Paths.{AreNamed, HaveNames, Path, is_too_deep}
 use Rattle.keep_backup.specs.declared.paths.PathFile.{PathFile}
 use Rattle.keep_backup.proofs.Turns.{count_of}
@@ -27,6 +27,6 @@ names_within (p ∷ paths) named within =
 pub no_less : (n : ℕ) → n - 0 ≡ n
 no_less n = omega arith
 
-pub root_is : (files : List PathFile) → folder_at (most_levels - 0) (seen 0 files) ≡ root_of (map file_view files)
-unfolding root_of
+pub root_is : (files : List PathFile) → folder_at (most_levels - 0) (seen 0 files) ≡ root_folder (map file_view files)
+unfolding root_folder
 root_is files = ap (λ n. folder_at n (seen 0 files)) (no_less most_levels)

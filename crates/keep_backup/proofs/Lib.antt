@@ -2,6 +2,7 @@ pub mod Answering
 pub mod Arranged
 pub mod Building
 pub mod Clashes
+pub mod Committed
 pub mod Components
 pub mod Cut
 pub mod Cutting
@@ -10,12 +11,12 @@ pub mod Firsts
 pub mod Fronts
 pub mod Groups
 pub mod Keeping
+pub mod KeptBlobs
 pub mod Neighbours
 pub mod Offering
 pub mod Packable
 pub mod Pieces
 pub mod Seen
 pub mod Planning
-pub mod Settled
 pub mod Texts
 pub mod Turns

@@ -5,8 +5,8 @@ use Rattle.keep_repo.specs.Repository.{Repository}
 use Rattle.keep_backup.specs.Blobs.{BlobData, is_full}
 use Rattle.keep_backup.specs.Storing.{Keeps}
 use Rattle.keep_backup.specs.Walk.{Took}
-use Rattle.keep_backup.specs.declared.backup_error.BackupError.{BackupError}
-use Rattle.keep_backup.specs.declared.backup_error.BackupError.TheVariants.{Full, Memory}
+use Rattle.keep_plan.specs.declared.plan_error.PlanError.{PlanError}
+use Rattle.keep_plan.specs.declared.plan_error.PlanError.TheVariants.{Full, Memory}
 use Rattle.keep_backup.specs.declared.storing.Storing.{Storing}
 
 -- of all that is to be offered just this rest is left
@@ -75,16 +75,16 @@ pub took_one : {T E : Type 0} (r : Result T E) (b : BlobData) (old new : Storing
 took_one (Ok x) b old new h = record { kept = h }
 took_one (Err e) b old new h = tt
 
-pub refused_one : {T : Type 0} (r : Result T BackupError) (b : BlobData) → IfErr r (λ error. error ≢ Memory → (error ≡ Full) × (is_full b ≡ true)) → IfErr r (λ error. error ≢ Memory → (error ≡ Full) × (list_any is_full (b ∷ []) ≡ true))
+pub refused_one : {T : Type 0} (r : Result T PlanError) (b : BlobData) → IfErr r (λ error. error ≢ Memory → (error ≡ Full) × (is_full b ≡ true)) → IfErr r (λ error. error ≢ Memory → (error ≡ Full) × (list_any is_full (b ∷ []) ≡ true))
 refused_one (Ok x) b h = tt
 refused_one (Err e) b h = λ other. let due = h other in (due.0, ap (λ x. x || false) due.1)
 
-pub refused_as : {T : Type 0} (r : Result T BackupError) (b c : BlobData) → b ≡ c → IfErr r (λ error. error ≢ Memory → (error ≡ Full) × (is_full b ≡ true)) → IfErr r (λ error. error ≢ Memory → (error ≡ Full) × (list_any is_full (c ∷ []) ≡ true))
+pub refused_as : {T : Type 0} (r : Result T PlanError) (b c : BlobData) → b ≡ c → IfErr r (λ error. error ≢ Memory → (error ≡ Full) × (is_full b ≡ true)) → IfErr r (λ error. error ≢ Memory → (error ≡ Full) × (list_any is_full (c ∷ []) ≡ true))
 refused_as r b c same h =
     let R : BlobData → Type 0 = λ x. IfErr r (λ error. error ≢ Memory → (error ≡ Full) × (is_full x ≡ true)) in
     refused_one r c (subst R same h)
 
 -- a refusal of what comes later
-pub refused_after : {T : Type 0} (r : Result T BackupError) (xs ys : List BlobData) → IfErr r (λ error. error ≢ Memory → (error ≡ Full) × (list_any is_full ys ≡ true)) → IfErr r (λ error. error ≢ Memory → (error ≡ Full) × (list_any is_full (xs ++ ys) ≡ true))
+pub refused_after : {T : Type 0} (r : Result T PlanError) (xs ys : List BlobData) → IfErr r (λ error. error ≢ Memory → (error ≡ Full) × (list_any is_full ys ≡ true)) → IfErr r (λ error. error ≢ Memory → (error ≡ Full) × (list_any is_full (xs ++ ys) ≡ true))
 refused_after (Ok x) xs ys h = tt
 refused_after (Err e) xs ys h = λ other. let due = h other in (due.0, full_last xs ys due.1)

@@ -1,6 +1,5 @@
 -- New blobs of a type can be packed, and so can parts of them.
 use Rattle.std.proofs.Common.{◌≡◌, ℕ, suc, ◌+◌, ◌<◌, ◌≤◌, ◌==◌, ◌^◌, Bool, true, false, ◌||◌, ◌&&◌, not, cond, nat_le, List, [], ◌∷◌, length, map, filter, take, drop, refl, sym, ap, subst, ◌∙◌, arith}
-use Rattle.std.specs.Global.{Vec}
 use Rattle.std.specs.List.{AllByRecursion, count_by, list_any}
 use Rattle.std.proofs.lemmas.Bool.Decides.{nat_tests}
 use Rattle.std.proofs.lemmas.List.Elements.{All-drop, All-from_recursion, All-take}
@@ -11,24 +10,25 @@ use Rattle.keep_names.specs.declared.blob.BlobType.TheVariants.{Content, Tree}
 use Rattle.keep_repo.specs.Repository.{Repository}
 use Rattle.keep_pack.specs.Pack.{HasOwnId}
 use Rattle.keep_catalog.specs.Orders.{blob_eq}
+use Rattle.keep_catalog.specs.Wrong.{first_of_each}
 use Rattle.keep_catalog.proofs.SpotOrders.{blob_eq_refl}
-use Rattle.keep_backup.specs.Blobs.{BlobData, blob_id_of, firsts, is_full, is_new, is_of, is_same, is_tree, new_of}
-use Rattle.keep_backup.specs.Storing.{AreKept, CanBePacked, blob_view, bytes_of}
+use Rattle.keep_backup.specs.Blobs.{BlobData, blob_id_of, is_full, is_new, is_of, is_same, is_tree_type, new_of}
+use Rattle.keep_backup.specs.Storing.{AreKept, CanBePacked, Text, blob_view, text_bytes}
 use Rattle.keep_backup.proofs.Cutting.{is_empty}
 
-abbrev empty_kept : BlobId × Vec ℕ → Bool
-empty_kept kept = length kept.1.items == 0
+abbrev empty_kept : BlobId × Text → Bool
+empty_kept kept = length (text_bytes kept.1) == 0
 
-abbrev IsShort : BlobId × Vec ℕ → Type 0
-IsShort kept = length kept.1.items < 2 ^ 32
+abbrev IsShort : BlobId × Text → Type 0
+IsShort kept = length (text_bytes kept.1) < 2 ^ 32
 
 counted : {X : Type 0} (p : X → Bool) (x : X) (xs : List X) → count_by p (x ∷ xs) ≡ cond (p x) 1 0 + count_by p xs
 counted p x xs = sum_by-cons (λ y. cond (p y) 1 0) x xs
 
 -- parts of what can be packed
-pub can_take : (n : ℕ) (blobs : List (BlobId × Vec ℕ)) → CanBePacked blobs → CanBePacked (take n blobs)
+pub can_take : (n : ℕ) (blobs : List (BlobId × Text)) → CanBePacked blobs → CanBePacked (take n blobs)
 can_take n blobs can = record {
-  ids = All-take (HasOwnId bytes_of) n blobs can.ids;
+  ids = All-take (HasOwnId text_bytes) n blobs can.ids;
   lengths = All-take IsShort n blobs can.lengths;
   few =
       let part : count_by empty_kept (take n blobs) ≤ count_by empty_kept blobs = sum_by-take-le (λ x. cond (empty_kept x) 1 0) blobs n in
@@ -36,9 +36,9 @@ can_take n blobs can = record {
       omega arith;
 }
 
-pub can_drop : (n : ℕ) (blobs : List (BlobId × Vec ℕ)) → CanBePacked blobs → CanBePacked (drop n blobs)
+pub can_drop : (n : ℕ) (blobs : List (BlobId × Text)) → CanBePacked blobs → CanBePacked (drop n blobs)
 can_drop n blobs can = record {
-  ids = All-drop (HasOwnId bytes_of) n blobs can.ids;
+  ids = All-drop (HasOwnId text_bytes) n blobs can.ids;
   lengths = All-drop IsShort n blobs can.lengths;
   few =
       let parts : count_by empty_kept (take n blobs) + count_by empty_kept (drop n blobs) ≡ count_by empty_kept blobs = sum_by-take-drop (λ x. cond (empty_kept x) 1 0) blobs n in
@@ -46,7 +46,7 @@ can_drop n blobs can = record {
       omega arith;
 }
 
-pub empties_kept : (kept : List (BlobId × Vec ℕ)) → count_by is_empty (map blob_view kept) ≡ count_by empty_kept kept
+pub empties_kept : (kept : List (BlobId × Text)) → count_by is_empty (map blob_view kept) ≡ count_by empty_kept kept
 empties_kept [] = refl
 empties_kept (k ∷ ks) =
     counted is_empty (blob_view k) (map blob_view ks) ∙ ap (λ n. cond (empty_kept k) 1 0 + n) (empties_kept ks)
@@ -67,27 +67,27 @@ none_left p q (b ∷ bs) none =
       cases here later true = (λ i. here i || later i)
       cases here later false = later
 
-none_first : (p : BlobData → Bool) (bs : List BlobData) → list_any p bs ≡ false → list_any p (firsts bs) ≡ false
+none_first : (p : BlobData → Bool) (bs : List BlobData) → list_any p bs ≡ false → list_any p (first_of_each is_same bs) ≡ false
 none_first p [] none = refl
 none_first p (b ∷ bs) none =
     let parts = no_or (p b) (list_any p bs) none in
-    ap (λ t. t || list_any p (filter (λ y. not (is_same b y)) (firsts bs))) parts.0
-    ∙ none_left p (λ y. not (is_same b y)) (firsts bs) (none_first p bs parts.1)
+    ap (λ t. t || list_any p (filter (λ y. not (is_same b y)) (first_of_each is_same bs))) parts.0
+    ∙ none_left p (λ y. not (is_same b y)) (first_of_each is_same bs) (none_first p bs parts.1)
 
 pub none_full : (t : BlobType) (r : Repository) (offered : List BlobData) → list_any is_full offered ≡ false → list_any is_full (new_of t r offered) ≡ false
 unfolding new_of
 none_full t r offered none =
-    none_left is_full (is_of t) (filter (is_new r) (firsts offered))
-    (none_left is_full (is_new r) (firsts offered) (none_first is_full offered none))
+    none_left is_full (is_of t) (filter (is_new r) (first_of_each is_same offered))
+    (none_left is_full (is_new r) (first_of_each is_same offered) (none_first is_full offered none))
 
 is_short : (n : ℕ) → nat_le (2 ^ 32) n ≡ false → n < 2 ^ 32
 is_short n h = grind (arith, nat_tests)
 
-short_kept : (kept : List (BlobId × Vec ℕ)) → list_any is_full (map blob_view kept) ≡ false → AllByRecursion IsShort kept
+short_kept : (kept : List (BlobId × Text)) → list_any is_full (map blob_view kept) ≡ false → AllByRecursion IsShort kept
 short_kept [] none = tt
 short_kept (k ∷ ks) none =
     let parts = no_or (is_full (blob_view k)) (list_any is_full (map blob_view ks)) none in
-    (is_short (length k.1.items) parts.0, short_kept ks parts.1)
+    (is_short (length (text_bytes k.1)) parts.0, short_kept ks parts.1)
 
 -- ---- one empty blob of a type at most
 
@@ -123,11 +123,11 @@ both false b h = cc h
 
 of_type : (t : BlobType) (b : BlobData) → is_of t b ≡ true → b.0 ≡ t
 of_type Content b h = cases b.0 h where
-  cases : (u : BlobType) → not (is_tree u) ≡ true → u ≡ Content
+  cases : (u : BlobType) → not (is_tree_type u) ≡ true → u ≡ Content
   cases Content h = refl
   cases Tree h = cc h
 of_type Tree b h = cases b.0 h where
-  cases : (u : BlobType) → is_tree u ≡ true → u ≡ Tree
+  cases : (u : BlobType) → is_tree_type u ≡ true → u ≡ Tree
   cases Content h = cc h
   cases Tree h = refl
 
@@ -153,26 +153,26 @@ no_nil_left t a nil (b ∷ bs) = cases (no_nil_left t a nil bs) (is_same a b) re
       absurd (cc (same, other))
   cases ih false other false is = counted (is_nil t) b rest ∙ (λ i. cond (is i) 1 0 + ih i)
 
-one_nil : (t : BlobType) (bs : List BlobData) → count_by (is_nil t) (firsts bs) ≤ 1
+one_nil : (t : BlobType) (bs : List BlobData) → count_by (is_nil t) (first_of_each is_same bs) ≤ 1
 one_nil t [] = omega arith
 one_nil t (b ∷ bs) = cases (one_nil t bs) (is_nil t b) refl where
   rest : List BlobData
-  rest = filter (λ y. not (is_same b y)) (firsts bs)
+  rest = filter (λ y. not (is_same b y)) (first_of_each is_same bs)
 
   all : count_by (is_nil t) (b ∷ rest) ≡ cond (is_nil t b) 1 0 + count_by (is_nil t) rest
   all = counted (is_nil t) b rest
 
-  fewer : count_by (is_nil t) rest ≤ count_by (is_nil t) (firsts bs)
-  fewer = fewer_left (is_nil t) (λ y. not (is_same b y)) (firsts bs)
+  fewer : count_by (is_nil t) rest ≤ count_by (is_nil t) (first_of_each is_same bs)
+  fewer = fewer_left (is_nil t) (λ y. not (is_same b y)) (first_of_each is_same bs)
 
-  cases : count_by (is_nil t) (firsts bs) ≤ 1 → (n : Bool) → is_nil t b ≡ n → count_by (is_nil t) (b ∷ rest) ≤ 1
+  cases : count_by (is_nil t) (first_of_each is_same bs) ≤ 1 → (n : Bool) → is_nil t b ≡ n → count_by (is_nil t) (b ∷ rest) ≤ 1
   cases ih true is =
       let e : count_by (is_nil t) (b ∷ rest) ≡ 1 + count_by (is_nil t) rest = all ∙ ap (λ n. cond n 1 0 + count_by (is_nil t) rest) is in
-      let z : count_by (is_nil t) rest ≡ 0 = no_nil_left t b is (firsts bs) in
+      let z : count_by (is_nil t) rest ≡ 0 = no_nil_left t b is (first_of_each is_same bs) in
       omega arith
   cases ih false is =
       let e : count_by (is_nil t) (b ∷ rest) ≡ 0 + count_by (is_nil t) rest = all ∙ ap (λ n. cond n 1 0 + count_by (is_nil t) rest) is in
-      let f : count_by (is_nil t) rest ≤ count_by (is_nil t) (firsts bs) = fewer in
+      let f : count_by (is_nil t) rest ≤ count_by (is_nil t) (first_of_each is_same bs) = fewer in
       omega arith
 
 -- those of a type that are empty
@@ -192,13 +192,13 @@ of_nil t (b ∷ bs) = cases (of_nil t bs) (is_of t b) refl where
 few_new : (t : BlobType) (r : Repository) (offered : List BlobData) → count_by is_empty (new_of t r offered) ≤ 1
 unfolding new_of
 few_new t r offered =
-    let a : count_by is_empty (filter (is_of t) (filter (is_new r) (firsts offered))) ≡ count_by (is_nil t) (filter (is_new r) (firsts offered)) = of_nil t (filter (is_new r) (firsts offered)) in
-    let b : count_by (is_nil t) (filter (is_new r) (firsts offered)) ≤ count_by (is_nil t) (firsts offered) = fewer_left (is_nil t) (is_new r) (firsts offered) in
-    let c : count_by (is_nil t) (firsts offered) ≤ 1 = one_nil t offered in
+    let a : count_by is_empty (filter (is_of t) (filter (is_new r) (first_of_each is_same offered))) ≡ count_by (is_nil t) (filter (is_new r) (first_of_each is_same offered)) = of_nil t (filter (is_new r) (first_of_each is_same offered)) in
+    let b : count_by (is_nil t) (filter (is_new r) (first_of_each is_same offered)) ≤ count_by (is_nil t) (first_of_each is_same offered) = fewer_left (is_nil t) (is_new r) (first_of_each is_same offered) in
+    let c : count_by (is_nil t) (first_of_each is_same offered) ≤ 1 = one_nil t offered in
     omega arith
 
 -- the new blobs of a type that are kept can be packed
-pub can_pack : (t : BlobType) (r : Repository) (offered : List BlobData) (kept : List (BlobId × Vec ℕ)) → list_any is_full offered ≡ false → AreKept (new_of t r offered) kept → CanBePacked kept
+pub can_pack : (t : BlobType) (r : Repository) (offered : List BlobData) (kept : List (BlobId × Text)) → list_any is_full offered ≡ false → AreKept (new_of t r offered) kept → CanBePacked kept
 can_pack t r offered kept none are = record {
   ids = are.ids_are;
   lengths = All-from_recursion IsShort kept (short_kept kept (ap (list_any is_full) are.blobs_are ∙ none_full t r offered none));
@@ -208,5 +208,5 @@ can_pack t r offered kept none are = record {
       omega arith;
 }
 
-pub can_same : (blobs others : List (BlobId × Vec ℕ)) → blobs ≡ others → CanBePacked blobs → CanBePacked others
+pub can_same : (blobs others : List (BlobId × Text)) → blobs ≡ others → CanBePacked blobs → CanBePacked others
 can_same blobs others same can = subst CanBePacked same can

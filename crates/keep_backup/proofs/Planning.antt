@@ -2,12 +2,11 @@
 use Rattle.std.proofs.Common.{◌≡◌, ℕ, true, false, cond, List, [], map, Option, None, Some, Result, Ok, Err, is_none, option_map, slice_get, refl, sym, ap, subst, lit<, ◌∙◌}
 use Rattle.std.specs.List.{list_any}
 use Rattle.serde_json.specs.Written.{compact_text}
-use Rattle.keep_names.specs.Sha256.{sha256}
 use Rattle.keep_names.specs.declared.file_name.Kind.TheVariants.{Snapshot}
 use Rattle.keep_names.specs.declared.id.Id.{Id}
 use Rattle.keep_repo.specs.Repository.{Repository}
 use Rattle.keep_change.specs.declared.change.Change.{Change}
-use Rattle.keep_change.specs.declared.change.StoredFile.{StoredFile}
+use Rattle.keep_change.specs.NamedBytes.{NamedBytes, file_of}
 use Rattle.keep_snap.specs.Snap.{SnapData}
 use Rattle.keep_snap.specs.Time.{time_in}
 use Rattle.keep_snap.specs.Written.{IsCarried, snap_data}
@@ -16,50 +15,52 @@ use Rattle.keep_catalog.specs.declared.catalog_error.CatalogError.{CatalogError}
 use Rattle.keep_catalog.specs.declared.catalog_error.CatalogError.TheVariants as the_catalog_error
 use Rattle.keep_catalog.specs.declared.unread.Unread.{Unread}
 use Rattle.keep_backup.specs.Backup.{FactsData, backup_change, backup_of, change_of, planned, planned_of, snapshot_file, snapshot_of, stored_files_of}
-use Rattle.keep_backup.specs.Blobs.{is_full, named}
-use Rattle.keep_backup.specs.Folders.{root_of}
-use Rattle.keep_backup.specs.Paths.{FileData, files_of, is_too_deep, path_of}
-use Rattle.keep_backup.specs.Refusal.{of_catalog}
-use Rattle.keep_backup.specs.Stored.{is_there, stored_of, unless, unread_first}
-use Rattle.keep_backup.specs.Walk.{blobs_of, id_of, refusal_of, root_tree}
-use Rattle.keep_backup.specs.declared.backup_error.BackupError.{BackupError}
-use Rattle.keep_backup.specs.declared.backup_error.BackupError.TheVariants as the_error
-use Rattle.keep_backup.specs.declared.stored.Stored.{Stored}
+use Rattle.keep_backup.specs.Blobs.{is_full}
+use Rattle.keep_backup.specs.Folders.{root_folder}
+use Rattle.keep_backup.specs.Paths.{FileData, files_in_order, is_too_deep, path_of}
+use Rattle.keep_plan.specs.Refusal.{of_catalog}
+use Rattle.keep_plan.specs.Refusal.{unless, unread_first}
+use Rattle.keep_plan.specs.Settling.{is_there}
+use Rattle.keep_backup.specs.Stored.{stored_of}
+use Rattle.keep_backup.specs.Walk.{blobs_of, id_of, walk_refusal, root_tree}
+use Rattle.keep_plan.specs.declared.plan_error.PlanError.{PlanError}
+use Rattle.keep_plan.specs.declared.plan_error.PlanError.TheVariants as the_error
+use Rattle.keep_plan.specs.declared.stored.Stored.{Stored}
 
 -- ---- what is stored of the files
 
 abbrev Due : Type 0
-Due = Result (Id × Stored) BackupError
+Due = Result (Id × Stored) PlanError
 
 module _ (r : Repository) (cut : ℕ) (files : List FileData) where
   abbrev due : Due
-  due = Ok (id_of (root_tree cut (root_of files)), stored_of r (blobs_of cut (root_of files)))
+  due = Ok (id_of (root_tree cut (root_folder files)), stored_of r (blobs_of cut (root_folder files)))
 
   read : unread_in r ≡ [] → unread_first r ≡ None
   read none = ap (λ (us : List Unread). option_map the_error.Unread (slice_get us 0)) none
 
   -- after the catalog is made
-  past : unread_in r ≡ [] → (o : Option BackupError) → refusal_of cut files ≡ o → stored_files_of r cut files ≡ unless o due
+  past : unread_in r ≡ [] → (o : Option PlanError) → walk_refusal cut files ≡ o → stored_files_of r cut files ≡ unless o due
   unfolding stored_files_of
   past none o is = (λ i. unless (read none i) (unless (is i) due))
 
-  pub files_refused : (error : BackupError) → unread_in r ≡ [] → refusal_of cut files ≡ Some error → stored_files_of r cut files ≡ Err error
+  pub files_refused : (error : PlanError) → unread_in r ≡ [] → walk_refusal cut files ≡ Some error → stored_files_of r cut files ≡ Err error
   files_refused error none is = past none (Some error) is
 
   pub files_unread : (error : CatalogError) → option_map the_catalog_error.Unread (slice_get (unread_in r) 0) ≡ Some error → stored_files_of r cut files ≡ Err (of_catalog error)
   unfolding stored_files_of
   files_unread error is = first (slice_get (unread_in r) 0) refl is where
     first : (o : Option Unread) → slice_get (unread_in r) 0 ≡ o → option_map the_catalog_error.Unread o ≡ Some error
-        → unless (unread_first r) (unless (refusal_of cut files) due) ≡ Err (of_catalog error)
+        → unless (unread_first r) (unless (walk_refusal cut files) due) ≡ Err (of_catalog error)
     first None same is = cc is
     first (Some u) same is =
         let e : the_catalog_error.Unread u ≡ error = cc is in
-        ap (λ (x : Option Unread). unless (option_map the_error.Unread x) (unless (refusal_of cut files) due)) same
+        ap (λ (x : Option Unread). unless (option_map the_error.Unread x) (unless (walk_refusal cut files) due)) same
         ∙ ap (λ (x : CatalogError). Err (of_catalog x)) e
 
   pub files_stored : (tree : Id) (stored : Stored) → unread_in r ≡ [] → list_any is_too_deep (map path_of files) ≡ false
-      → list_any is_full (blobs_of cut (root_of files)) ≡ false → tree ≡ id_of (root_tree cut (root_of files))
-      → stored ≡ stored_of r (blobs_of cut (root_of files)) → stored_files_of r cut files ≡ Ok (tree, stored)
+      → list_any is_full (blobs_of cut (root_folder files)) ≡ false → tree ≡ id_of (root_tree cut (root_folder files))
+      → stored ≡ stored_of r (blobs_of cut (root_folder files)) → stored_files_of r cut files ≡ Ok (tree, stored)
   files_stored tree stored none low short tree_is stored_is =
       past none None (λ i. cond (low i) (Some the_error.TooDeep) (cond (short i) (Some the_error.Full) None))
       ∙ (λ i. Ok ((sym tree_is) i, (sym stored_is) i))
@@ -67,14 +68,14 @@ module _ (r : Repository) (cut : ℕ) (files : List FileData) where
 -- ---- the plan
 
 module _ (r : Repository) (facts : FactsData) (cut : ℕ) (given : List (List ℕ × List ℕ)) where
-  with_files : (o : Result (List FileData) BackupError) → files_of given ≡ o → backup_change r facts cut given ≡ backup_of r facts cut o
+  with_files : (o : Result (List FileData) PlanError) → files_in_order given ≡ o → backup_change r facts cut given ≡ backup_of r facts cut o
   unfolding backup_change
   with_files o is = ap (backup_of r facts cut) is
 
-  pub bad_files : (error : BackupError) → files_of given ≡ Err error → backup_change r facts cut given ≡ Err error
+  pub bad_files : (error : PlanError) → files_in_order given ≡ Err error → backup_change r facts cut given ≡ Err error
   bad_files error is = with_files (Err error) is
 
-  module _ (files : List FileData) (files_are : files_of given ≡ Ok files) where
+  module _ (files : List FileData) (files_are : files_in_order given ≡ Ok files) where
     pub late : is_none (time_in facts.time) ≡ true → backup_change r facts cut given ≡ Err the_error.BadTime
     late none =
         with_files (Ok files) files_are
@@ -85,10 +86,10 @@ module _ (r : Repository) (facts : FactsData) (cut : ℕ) (given : List (List �
         with_files (Ok files) files_are
         ∙ (λ i. unless (cond (some i) (Some the_error.BadTime) None) (planned_of r facts (is i)))
 
-    pub none_stored : (error : BackupError) → is_none (time_in facts.time) ≡ false → stored_files_of r cut files ≡ Err error → backup_change r facts cut given ≡ Err error
+    pub none_stored : (error : PlanError) → is_none (time_in facts.time) ≡ false → stored_files_of r cut files ≡ Err error → backup_change r facts cut given ≡ Err error
     none_stored error some is = timed some (Err error) is
 
-    module _ (tree : Id) (stored : Stored) (snapshot : StoredFile) (some : is_none (time_in facts.time) ≡ false)
+    module _ (tree : Id) (stored : Stored) (snapshot : NamedBytes) (some : is_none (time_in facts.time) ≡ false)
         (is : stored_files_of r cut files ≡ Ok (tree, stored)) (snapshot_is : snapshot ≡ snapshot_file facts tree) where
       with_snapshot : backup_change r facts cut given ≡ planned r stored snapshot
       with_snapshot = timed some (Ok (tree, stored)) is ∙ ap (planned r stored) (sym snapshot_is)
@@ -106,10 +107,9 @@ module _ (r : Repository) (facts : FactsData) (cut : ℕ) (given : List (List �
 pub snapshot_carried : (facts : FactsData) (tree : Id) → IsCarried (snapshot_of facts tree)
 snapshot_carried facts tree = record { apart = refl; dir_stands = tt; others_stand = (refl, lit< tt) }
 
-pub file_made : (facts : FactsData) (tree : Id) (s : SnapData) (text : List ℕ) (id : Id) (file : StoredFile) → s ≡ snapshot_of facts tree
-    → (IsCarried s → text ≡ compact_text (snap_data s)) → id.0 ≡ sha256 text → file ≡ record { name = named Snapshot id; bytes = text } → file ≡ snapshot_file facts tree
+pub file_made : (facts : FactsData) (tree : Id) (s : SnapData) (text : List ℕ) (file : NamedBytes) → s ≡ snapshot_of facts tree
+    → (IsCarried s → text ≡ compact_text (snap_data s)) → file ≡ file_of Snapshot text → file ≡ snapshot_file facts tree
 unfolding snapshot_file
-file_made facts tree s text id file s_is text_is id_is file_is =
+file_made facts tree s text file s_is text_is file_is =
     let same : text ≡ compact_text (snap_data (snapshot_of facts tree)) = text_is (subst IsCarried (sym s_is) (snapshot_carried facts tree)) ∙ ap (λ (x : SnapData). compact_text (snap_data x)) s_is in
-    file_is ∙ ap (λ (digest : List ℕ). record { name = named Snapshot (record { 0 = digest }); bytes = text }) id_is
-    ∙ ap (λ (bytes : List ℕ). record { name = named Snapshot (record { 0 = sha256 bytes }); bytes = bytes }) same
+    file_is ∙ ap (file_of Snapshot) same

@@ -6,18 +6,20 @@ use Rattle.keep_names.specs.declared.file_name.Kind.TheVariants.{Snapshot}
 use Rattle.keep_names.specs.declared.id.Id.{Id}
 use Rattle.keep_repo.specs.Repository.{Repository}
 use Rattle.keep_change.specs.declared.change.Change.{Change}
-use Rattle.keep_change.specs.declared.change.StoredFile.{StoredFile}
+use Rattle.keep_change.specs.NamedBytes.{NamedBytes, file_of}
 use Rattle.keep_snap.specs.Snap.{SnapData}
 use Rattle.keep_snap.specs.Time.{time_in}
 use Rattle.keep_snap.specs.Written.{snap_data}
-use Rattle.keep_backup.specs.Folders.{root_of}
-use Rattle.keep_backup.specs.Paths.{FileData, files_of}
-use Rattle.keep_backup.specs.Stored.{file_of, is_there, stored_of, unless, unread_first}
-use Rattle.keep_backup.specs.Walk.{blobs_of, id_of, refusal_of, root_tree}
-use Rattle.keep_backup.specs.declared.backup_error.BackupError.{BackupError}
-use Rattle.keep_backup.specs.declared.backup_error.BackupError.TheVariants.{BadTime, SnapshotThere}
+use Rattle.keep_plan.specs.Refusal.{unless, unread_first}
+use Rattle.keep_plan.specs.Settling.{is_there}
+use Rattle.keep_plan.specs.declared.plan_error.PlanError.{PlanError}
+use Rattle.keep_plan.specs.declared.plan_error.PlanError.TheVariants.{BadTime, SnapshotThere}
+use Rattle.keep_plan.specs.declared.stored.Stored.{Stored}
+use Rattle.keep_backup.specs.Folders.{root_folder}
+use Rattle.keep_backup.specs.Paths.{FileData, files_in_order}
+use Rattle.keep_backup.specs.Stored.{stored_of}
+use Rattle.keep_backup.specs.Walk.{blobs_of, id_of, walk_refusal, root_tree}
 use Rattle.keep_backup.specs.declared.snapshot.BackupFacts.{BackupFacts}
-use Rattle.keep_backup.specs.declared.stored.Stored.{Stored}
 
 -- ---- the snapshot
 
@@ -51,20 +53,20 @@ snapshot_of facts tree = record {
 }
 
 -- its file
-unfoldable pub snapshot_file : FactsData → Id → StoredFile
+unfoldable pub snapshot_file : FactsData → Id → NamedBytes
 snapshot_file facts tree = file_of Snapshot (compact_text (snap_data (snapshot_of facts tree)))
 
 -- ---- the change
 
 -- the id of the root's tree, and what is stored of the blobs of the files, or why nothing is
-unfoldable pub stored_files_of : Repository → ℕ → List FileData → Result (Id × Stored) BackupError
+unfoldable pub stored_files_of : Repository → ℕ → List FileData → Result (Id × Stored) PlanError
 stored_files_of r cut files =
     unless (unread_first r)
-    (unless (refusal_of cut files)
-    (Ok (id_of (root_tree cut (root_of files)), stored_of r (blobs_of cut (root_of files)))))
+    (unless (walk_refusal cut files)
+    (Ok (id_of (root_tree cut (root_folder files)), stored_of r (blobs_of cut (root_folder files)))))
 
 -- what is stored is added and recorded, and the snapshot is added
-abbrev pub change_of : Stored → StoredFile → Change
+abbrev pub change_of : Stored → NamedBytes → Change
 change_of stored snapshot = record {
   adds = stored.adds ++ snapshot ∷ [];
   drops = [];
@@ -78,26 +80,26 @@ change_of stored snapshot = record {
 }
 
 -- the change, unless the repository has the snapshot
-abbrev pub planned : Repository → Stored → StoredFile → Result Change BackupError
+abbrev pub planned : Repository → Stored → NamedBytes → Result Change PlanError
 planned r stored snapshot =
     if is_there r snapshot.name then Err SnapshotThere else Ok (change_of stored snapshot)
 
-abbrev pub planned_of : Repository → FactsData → Result (Id × Stored) BackupError → Result Change BackupError
+abbrev pub planned_of : Repository → FactsData → Result (Id × Stored) PlanError → Result Change PlanError
 planned_of r facts (Err refusal) = Err refusal
 planned_of r facts (Ok made) = planned r made.1 (snapshot_file facts made.0)
 
 -- a time that no snapshot can have
-abbrev pub bad_time : FactsData → Option BackupError
+abbrev pub bad_time : FactsData → Option PlanError
 bad_time facts = if is_none (time_in facts.time) then Some BadTime else None
 
 -- the same for files in the order of their paths, or why there are none
-abbrev pub backup_of : Repository → FactsData → ℕ → Result (List FileData) BackupError
-    → Result Change BackupError
+abbrev pub backup_of : Repository → FactsData → ℕ → Result (List FileData) PlanError
+    → Result Change PlanError
 backup_of r facts cut (Err refusal) = Err refusal
 backup_of r facts cut (Ok files) =
     unless (bad_time facts) (planned_of r facts (stored_files_of r cut files))
 
 -- the change that backs up the files that are given by texts and bytes, or the first refusal
 unfoldable pub backup_change : Repository → FactsData → ℕ → List (List ℕ × List ℕ)
-    → Result Change BackupError
-backup_change r facts cut given = backup_of r facts cut (files_of given)
+    → Result Change PlanError
+backup_change r facts cut given = backup_of r facts cut (files_in_order given)

@@ -45,5 +45,5 @@ folder_at zero files = no_nodes
 folder_at (suc levels) files = nodes_at (folder_at levels) files (first_names files)
 
 -- the folder at the root, of files that aren't too deep
-unfoldable pub root_of : List FileData → Folder
-root_of files = folder_at most_levels files
+unfoldable pub root_folder : List FileData → Folder
+root_folder files = folder_at most_levels files

@@ -2,9 +2,9 @@ pub mod Backup
 pub mod Blobs
 pub mod Files
 pub mod Folders
+pub mod Kept
 pub mod Packs
 pub mod Paths
-pub mod Refusal
 pub mod Stored
 pub mod Storing
 pub mod Walk

@@ -9,8 +9,8 @@ use Rattle.std.specs.declared.cmp.Ordering.{Ordering}
 use Rattle.keep_docs.specs.Lists.{each}
 use Rattle.keep_tree.specs.Names.{is_name}
 use Rattle.keep_catalog.specs.Reach.{most_levels}
-use Rattle.keep_backup.specs.declared.backup_error.BackupError.{BackupError}
-use Rattle.keep_backup.specs.declared.backup_error.BackupError.TheVariants.{BadPath, SamePathTwice}
+use Rattle.keep_plan.specs.declared.plan_error.PlanError.{PlanError}
+use Rattle.keep_plan.specs.declared.plan_error.PlanError.TheVariants.{BadPath, SamePathTwice}
 
 -- a path: its names from the root on
 abbrev pub Path : Type 0
@@ -64,17 +64,17 @@ unfoldable pub by_path : List FileData → List FileData
 by_path files = entries (from_entries {R = path_cmp} files)
 
 -- a file whose path is a text
-abbrev pub file_of : List ℕ × List ℕ → Option FileData
-file_of given = option_map (λ path. (path, given.1)) (components_of given.0)
+abbrev pub given_file : List ℕ × List ℕ → Option FileData
+given_file given = option_map (λ path. (path, given.1)) (components_of given.0)
 
 -- the files in the order of their paths, if no two of these clash
-abbrev pub without_clash : Option (List FileData) → Result (List FileData) BackupError
+abbrev pub without_clash : Option (List FileData) → Result (List FileData) PlanError
 without_clash None = Err BadPath
 without_clash (Some files) = if any_clash (map path_of files) then Err SamePathTwice else Ok (by_path files)
 
 -- the files that are given by texts and bytes, in the order of their paths, or why there are none
-unfoldable pub files_of : List (List ℕ × List ℕ) → Result (List FileData) BackupError
-files_of given = without_clash (each file_of given)
+unfoldable pub files_in_order : List (List ℕ × List ℕ) → Result (List FileData) PlanError
+files_in_order given = without_clash (each given_file given)
 
 -- ---- the order of paths
 

@@ -11,11 +11,11 @@ use Rattle.keep_repo.specs.Repository.{Repository}
 use Rattle.keep_tree.specs.Tree.{dir, file, NodeData}
 use Rattle.keep_tree.specs.Written.{tree_data}
 use Rattle.keep_backup.specs.Blobs.{BlobData, blob_id_of, is_full}
-use Rattle.keep_backup.specs.Folders.{Folder, no_nodes, file_node, folder_node, root_of}
+use Rattle.keep_backup.specs.Folders.{Folder, no_nodes, file_node, folder_node, root_folder}
 use Rattle.keep_backup.specs.Paths.{FileData, is_too_deep, path_of}
 use Rattle.keep_backup.specs.Storing.{Keeps}
-use Rattle.keep_backup.specs.declared.backup_error.BackupError.{BackupError}
-use Rattle.keep_backup.specs.declared.backup_error.BackupError.TheVariants.{Full, TooDeep}
+use Rattle.keep_plan.specs.declared.plan_error.PlanError.{PlanError}
+use Rattle.keep_plan.specs.declared.plan_error.PlanError.TheVariants.{Full, TooDeep}
 use Rattle.keep_backup.specs.declared.storing.Storing.{Storing}
 
 -- the pieces of a file that is cut every so many bytes. The last may be shorter
@@ -28,8 +28,8 @@ abbrev pub id_of : BlobData → Id
 id_of blob = (blob_id_of blob).id
 
 -- the tree of nodes: its document
-unfoldable pub tree_of : List NodeData → BlobData
-tree_of nodes = (Tree, compact_text (tree_data nodes))
+unfoldable pub tree_blob : List NodeData → BlobData
+tree_blob nodes = (Tree, compact_text (tree_data nodes))
 
 -- the nodes of a folder: a file with the ids of its pieces, a folder with its tree's
 abbrev pub nodes_of : ℕ → Folder → List NodeData
@@ -38,7 +38,7 @@ nodes_of cut (file_node name bytes more) =
     record { name = name; kind = file (map id_of (pieces_of cut bytes)); others = no_members }
     ∷ nodes_of cut more
 nodes_of cut (folder_node name inner more) =
-    record { name = name; kind = dir (id_of (tree_of (nodes_of cut inner))); others = no_members }
+    record { name = name; kind = dir (id_of (tree_blob (nodes_of cut inner))); others = no_members }
     ∷ nodes_of cut more
 
 -- the blobs below a folder: the pieces of its files, and what is below its folders and then their trees
@@ -46,11 +46,11 @@ abbrev pub blobs_below : ℕ → Folder → List BlobData
 blobs_below cut no_nodes = []
 blobs_below cut (file_node name bytes more) = pieces_of cut bytes ++ blobs_below cut more
 blobs_below cut (folder_node name inner more) =
-    (blobs_below cut inner ++ tree_of (nodes_of cut inner) ∷ []) ++ blobs_below cut more
+    (blobs_below cut inner ++ tree_blob (nodes_of cut inner) ∷ []) ++ blobs_below cut more
 
 -- the tree of a folder, and the blobs of a folder: those below it, and then its tree
 abbrev pub root_tree : ℕ → Folder → BlobData
-root_tree cut folder = tree_of (nodes_of cut folder)
+root_tree cut folder = tree_blob (nodes_of cut folder)
 
 abbrev pub blobs_of : ℕ → Folder → List BlobData
 blobs_of cut folder = blobs_below cut folder ++ root_tree cut folder ∷ []
@@ -61,7 +61,7 @@ pub record Took (blobs : List BlobData) (old new : Storing) : Type 0 where
       → Keeps r (offered ++ blobs) new
 
 -- why files aren't walked over: one is too deep, before anything is offered, or a blob is too long
-abbrev pub refusal_of : ℕ → List FileData → Option BackupError
-refusal_of cut files =
+abbrev pub walk_refusal : ℕ → List FileData → Option PlanError
+walk_refusal cut files =
     if list_any is_too_deep (map path_of files) then Some TooDeep
-    else (if list_any is_full (blobs_of cut (root_of files)) then Some Full else None)
+    else (if list_any is_full (blobs_of cut (root_folder files)) then Some Full else None)

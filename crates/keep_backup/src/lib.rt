@@ -1,7 +1,6 @@
 //! Backups: what is stored of blobs and files, and what that relies on.
 #![tactic(auto)]
 
-mod backup_error;
 mod laws;
 mod packs;
 mod paths;
@@ -10,7 +9,6 @@ mod plan;
 mod plan_tests;
 #[cfg(test)]
 mod refusal_tests;
-mod settling;
 mod snapshot;
 mod stored;
 mod storing;
@@ -20,8 +18,7 @@ mod walk;
 #[cfg(test)]
 mod walk_tests;
 
-pub use backup_error::BackupError;
-pub use laws::packs_are_cut_when_full;
+pub use laws::{a_planned_backup_can_be_made, each_blob_is_kept, packs_are_cut_when_full};
 pub use plan::plan_backup;
 pub use snapshot::BackupFacts;
-pub use stored::{Stored, store};
+pub use stored::store;

@@ -1,18 +1,16 @@
-ghost use Rattle.std.specs.Prelude.{◌≡◌, [], ◌++◌, ◌∷◌, ◌<◌, ◌≤◌, ◌-◌, List, Ok, drop, length, map, take, IfOk, OnOk};
+ghost use Rattle.std.specs.Prelude.{◌≡◌, [], ◌++◌, ◌∷◌, ◌<◌, ◌≤◌, ◌-◌, ◌*◌, ◌^◌, List, drop, length, map, take, IfOk, OnOk};
 ghost use Rattle.keep_index.specs.Index.{pack_view};
-ghost use Rattle.keep_pack.specs.Reading.{header_of};
-ghost use Rattle.keep_pack.specs.declared.entry.PackEntry as the_entry;
-ghost use Rattle.keep_backup.specs.Blobs.{BlobData, named};
+ghost use Rattle.keep_pack.specs.Pack.{entries_from, listing};
+ghost use Rattle.keep_backup.specs.Blobs.{BlobData};
 ghost use Rattle.keep_backup.specs.Packs.{bytes_in, full_pack, packs_of};
-ghost use Rattle.keep_backup.specs.Stored.{files_of, indexed, pack_file, pack_listed};
-ghost use Rattle.keep_backup.specs.Storing.{CanBePacked, blob_view};
+ghost use Rattle.keep_backup.specs.Stored.{pack_file, pack_listed, packs_and_index};
+ghost use Rattle.keep_backup.specs.Storing.{CanBePacked, blob_view, text_bytes};
 
-use crate::storing::NewBlob;
+use crate::storing::{NewBlob, Text};
 use keep_change::StoredFile;
-use keep_index::{Index, IndexedBlob, IndexedPack, write_index};
-use keep_names::{FileName, Id, Kind, id_of};
-use keep_pack::{PackEntry, build_pack, read_header};
-use keep_repo::Bytes;
+use keep_index::{Index, IndexedPack, write_index};
+use keep_names::{Blob, Kind};
+use keep_pack::build_pack;
 use std::alloc::{AllocError, Global};
 
 // A pack with as many bytes of blobs gets no more.
@@ -33,7 +31,7 @@ pub(crate) fn built_files(
 ) -> Result<Vec<StoredFile>, AllocError>
     requires pieces { CanBePacked pieces.now }
     requires trees { CanBePacked trees.now }
-    ensures { IfOk result (λ files. files.items ≡ files_of
+    ensures { IfOk result (λ files. files.items ≡ packs_and_index
         (packs_of (map blob_view pieces.now) ++ packs_of (map blob_view trees.now))) }
 {
     let mut built = Built {
@@ -53,11 +51,12 @@ fn add_packs(alloc: Global, built: &mut Built, blobs: &[NewBlob]) -> Result<(), 
     ensures listed { OnOk result (map pack_view built.new.listed.items
         ≡ map pack_view built.old.listed.items ++ map pack_listed (packs_of (map blob_view blobs.now))) }
 {
-    let mut rest = blobs;
-    while !rest.is_empty() {
-        let (pack, others) = rest.split_at(first_pack(rest));
-        add_pack(alloc, built, pack)?;
-        rest = others;
+    let mut start = 0;
+    while start < blobs.len() {
+        let rest = &blobs[start..];
+        let count = first_pack(rest);
+        add_pack(alloc, built, &rest[..count])?;
+        start += count;
     }
     Ok(())
 }
@@ -74,7 +73,7 @@ fn first_pack(blobs: &[NewBlob]) -> usize
 {
     let mut size = 0;
     for (place, (_, bytes)) in blobs.iter().enumerate() {
-        size += bytes.len();
+        size += blob_length(bytes) as usize;
         if size >= FULL_PACK {
             return place + 1;
         }
@@ -93,64 +92,54 @@ fn add_pack(alloc: Global, built: &mut Built, blobs: &[NewBlob]) -> Result<(), A
         ≡ map pack_view built.old.listed.items ++ pack_listed (map blob_view blobs.now) ∷ []) }
 {
     let pack = build_pack(alloc, blobs)?;
-    let id = id_of(&pack);
-    let blobs = listed_blobs(alloc, &pack)?;
+    let file = StoredFile::of(alloc, Kind::Pack, pack)?;
+    let id = file.name().id;
+    let blobs = listed_blobs(alloc, blobs)?;
     built.listed.push(IndexedPack { id, blobs })?;
-    let file = new_file(alloc, Kind::Pack, id, pack)?;
     built.files.push(file)?;
     Ok(())
 }
 
-// What an index says of the blobs of a pack: what its header says. Each built pack has one.
-fn listed_blobs(alloc: Global, pack: &[u8]) -> Result<Vec<IndexedBlob>, AllocError>
-    ensures { IfOk result (λ blobs. (entries : List the_entry.PackEntry) → header_of pack.now ≡ Ok entries
-        → blobs.items ≡ map indexed entries) }
+// What an index says of the blobs of a pack, which lie one after the other.
+fn listed_blobs(alloc: Global, blobs: &[NewBlob]) -> Result<Vec<Blob>, AllocError>
+    requires fits { CanBePacked blobs.now }
+    requires count { 37 * length blobs.now < 2 ^ 32 }
+    ensures { IfOk result (λ listed. listed.items
+        ≡ entries_from 0 (map listing (map blob_view blobs.now))) }
 {
-    match read_header(alloc, pack) {
-        Ok(entries) => indexed_blobs(alloc, &entries),
-        Err(_) => Err(AllocError),
+    let mut listed = Vec::new(alloc);
+    let mut offset = 0;
+    for (blob, bytes) in blobs {
+        let length = blob_length(bytes);
+        listed.push(Blob {
+            blob: *blob,
+            offset,
+            length,
+        })?;
+        offset += length as u64;
     }
+    Ok(listed)
 }
 
-fn indexed_blobs(alloc: Global, entries: &[PackEntry]) -> Result<Vec<IndexedBlob>, AllocError>
-    ensures { IfOk result (λ blobs. blobs.items ≡ map indexed entries.now) }
+// How long a blob is.
+fn blob_length(bytes: &Text) -> u32
+    requires { length (text_bytes bytes.now) < 2 ^ 32 }
+    ensures { result ≡ length (text_bytes bytes.now) }
 {
-    entries
-        .iter()
-        .map(|entry| IndexedBlob {
-            blob: entry.blob,
-            offset: entry.offset,
-            length: entry.length,
-        })
-        .collect(alloc)
+    bytes.len() as u32
 }
 
 // Adds the index of the packs, if there are packs.
 fn add_index(alloc: Global, built: Built) -> Result<Vec<StoredFile>, AllocError>
     ensures { IfOk result (λ files. (packs : List (List BlobData)) → built.files.items ≡ map pack_file packs
-        → map pack_view built.listed.items ≡ map pack_listed packs → files.items ≡ files_of packs) }
+        → map pack_view built.listed.items ≡ map pack_listed packs → files.items ≡ packs_and_index packs) }
 {
     let Built { mut files, listed } = built;
     if listed.is_empty() {
         return Ok(files);
     }
     let text = write_index(alloc, &Index { packs: listed })?;
-    let id = id_of(&text);
-    let file = new_file(alloc, Kind::Index, id, text)?;
+    let file = StoredFile::of(alloc, Kind::Index, text)?;
     files.push(file)?;
     Ok(files)
-}
-
-// A file of this name.
-pub(crate) fn new_file(
-    alloc: Global,
-    kind: Kind,
-    id: Id,
-    bytes: Vec<u8>,
-) -> Result<StoredFile, AllocError>
-    ensures { IfOk result (λ file. file ≡ record { name = named kind id; bytes = bytes.items }) }
-{
-    let bytes = Bytes::new(alloc, bytes)?;
-    let name = FileName { kind, id };
-    Ok(StoredFile { name, bytes })
 }

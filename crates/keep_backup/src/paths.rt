@@ -5,10 +5,11 @@ ghost use Rattle.std.specs.Ordering.{is_lt};
 ghost use Rattle.keep_docs.specs.Doc.{Answers};
 ghost use Rattle.keep_docs.specs.Lists.{each};
 ghost use Rattle.keep_backup.specs.Files.{file_view, given_view, names_view, paths_seen};
-ghost use Rattle.keep_backup.specs.Paths.{AreNamed, StandInOrder, any_clash, components_of, file_of, files_of, path_cmp};
-ghost use Rattle.keep_backup.specs.declared.backup_error.BackupError.TheVariants as the_error;
+ghost use Rattle.keep_backup.specs.Paths.{AreNamed, StandInOrder, any_clash, components_of, given_file, path_cmp};
+ghost use Rattle.keep_backup.specs.Paths as spec;
+ghost use Rattle.keep_plan.specs.declared.plan_error.PlanError.TheVariants as the_error;
 
-use crate::backup_error::BackupError;
+use keep_plan::PlanError;
 use keep_tree::is_name;
 use std::alloc::{AllocError, Global};
 
@@ -24,27 +25,24 @@ pub(crate) struct PathFile<'a> {
 pub(crate) fn files_in_order<'a>(
     alloc: Global,
     given: &'a [(String, Vec<u8>)],
-) -> Result<Vec<PathFile<'a>>, BackupError>
+) -> Result<Vec<PathFile<'a>>, PlanError>
     ensures files { Answers the_error.Memory (λ files. map file_view files.items)
-        (files_of (map given_view given.entry.now)) result }
+        (spec.files_in_order (map given_view given.entry.now)) result }
     ensures in_order { IfOk result (λ files. StandInOrder (paths_seen 0 files.items)) }
     ensures named { IfOk result (λ files. AreNamed (paths_seen 0 files.items)) }
 {
     let mut files = parsed(alloc, given)?;
     files.sort_by(|a, b| a.names.cmp(&b.names))?;
     if have_clash(&files) {
-        return Err(BackupError::SamePathTwice);
+        return Err(PlanError::SamePathTwice);
     }
     Ok(files)
 }
 
 // Each file with the names of its path.
-fn parsed<'a>(
-    alloc: Global,
-    given: &'a [(String, Vec<u8>)],
-) -> Result<Vec<PathFile<'a>>, BackupError>
+fn parsed<'a>(alloc: Global, given: &'a [(String, Vec<u8>)]) -> Result<Vec<PathFile<'a>>, PlanError>
     ensures { Answers the_error.Memory (λ files. map file_view files.items)
-        (ok_or (each file_of (map given_view given.entry.now)) the_error.BadPath) result }
+        (ok_or (each given_file (map given_view given.entry.now)) the_error.BadPath) result }
 {
     let mut files = Vec::with_capacity(alloc, given.len())?;
     for (path, bytes) in given {
@@ -55,16 +53,16 @@ fn parsed<'a>(
 }
 
 // The file with the names of its path.
-fn parse<'a>(alloc: Global, path: &'a str, bytes: &'a [u8]) -> Result<PathFile<'a>, BackupError>
+fn parse<'a>(alloc: Global, path: &'a str, bytes: &'a [u8]) -> Result<PathFile<'a>, PlanError>
     ensures { Answers the_error.Memory file_view
-        (ok_or (file_of (path.entry.now, bytes.entry.now)) the_error.BadPath) result }
+        (ok_or (given_file (path.entry.now, bytes.entry.now)) the_error.BadPath) result }
 {
-    let names = names_of(alloc, path)?.ok_or(BackupError::BadPath)?;
+    let names = names_in_path(alloc, path)?.ok_or(PlanError::BadPath)?;
     Ok(PathFile { names, bytes })
 }
 
 // The names of an absolute path from the root on, if it is one.
-fn names_of<'a>(alloc: Global, path: &'a str) -> Result<Option<Vec<&'a str>>, AllocError>
+fn names_in_path<'a>(alloc: Global, path: &'a str) -> Result<Option<Vec<&'a str>>, AllocError>
     ensures { IfOk result (λ names. option_map names_view names ≡ components_of path.entry.now) }
 {
     let Some(text) = path.strip_prefix('/') else {

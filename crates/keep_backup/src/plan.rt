@@ -1,23 +1,25 @@
-ghost use Rattle.std.specs.Prelude.{◌≡◌, ◌≤◌, ◌<◌, IfOk, is_none, map};
+ghost use Rattle.std.specs.Prelude.{◌≡◌, ◌≤◌, ◌<◌, true, IfOk, is_none, map};
 ghost use Rattle.keep_docs.specs.Doc.{Answers};
+ghost use Rattle.keep_repo.specs.Repository.{held};
+ghost use Rattle.keep_change.specs.Change.{is_met};
+ghost use Rattle.keep_change.specs.Form.{IsWellFormed};
 ghost use Rattle.keep_snap.specs.Time.{time_in};
 ghost use Rattle.keep_backup.specs.Backup.{backup_change, facts_view, stored_files_of};
 ghost use Rattle.keep_backup.specs.Backup as spec;
 ghost use Rattle.keep_backup.specs.Files.{file_view, given_view, paths_seen};
 ghost use Rattle.keep_backup.specs.Paths.{AreNamed, StandInOrder};
-ghost use Rattle.keep_backup.specs.declared.backup_error.BackupError.TheVariants as the_error;
+ghost use Rattle.keep_plan.specs.declared.plan_error.PlanError.TheVariants as the_error;
 
-use crate::backup_error::BackupError;
 use crate::paths::{PathFile, files_in_order};
 use crate::snapshot::{BackupFacts, snapshot_file};
-use crate::stored::Stored;
 use crate::storing::Storing;
 use crate::walk::walk;
-use keep_catalog::{Catalog, View};
 use keep_change::{Change, Listed, Planned, StoredFile};
 use keep_names::Id;
-use keep_repo::{Facet, Repo};
+use keep_plan::{PlanError, Stored};
+use keep_repo::Facet;
 use keep_snap::parse_time;
+use keep_view::View;
 use std::alloc::{AllocError, Global};
 
 /// The change that backs up these files, given by the texts of their absolute paths and their bytes, cut
@@ -31,26 +33,28 @@ pub fn plan_backup(
     files: &[(String, Vec<u8>)],
     facts: &BackupFacts,
     cut: u32,
-) -> Result<Planned, BackupError>
+) -> Result<Planned, PlanError>
     requires some { 0 < cut }
     requires most { cut ≤ 8_388_608 }
     ensures change { Answers the_error.Memory (λ planned. planned.change)
         (backup_change view.now.repo (facts_view facts.now) cut (map given_view files.now)) result }
     ensures seen { IfOk result (λ planned. planned.seen ≡ view.now.length) }
+    ensures well_formed { IfOk result (λ planned. IsWellFormed planned.change) }
+    ensures met { IfOk result (λ planned. is_met (held view.now.repo) planned.change ≡ true) }
 {
     let files = files_in_order(alloc, files)?;
     if has_bad_time(facts) {
-        return Err(BackupError::BadTime);
+        return Err(PlanError::BadTime);
     }
-    let (tree, stored) = store_files(alloc, &view.repo, &files, cut)?;
+    let (tree, stored) = store_files(alloc, view, &files, cut)?;
     let snapshot = snapshot_file(alloc, facts, tree)?;
-    if view.repo.facet_filled(Facet::File(snapshot.name)) {
-        return Err(BackupError::SnapshotThere);
+    if view.repo().facet_filled(Facet::File(snapshot.name())) {
+        return Err(PlanError::SnapshotThere);
     }
     let change = change_with(alloc, stored, snapshot)?;
     Ok(Planned {
         change,
-        seen: view.length,
+        seen: view.length(),
     })
 }
 
@@ -62,22 +66,22 @@ fn has_bad_time(facts: &BackupFacts) -> bool
 }
 
 // The id of the root's tree, and what is stored of the files.
-fn store_files(
+fn store_files<'a>(
     alloc: Global,
-    repo: &Repo,
-    files: &[PathFile],
+    view: &View<'a>,
+    files: &[PathFile<'a>],
     cut: u32,
-) -> Result<(Id, Stored), BackupError>
+) -> Result<(Id, Stored), PlanError>
     requires cut { 0 < cut }
     requires in_order { StandInOrder (paths_seen 0 files.now) }
     requires named { AreNamed (paths_seen 0 files.now) }
     ensures { Answers the_error.Memory (λ made. made)
-        (stored_files_of repo.now cut (map file_view files.now)) result }
+        (stored_files_of view.now.repo cut (map file_view files.now)) result }
 {
-    let catalog = Catalog::of(alloc, repo)?;
+    let catalog = view.catalog(alloc)?;
     let mut storing = Storing::new(alloc, catalog);
     let tree = walk(alloc, files, cut, &mut storing)?;
-    let stored = storing.finish(alloc, repo)?;
+    let stored = storing.finish(alloc, view.repo())?;
     Ok((tree, stored))
 }
 

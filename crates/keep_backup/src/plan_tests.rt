@@ -1,12 +1,13 @@
 ghost use Rattle.std.specs.Prelude.{◌<◌, ◌≤◌};
 
-use crate::{BackupError, BackupFacts, plan_backup};
-use keep_catalog::View;
+use crate::{BackupFacts, plan_backup};
 use keep_change::Planned;
+use keep_journal::History;
 use keep_names::{FileName, Kind, id_of};
+use keep_plan::PlanError;
 use keep_repo::{Bytes, Repo};
+use keep_view::View;
 use std::alloc::{AllocError, Global};
-use std::collections::BTreeSet;
 use std::test::Fail;
 
 pub(crate) const TIME: &str = "2024-01-01T00:00:00Z";
@@ -29,15 +30,12 @@ fn plan_of(
     files: &[(String, Vec<u8>)],
     time: &str,
     cut: u32,
-) -> Result<Planned, BackupError>
+) -> Result<Planned, PlanError>
     requires some { 0 < cut }
     requires most { cut ≤ 8_388_608 }
 {
-    let view = View {
-        repo,
-        known: BTreeSet::new(alloc),
-        length: 5,
-    };
+    let history = History::new(alloc, 0);
+    let view = View::without_events(&repo, &history);
     plan_backup(alloc, &view, files, &facts(alloc, time)?, cut)
 }
 
@@ -47,7 +45,7 @@ pub(crate) fn planned(
     repo: Repo,
     given: &[(&str, &str)],
     time: &str,
-) -> Result<Planned, BackupError> {
+) -> Result<Planned, PlanError> {
     let mut files = Vec::new(alloc);
     for (path, text) in given {
         let bytes = Vec::from_slice(alloc, text.as_bytes())?;
@@ -67,7 +65,7 @@ fn large_files(alloc: Global) -> Result<Vec<(String, Vec<u8>)>, AllocError> {
 }
 
 // The plan to back up one file again at this time, where that was done at another one.
-fn again(alloc: Global, time: &str) -> Result<Planned, BackupError> {
+fn again(alloc: Global, time: &str) -> Result<Planned, PlanError> {
     let first = planned(alloc, Repo::new(alloc), &[("/a", "abcde")], TIME)?;
     planned(alloc, with_added(alloc, &first)?, &[("/a", "abcde")], time)
 }
@@ -76,11 +74,11 @@ fn again(alloc: Global, time: &str) -> Result<Planned, BackupError> {
 fn shown(alloc: Global, plan: &Planned) -> Result<String, AllocError> {
     let mut text = String::new(alloc);
     for file in plan.change.adds.as_slice() {
-        let (kind, size) = (file.name.kind, file.bytes.as_slice().len());
+        let (kind, size) = (file.name().kind, file.bytes().as_slice().len());
         text.push_str(format!(in alloc; "{kind} {size}, ")?.as_str())?;
     }
     if let Some(file) = plan.change.adds.as_slice().last() {
-        text.push_str(format!(in alloc; "{}", file.name)?.as_str())?;
+        text.push_str(format!(in alloc; "{}", file.name())?.as_str())?;
     }
     Ok(text)
 }
@@ -89,7 +87,7 @@ fn shown(alloc: Global, plan: &Planned) -> Result<String, AllocError> {
 fn with_added(alloc: Global, plan: &Planned) -> Result<Repo, AllocError> {
     let mut repo = Repo::new(alloc);
     for file in plan.change.adds.as_slice() {
-        repo.insert_file(file.name, file.bytes.clone()?)?;
+        repo.insert_file(file.name(), file.bytes().clone()?)?;
     }
     Ok(repo)
 }
@@ -129,7 +127,7 @@ fn a_backup_adds_packs_an_index_and_a_snapshot(rt: HostRuntime) -> Result<(), Fa
         ),
     ] {
         let plan = planned(alloc, Repo::new(alloc), given, TIME)?;
-        assert_eq!(rt; plan.seen, 5);
+        assert_eq!(rt; plan.seen, 0);
         assert!(rt; plan.change.well_formed());
         assert_eq!(rt; shown(alloc, &plan)?.as_str(), text);
     }
@@ -155,7 +153,7 @@ fn forty_mebibytes_are_three_packs_and_a_tree(rt: HostRuntime) -> Result<(), Fai
 fn what_is_there_is_not_stored_again(rt: HostRuntime) -> Result<(), Fail> {
     let alloc = rt.alloc();
     let refused = again(alloc, TIME).err();
-    assert_eq!(rt; refused, Some(BackupError::SnapshotThere));
+    assert_eq!(rt; refused, Some(PlanError::SnapshotThere));
     let later = again(alloc, "2024-01-02T00:00:00Z")?;
     assert!(rt; later.change.well_formed());
     assert_eq!(rt; later.change.adds.as_slice().len(), 1);

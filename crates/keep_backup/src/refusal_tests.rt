@@ -1,4 +1,3 @@
-use crate::BackupError;
 use crate::plan_tests::{TIME, planned, with_broken};
 use keep_names::Kind;
 use std::test::Fail;
@@ -40,20 +39,6 @@ fn the_first_refusal_is_told(rt: HostRuntime) -> Result<(), Fail> {
         let refusal = planned(alloc, repo, &given, time).err().ok_or(text)?;
         assert_eq!(rt; format!(in alloc; "{refusal}")?.as_str(), text);
         assert_eq!(rt; refusal.number(), Some(number));
-    }
-    Ok(())
-}
-
-#[test]
-fn the_other_refusals_have_words_and_numbers(rt: HostRuntime) -> Result<(), Fail> {
-    let alloc = rt.alloc();
-    for (refusal, text, number) in [
-        (BackupError::Full, "Full", Some(27)),
-        (BackupError::SnapshotThere, "SnapshotThere", Some(18)),
-        (BackupError::Memory, "Memory", None),
-    ] {
-        assert_eq!(rt; format!(in alloc; "{refusal}")?.as_str(), text);
-        assert_eq!(rt; refusal.number(), number);
     }
     Ok(())
 }

@@ -3,9 +3,8 @@ ghost use Rattle.keep_snap.specs.Snap.{snap_view};
 ghost use Rattle.keep_backup.specs.Backup.{facts_view};
 ghost use Rattle.keep_backup.specs.Backup as spec;
 
-use crate::packs::new_file;
 use keep_change::StoredFile;
-use keep_names::{Id, Kind, id_of};
+use keep_names::{Id, Kind};
 use keep_snap::{Snap, write_snap};
 use serde_json::Map;
 use std::alloc::{AllocError, Global};
@@ -31,8 +30,7 @@ pub(crate) fn snapshot_file(
 {
     let snap = snapshot_of(alloc, facts, tree)?;
     let text = write_snap(alloc, &snap)?;
-    let id = id_of(&text);
-    new_file(alloc, Kind::Snapshot, id, text)
+    StoredFile::of(alloc, Kind::Snapshot, text)
 }
 
 // What it says.

@@ -1,20 +1,13 @@
-use crate::{BackupError, Stored, store};
-use keep_catalog::View;
+use crate::store;
 use keep_change::PackMark;
+use keep_journal::History;
 use keep_names::{BlobId, BlobType, FileName, Id, Kind, id_of};
 use keep_pack::build_pack;
+use keep_plan::{PlanError, Stored};
 use keep_repo::{Bytes, Mark, Repo};
+use keep_view::View;
 use std::alloc::{AllocError, Global};
-use std::collections::BTreeSet;
 use std::test::Fail;
-
-fn view_of(alloc: Global, repo: Repo) -> View {
-    View {
-        repo,
-        known: BTreeSet::new(alloc),
-        length: 0,
-    }
-}
 
 fn put(alloc: Global, repo: &mut Repo, kind: Kind, bytes: Vec<u8>) -> Result<Id, AllocError> {
     let id = id_of(&bytes);
@@ -48,13 +41,14 @@ fn put_index(alloc: Global, repo: &mut Repo, pack: Id) -> Result<Id, AllocError>
 }
 
 // What is stored of blobs of these types and texts.
-fn stored(alloc: Global, repo: Repo, texts: &[(BlobType, &str)]) -> Result<Stored, BackupError> {
+fn stored(alloc: Global, repo: Repo, texts: &[(BlobType, &str)]) -> Result<Stored, PlanError> {
     let mut blobs = Vec::new(alloc);
     for (blob_type, text) in texts {
         let bytes = Vec::from_slice(alloc, text.as_bytes())?;
         blobs.push((*blob_type, bytes))?;
     }
-    store(alloc, &view_of(alloc, repo), &blobs)
+    let history = History::new(alloc, 0);
+    store(alloc, &View::without_events(&repo, &history), &blobs)
 }
 
 // The kinds of the added files, and how many bytes each has.
@@ -62,7 +56,7 @@ fn added(alloc: Global, stored: &Stored) -> Result<Vec<(Kind, usize)>, AllocErro
     let files = stored.adds.as_slice();
     files
         .iter()
-        .map(|file| (file.name.kind, file.bytes.as_slice().len()))
+        .map(|file| (file.name().kind, file.bytes().as_slice().len()))
         .collect(alloc)
 }
 
@@ -154,8 +148,8 @@ fn a_blob_of_a_marked_pack_is_stored_again(rt: HostRuntime) -> Result<(), Fail> 
         [(Kind::Pack, 88), (Kind::Index, 315)].as_slice()
     );
     for file in old.adds.as_slice() {
-        repo.insert_file(file.name, file.bytes.clone()?)?;
-        repo.insert_mark(file.name.id, Mark { moment: 7 })?;
+        repo.insert_file(file.name(), file.bytes().clone()?)?;
+        repo.insert_mark(file.name().id, Mark { moment: 7 })?;
     }
     let made = stored(alloc, repo, &hello())?;
     assert_eq!(rt;
@@ -193,6 +187,6 @@ fn what_cannot_be_read_is_refused(rt: HostRuntime) -> Result<(), Fail> {
         Vec::from_slice(alloc, b"abc")?,
     )?;
     let refused = stored(alloc, repo, &hello()).err();
-    assert!(rt; matches!(refused, Some(BackupError::Unread(_))));
+    assert!(rt; matches!(refused, Some(PlanError::Unread(_))));
     Ok(())
 }

@@ -6,38 +6,39 @@ ghost use Rattle.keep_tree.specs.Tree.{node_view};
 ghost use Rattle.keep_tree.specs.Written.{tree_data};
 ghost use Rattle.keep_backup.specs.Blobs.{is_full};
 ghost use Rattle.keep_backup.specs.Files.{file_view, paths_seen, seen};
-ghost use Rattle.keep_backup.specs.Folders.{folder_at, root_of};
+ghost use Rattle.keep_backup.specs.Folders.{folder_at, root_folder};
 ghost use Rattle.keep_backup.specs.Paths.{AreNamed, HasOtherName, HaveNames, HaveOneName, StandInOrder, is_too_deep};
-ghost use Rattle.keep_backup.specs.Walk.{Took, blobs_below, blobs_of, id_of, nodes_of, pieces_of, refusal_of, root_tree, tree_of};
-ghost use Rattle.keep_backup.specs.declared.backup_error.BackupError.TheVariants.{Full, Memory};
+ghost use Rattle.keep_backup.specs.Walk.{Took, blobs_below, blobs_of, id_of, nodes_of, pieces_of, walk_refusal, root_tree, tree_blob};
+ghost use Rattle.keep_plan.specs.declared.plan_error.PlanError.TheVariants.{Full, Memory};
 
-use crate::backup_error::BackupError;
 use crate::paths::PathFile;
 use crate::storing::Storing;
 use keep_names::{BlobType, Id};
+use keep_plan::PlanError;
 use keep_tree::{Node, Tree, write_tree};
 use std::alloc::Global;
+use std::borrow::CowSlice;
 
 /// Offers the pieces of these files and the trees of their folders, and tells the id of the root's tree.
 /// Files are cut every `cut` bytes. Where one is too deep, nothing is offered.
-pub(crate) fn walk(
+pub(crate) fn walk<'a>(
     alloc: Global,
-    files: &[PathFile],
+    files: &[PathFile<'a>],
     cut: u32,
-    storing: &mut Storing,
-) -> Result<Id, BackupError>
+    storing: &mut Storing<'a>,
+) -> Result<Id, PlanError>
     requires cut { 0 < cut }
     requires in_order { StandInOrder (paths_seen 0 files.now) }
     requires named { AreNamed (paths_seen 0 files.now) }
     ensures within { IfOk result (λ _. list_any is_too_deep (paths_seen 0 files.now) ≡ false) }
     ensures took { OnOk result
-        (Took (blobs_of cut (root_of (map file_view files.now))) storing.old storing.new) }
-    ensures root { IfOk result (λ id. id ≡ id_of (root_tree cut (root_of (map file_view files.now)))) }
+        (Took (blobs_of cut (root_folder (map file_view files.now))) storing.old storing.new) }
+    ensures root { IfOk result (λ id. id ≡ id_of (root_tree cut (root_folder (map file_view files.now)))) }
     ensures refused { IfErr result (λ error. error ≢ Memory
-        → refusal_of cut (map file_view files.now) ≡ Some error) }
+        → walk_refusal cut (map file_view files.now) ≡ Some error) }
 {
     if files.iter().any(|file| file.names.len() > 256) {
-        return Err(BackupError::TooDeep);
+        return Err(PlanError::TooDeep);
     }
     walk_folder(alloc, files, 0, cut, storing)
 }
@@ -45,13 +46,13 @@ pub(crate) fn walk(
 // Offers what is in a folder so many names below the root, through which the files' paths go, and then its
 // tree.
 #[cycle(walking)]
-fn walk_folder(
+fn walk_folder<'a>(
     alloc: Global,
-    files: &[PathFile],
+    files: &[PathFile<'a>],
     depth: usize,
     cut: u32,
-    storing: &mut Storing,
-) -> Result<Id, BackupError>
+    storing: &mut Storing<'a>,
+) -> Result<Id, PlanError>
     requires cut { 0 < cut }
     requires in_order { StandInOrder (paths_seen depth files.now) }
     requires names { HaveNames (most_levels - depth) (paths_seen depth files.now) }
@@ -77,13 +78,13 @@ fn walk_folder(
 
 // Offers what is below the one name that the files' paths have there: the pieces of a file, or a folder.
 #[cycle(walking)]
-fn walk_node(
+fn walk_node<'a>(
     alloc: Global,
-    files: &[PathFile],
+    files: &[PathFile<'a>],
     depth: usize,
     cut: u32,
-    storing: &mut Storing,
-) -> Result<Node, BackupError>
+    storing: &mut Storing<'a>,
+) -> Result<Node, PlanError>
     requires cut { 0 < cut }
     requires in_order { StandInOrder (paths_seen depth files.now) }
     requires names { HaveNames (most_levels - depth) (paths_seen depth files.now) }
@@ -127,24 +128,24 @@ fn count_at(files: &[PathFile], depth: usize) -> usize
 }
 
 // Offers the tree of these nodes.
-fn put_tree(alloc: Global, nodes: Vec<Node>, storing: &mut Storing) -> Result<Id, BackupError>
+fn put_tree(alloc: Global, nodes: Vec<Node>, storing: &mut Storing) -> Result<Id, PlanError>
     requires { has_float (tree_data (map node_view nodes.items)) ≡ false }
-    ensures took { OnOk result (Took (tree_of (map node_view nodes.items) ∷ []) storing.old storing.new) }
-    ensures id { IfOk result (λ id. id ≡ id_of (tree_of (map node_view nodes.items))) }
+    ensures took { OnOk result (Took (tree_blob (map node_view nodes.items) ∷ []) storing.old storing.new) }
+    ensures id { IfOk result (λ id. id ≡ id_of (tree_blob (map node_view nodes.items))) }
     ensures refused { IfErr result (λ error. error ≢ Memory → (error ≡ Full)
-        × (list_any is_full (tree_of (map node_view nodes.items) ∷ []) ≡ true)) }
+        × (list_any is_full (tree_blob (map node_view nodes.items) ∷ []) ≡ true)) }
 {
     let text = write_tree(alloc, &Tree { nodes })?;
-    storing.put(alloc, BlobType::Tree, &text)
+    storing.put(BlobType::Tree, CowSlice::Owned(text))
 }
 
 // Offers the pieces of a file, and tells their ids.
-fn put_pieces(
+fn put_pieces<'a>(
     alloc: Global,
-    bytes: &[u8],
+    bytes: &'a [u8],
     cut: u32,
-    storing: &mut Storing,
-) -> Result<Vec<Id>, BackupError>
+    storing: &mut Storing<'a>,
+) -> Result<Vec<Id>, PlanError>
     requires cut { 0 < cut }
     ensures took { OnOk result (Took (pieces_of cut bytes.now) storing.old storing.new) }
     ensures ids { IfOk result (λ ids. ids.items ≡ map id_of (pieces_of cut bytes.now)) }
@@ -153,7 +154,7 @@ fn put_pieces(
 {
     let mut ids = Vec::new(alloc);
     for piece in bytes.chunks(cut as usize) {
-        let id = storing.put(alloc, BlobType::Content, piece)?;
+        let id = storing.put(BlobType::Content, CowSlice::Borrowed(piece))?;
         ids.push(id)?;
     }
     Ok(ids)

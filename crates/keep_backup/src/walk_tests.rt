@@ -1,9 +1,9 @@
-use crate::backup_error::BackupError;
 use crate::paths::files_in_order;
 use crate::storing::Storing;
 use crate::walk::walk;
 use keep_catalog::Catalog;
 use keep_names::{Id, id_of};
+use keep_plan::PlanError;
 use keep_repo::Repo;
 use std::alloc::{AllocError, Global};
 use std::test::Fail;
@@ -22,13 +22,23 @@ fn given(alloc: Global, texts: &[(&str, &str)]) -> Result<Vec<(String, Vec<u8>)>
     Ok(files)
 }
 
-// What a walk over such files in an empty repository comes to: the root, and the pieces and trees, a line
-// each.
-fn walked(alloc: Global, texts: &[(&str, &str)], cut: u32) -> Result<(Id, String), BackupError> {
+// What a walk over such files in an empty repository comes to.
+fn walked(alloc: Global, texts: &[(&str, &str)], cut: u32) -> Result<(Id, String), PlanError> {
     let given = given(alloc, texts)?;
-    let files = files_in_order(alloc, &given)?;
     let repo = Repo::new(alloc);
-    let mut storing = Storing::new(alloc, Catalog::of(alloc, &repo)?);
+    walked_in(alloc, &repo, &given, cut)
+}
+
+// The same of these files in this repository: the root, and the pieces and trees, a line each.
+fn walked_in<'a>(
+    alloc: Global,
+    repo: &'a Repo,
+    given: &'a [(String, Vec<u8>)],
+    cut: u32,
+) -> Result<(Id, String), PlanError> {
+    let files = files_in_order(alloc, given)?;
+    let catalog = Catalog::of(alloc, repo)?;
+    let mut storing = Storing::new(alloc, catalog);
     let root = walk(alloc, &files, cut.max(1), &mut storing)?;
     let mut text = String::new(alloc);
     for (_, blob) in storing.pieces.iter().chain(storing.trees.iter()) {
@@ -45,7 +55,7 @@ fn other_paths_are_refused(rt: HostRuntime) -> Result<(), Fail> {
     for path in ["a", "", "/", "//a", "/a/", "/a/./b", "/..", "/a\0"] {
         let given = given(alloc, &[("/b", ""), ("/b", ""), (path, "")])?;
         let refusal = files_in_order(alloc, &given).err();
-        assert_eq!(rt; refusal, Some(BackupError::BadPath), "{path}");
+        assert_eq!(rt; refusal, Some(PlanError::BadPath), "{path}");
     }
     Ok(())
 }
@@ -54,9 +64,9 @@ fn other_paths_are_refused(rt: HostRuntime) -> Result<(), Fail> {
 fn paths_that_clash_are_refused(rt: HostRuntime) -> Result<(), Fail> {
     let alloc = rt.alloc();
     for (first, second, third, refusal) in [
-        ("/a", "/b", "/a/b", Some(BackupError::SamePathTwice)),
-        ("/a/b/c", "/a-b", "/a", Some(BackupError::SamePathTwice)),
-        ("/a", "/b", "/a", Some(BackupError::SamePathTwice)),
+        ("/a", "/b", "/a/b", Some(PlanError::SamePathTwice)),
+        ("/a/b/c", "/a-b", "/a", Some(PlanError::SamePathTwice)),
+        ("/a", "/b", "/a", Some(PlanError::SamePathTwice)),
         ("/a", "/a-b", "/aa/a", None),
     ] {
         let given = given(alloc, &[(first, ""), (second, ""), (third, "")])?;
@@ -75,7 +85,7 @@ fn trees_stand_to_level_256(rt: HostRuntime) -> Result<(), Fail> {
     assert!(rt; walked(alloc, &[(path.as_str(), "b")], 1).is_ok());
     path.push_str("/a")?;
     let refusal = walked(alloc, &[(path.as_str(), "b")], 1).err();
-    assert_eq!(rt; refusal, Some(BackupError::TooDeep));
+    assert_eq!(rt; refusal, Some(PlanError::TooDeep));
     Ok(())
 }
 

@@ -1,19 +1,19 @@
-ghost use Rattle.std.specs.Prelude.{◌≡◌, [], ◌∷◌, IfOk, map};
+ghost use Rattle.std.specs.Prelude.{◌≡◌, [], ◌∷◌, ◌<◌, IfOk, length, map};
 ghost use Rattle.keep_docs.specs.Doc.{Answers};
 ghost use Rattle.keep_backup.specs.Backup.{facts_view};
 ghost use Rattle.keep_backup.specs.Files.{given_view};
-ghost use Rattle.keep_backup.specs.declared.backup_error.BackupError.TheVariants.{Memory};
-ghost use Rattle.keep_repo.specs.Repository.{empty_repository};
+ghost use Rattle.keep_plan.specs.declared.plan_error.PlanError.TheVariants.{Memory};
 ghost use Rattle.keep_bench.specs.Backup.{backed_up_of, bench_facts, bench_file};
 ghost use Rattle.keep_bench.specs.Backup as spec;
 
-use keep_backup::{BackupError, BackupFacts, plan_backup};
-use keep_catalog::View;
-use keep_change::StoredFile;
+use keep_backup::{BackupFacts, plan_backup};
+use keep_change::Change;
+use keep_journal::History;
 use keep_names::Id;
+use keep_plan::PlanError;
 use keep_repo::Repo;
+use keep_view::View;
 use std::alloc::{AllocError, Global};
-use std::collections::BTreeSet;
 
 /// After how many bytes a file is cut.
 const CUT: u32 = 1_048_576;
@@ -26,35 +26,27 @@ pub(crate) struct BackedUp {
 }
 
 /// Backs up one file of these bytes into an empty repository.
-pub(crate) fn back_up(alloc: Global, bytes: Vec<u8>) -> Result<BackedUp, BackupError>
+pub(crate) fn back_up(alloc: Global, bytes: Vec<u8>) -> Result<BackedUp, PlanError>
     ensures { Answers Memory (λ told. told) (backed_up_of bytes.items) result }
 {
-    let view = empty_view(alloc);
+    let repo = Repo::new(alloc);
+    let history = History::new(alloc, 0);
     let files = files_of(alloc, bytes)?;
     let facts = facts(alloc)?;
+    let view = View::without_events(&repo, &history);
     let plan = plan_backup(alloc, &view, &files, &facts, CUT)?;
-    told_of(plan.change.adds.as_slice()).ok_or(BackupError::Memory)
+    Ok(told_of(&plan.change))
 }
 
-/// What is told of a change that adds these files, the snapshot last.
-fn told_of(adds: &[StoredFile]) -> Option<BackedUp>
-    ensures { result ≡ spec.told_of adds.now }
+/// What is told of a change that adds files, the snapshot last.
+fn told_of(change: &Change) -> BackedUp
+    requires { 0 < length change.now.adds }
+    ensures { result ≡ spec.told_of change.now }
 {
-    let last = adds.last()?;
-    Some(BackedUp {
-        snapshot: last.name.id,
+    let adds = change.adds.as_slice();
+    BackedUp {
+        snapshot: adds[adds.len() - 1].name().id,
         adds: adds.len(),
-    })
-}
-
-/// The repository without files, before anything happened.
-fn empty_view(alloc: Global) -> View
-    ensures { result.repo ≡ empty_repository }
-{
-    View {
-        repo: Repo::new(alloc),
-        known: BTreeSet::new(alloc),
-        length: 0,
     }
 }
 

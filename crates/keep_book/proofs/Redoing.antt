@@ -18,10 +18,10 @@ use Rattle.keep_journal.proofs.Commits.{committed-Redo, some_change, IsNumbered-
 use Rattle.keep_journal.proofs.Numbers.{is_change_parts}
 use Rattle.keep_journal.proofs.Kept.{kept_around_undone, kept_with_around, kept-Redo}
 use Rattle.keep_book.specs.Dependents.{blocked_by}
-use Rattle.keep_book.specs.BookState.{IsOpen}
+use Rattle.keep_journal.specs.Opening.{IsOpen}
 use Rattle.keep_book.specs.Reply.{redo_refusal, is_full}
 use Rattle.keep_book.specs.declared.reply.Refusal.TheVariants.{Blocked}
-use Rattle.keep_book.proofs.Steps.{no_facet_twice}
+use Rattle.keep_journal.proofs.Later.{no_facet_twice}
 use Rattle.keep_book.proofs.Undoing.{above_final_lt}
 
 -- a change that isn't final is one of the journal's

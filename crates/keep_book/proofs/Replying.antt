@@ -16,7 +16,7 @@ use Rattle.keep_journal.specs.Journal.{Journal}
 use Rattle.keep_book.specs.Dependents.{Passes}
 use Rattle.keep_book.specs.BookState.{BookState}
 use Rattle.keep_book.specs.Limits.{event_limit}
-use Rattle.keep_book.specs.Reply.{Answers, TakesBack, undo_refusal, redo_refusal, empty_refusal, is_full, told_of, state_after}
+use Rattle.keep_book.specs.Reply.{RefusesOrTells, TakesBack, undo_refusal, redo_refusal, empty_refusal, is_full, told_of, state_after}
 use Rattle.keep_book.specs.declared.reply.Refusal.{Refusal}
 use Rattle.keep_book.specs.declared.reply.Refusal.TheVariants.{Blocked, Memory, LeanedOn}
 use Rattle.keep_book.specs.Request.{Undo}
@@ -27,7 +27,7 @@ pub same_error : {A B E : Type 0} (e f : E) → ◌≡◌ {A = Result A E} (Err 
 same_error e f h = let same : e ≡ f = cc h in ap Err same
 
 -- a check's refusal is the reply
-pub refused : (r : Option Refusal) (e : Refusal) (told : Told) → Passes r (Err e) → Answers r told (Err e)
+pub refused : (r : Option Refusal) (e : Refusal) (told : Told) → Passes r (Err e) → RefusesOrTells r told (Err e)
 refused None e told h = cc h
 refused (Some refusal) e told h = same_error e refusal h
 
@@ -36,13 +36,13 @@ pub accepted : (r : Option Refusal) → Passes r (Ok tt) → r ≡ None
 accepted None h = refl
 accepted (Some refusal) h = cc h
 
-pub answers_told : (r : Option Refusal) (told t : Told) → r ≡ None → t ≡ told → Answers r told (Ok t)
-answers_told None told t none same = inl (ap Ok same)
-answers_told (Some refusal) told t none same = cc none
+pub replies_told : (r : Option Refusal) (told t : Told) → r ≡ None → t ≡ told → RefusesOrTells r told (Ok t)
+replies_told None told t none same = inl (ap Ok same)
+replies_told (Some refusal) told t none same = cc none
 
-pub answers_memory : (r : Option Refusal) (told : Told) → r ≡ None → Answers r told (Err Memory)
-answers_memory None told none = inr refl
-answers_memory (Some refusal) told none = cc none
+pub replies_memory : (r : Option Refusal) (told : Told) → r ≡ None → RefusesOrTells r told (Err Memory)
+replies_memory None told none = inr refl
+replies_memory (Some refusal) told none = cc none
 
 -- an undo of a change in force, where there is room, is refused only where the others can't be made
 pub can_be : (j : Journal) (n : ℕ) (broken : Option ℕ) → is_change j n ≡ true → final_number j < n → is_kept j n ≡ true → is_full j ≡ false → undo_refusal j n broken ≡ option_map LeanedOn broken
@@ -80,7 +80,7 @@ full_below j room = grind (arith, nat_tests)
 -- the reply to an undo of a change in force, where there is room, depends on the others alone
 pub taken_back : (b : BookState) (n : ℕ) (reply : Result Told Refusal) (left : Repository) → IsNumbered b.events
     → IsSome (change_of b.events n) → is_kept b.events n ≡ true → length_of b.events < event_limit
-    → Answers (undo_refusal b.events n (first_break (others b.events n) b.opening)) (told_of b.events (Undo n)) reply
+    → RefusesOrTells (undo_refusal b.events n (first_break (others b.events n) b.opening)) (told_of b.events (Undo n)) reply
     → OnOk reply (left ≡ fold_of (others b.events n) b.opening)
     → TakesBack b n reply left
 taken_back b n reply left numbered there in_it room answers made =
@@ -88,13 +88,13 @@ taken_back b n reply left numbered there in_it room answers made =
     let change = change_found (change_of b.events n) refl there in
     let broken : Option ℕ = first_break (others b.events n) b.opening in
     let none : undo_refusal b.events n broken ≡ option_map LeanedOn broken = can_be b.events n broken change (grind (arith, nat_tests)) in_it (full_below b.events room) in
-    split broken (subst (λ r. Answers r (told_of b.events (Undo n)) reply) none answers)
+    split broken (subst (λ r. RefusesOrTells r (told_of b.events (Undo n)) reply) none answers)
   where
     change_found : (o : Option Change) → change_of b.events n ≡ o → IsSome o → is_change b.events n ≡ true
     change_found None e some = cc some
     change_found (Some c) e some = is_change_found b.events n c numbered e
 
-    split : (broken : Option ℕ) → Answers (option_map LeanedOn broken) (told_of b.events (Undo n)) reply
+    split : (broken : Option ℕ) → RefusesOrTells (option_map LeanedOn broken) (told_of b.events (Undo n)) reply
         → MatchOption broken
         (((reply ≡ Ok (told_of b.events (Undo n))) ⊎ (reply ≡ Err Memory)) × OnOk reply (left ≡ fold_of (others b.events n) b.opening))
         (λ m. reply ≡ Err (LeanedOn m))

@@ -11,7 +11,7 @@ use Rattle.keep_journal.specs.declared.event.Event.TheVariants.{Commit}
 use Rattle.keep_journal.proofs.Chosen.{chosen-Commit, chosen_agree_on}
 use Rattle.keep_journal.proofs.Kept.{is_kept-Commit}
 use Rattle.keep_book.specs.BookState.{BookState, JustCommitted}
-use Rattle.keep_book.specs.Reply.{Answers, Restores, is_full, state_after, told_of, undo_refusal}
+use Rattle.keep_book.specs.Reply.{RefusesOrTells, Restores, is_full, state_after, told_of, undo_refusal}
 use Rattle.keep_book.specs.declared.reply.Refusal.{Refusal}
 use Rattle.keep_book.specs.declared.reply.Refusal.TheVariants.{LeanedOn}
 use Rattle.keep_book.specs.declared.reply.Told.{Told}
@@ -44,7 +44,7 @@ module _ (j : Journal) (numbered : IsNumbered j) (k n : ℕ) (c : Change) (next 
       ∙ chosen_agree_on test (is_kept j) j numbered (λ m positive within. same_test m within)
 
 -- an undo that breaks nothing isn't refused for what leans on the change
-never_leaned_on : (j : Journal) (n m : ℕ) (told : Told) (reply : Result Told Refusal) → Answers (undo_refusal j n None) told reply → reply ≢ Err (LeanedOn m)
+never_leaned_on : (j : Journal) (n m : ℕ) (told : Told) (reply : Result Told Refusal) → RefusesOrTells (undo_refusal j n None) told reply → reply ≢ Err (LeanedOn m)
 never_leaned_on j n m told reply answers is_leaned = split (is_change j n) refl (nat_le n (final_number j)) refl (is_in_force j n) refl (is_full j) refl where
   split : (k : Bool) → is_change j n ≡ k → (f : Bool) → nat_le n (final_number j) ≡ f → (i : Bool) → is_in_force j n ≡ i → (u : Bool) → is_full j ≡ u → ⊥
   split false k f fe i ie u ue = cc (rw k at answers, is_leaned)
@@ -55,7 +55,7 @@ never_leaned_on j n m told reply answers is_leaned = split (is_change j n) refl 
 
 -- what the undo of a commit that was just accepted replies and leaves
 pub restored : (before now : BookState) (n : ℕ) (reply : Result Told Refusal) (after : BookState) → JustCommitted before n now
-    → Answers (undo_refusal now.events n (first_break (others now.events n) now.opening)) (told_of now.events (Undo n)) reply
+    → RefusesOrTells (undo_refusal now.events n (first_break (others now.events n) now.opening)) (told_of now.events (Undo n)) reply
     → after ≡ state_after now (Undo n) reply → Restores before.live reply after.live
 restored before now n reply after just answers same =
     let left : others now.events n ≡ kept before.events =

@@ -1,7 +1,7 @@
 -- What an event leaves of the opening, the live repository and the fold between them.
-use Rattle.std.proofs.Common.{◌≡◌, ℕ, zero, suc, ◌+◌, ◌<◌, ◌≤◌, Bool, true, List, [], ◌∷◌, ◌++◌, None, refl, sym, ap, ◌∙◌, subst, arith}
+use Rattle.std.proofs.Common.{◌≡◌, ℕ, zero, suc, ◌+◌, ◌<◌, ◌≤◌, true, List, [], ◌∷◌, ◌++◌, None, refl, sym, ap, ◌∙◌, subst, arith}
 use Rattle.std.specs.List.{list_all}
-use Rattle.std.proofs.lemmas.List.Elements.{All-filter, All-push}
+use Rattle.std.proofs.lemmas.List.Elements.{All-push}
 use Rattle.keep_repo.specs.Repository.{Repository, held}
 use Rattle.keep_change.specs.Change.{asked, is_as_asked, is_met, is_ready}
 use Rattle.keep_change.specs.Fold.{Numbered, fold_of, first_break}
@@ -9,16 +9,18 @@ use Rattle.keep_change.specs.Form.{IsWellFormed}
 use Rattle.keep_change.specs.Law.{HaveNoFacetTwice}
 use Rattle.keep_change.specs.Result.{result_of, reverse_of}
 use Rattle.keep_change.specs.declared.change.Change.{Change}
-use Rattle.keep_change.proofs.History.{once_of_well_formed, taking_back_restores_lem}
+use Rattle.keep_change.proofs.History.{taking_back_restores_lem}
 use Rattle.keep_change.proofs.Law.{no_break}
 use Rattle.keep_change.proofs.Records.{and_first}
 use Rattle.keep_journal.specs.History.{committed, final_number, last_change, length_of}
 use Rattle.keep_journal.specs.Journal.{Journal, posted}
-use Rattle.keep_journal.specs.Kept.{chosen, kept, later, up_to}
+use Rattle.keep_journal.specs.Kept.{kept, later, up_to}
 use Rattle.keep_journal.specs.declared.event.Event.TheVariants.{Commit, Empty}
 use Rattle.keep_journal.proofs.Commits.{committed-Commit, committed-Empty, IsNumbered-push}
 use Rattle.keep_journal.proofs.Kept.{kept-Commit, kept-Empty, kept_split, fold_of-append}
-use Rattle.keep_book.specs.BookState.{AreWellFormed, BookState, IsOpen, opening_under, unfold_of}
+use Rattle.keep_journal.specs.Opening.{IsOpen, opening_under, unfold_of}
+use Rattle.keep_journal.proofs.Later.{no_facet_twice}
+use Rattle.keep_book.specs.BookState.{BookState}
 use Rattle.keep_book.specs.Reply.{book_of}
 
 -- ---- folds
@@ -35,11 +37,6 @@ break_push [] x r none met = rw met refl
 break_push (y ∷ xs) x r none met =
     let parts = no_break (is_met (held r) y.change) (first_break xs (result_of y.change r)) y.number none in
     rw parts.0 (break_push xs x (result_of y.change r) parts.1 met)
-
--- no chosen change has a facet twice
-pub no_facet_twice : (test : ℕ → Bool) (j : Journal) → AreWellFormed j → HaveNoFacetTwice (chosen test j)
-no_facet_twice test j formed =
-    once_of_well_formed (chosen test j) (All-filter (λ n. test n.number) (λ n. IsWellFormed n.change) (committed j) formed)
 
 -- ---- the opening under a live repository
 

@@ -19,10 +19,10 @@ use Rattle.keep_journal.proofs.Commits.{committed-Undo, some_change, IsNumbered-
 use Rattle.keep_journal.proofs.Numbers.{is_change_parts}
 use Rattle.keep_journal.proofs.Kept.{kept_around, others_around, kept-Undo}
 use Rattle.keep_book.specs.Dependents.{leaned_on}
-use Rattle.keep_book.specs.BookState.{IsOpen}
+use Rattle.keep_journal.specs.Opening.{IsOpen}
 use Rattle.keep_book.specs.Reply.{undo_refusal, is_full}
 use Rattle.keep_book.specs.declared.reply.Refusal.TheVariants.{LeanedOn}
-use Rattle.keep_book.proofs.Steps.{no_facet_twice}
+use Rattle.keep_journal.proofs.Later.{no_facet_twice}
 
 pub above_final : (f n : ℕ) → nat_le n f ≡ false → nat_lt f n ≡ true
 above_final f n h = grind (arith, nat_tests)

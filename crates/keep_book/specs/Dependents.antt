@@ -7,13 +7,9 @@ use Rattle.keep_change.specs.Fold.{first_leaning}
 use Rattle.keep_change.specs.Holdings.{value_at}
 use Rattle.keep_change.specs.declared.change.Change.{Change}
 use Rattle.keep_journal.specs.History.{change_of}
-use Rattle.keep_journal.specs.Kept.{is_kept, later}
+use Rattle.keep_journal.specs.Kept.{later}
 use Rattle.keep_journal.specs.Journal.{Journal}
 use Rattle.keep_book.specs.declared.reply.Refusal.{Refusal}
-
--- change n, where it is in force and not final
-abbrev pub kept_change : Journal → ℕ → Option Change
-kept_change j n = if is_kept j n then change_of j n else None
 
 -- the first later change that touches what change n writes
 abbrev pub leaned_on : Journal → ℕ → Option ℕ

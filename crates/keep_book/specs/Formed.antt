@@ -5,7 +5,7 @@ use Rattle.keep_repo.specs.Facet.{facet_cmp}
 use Rattle.keep_change.specs.declared.change.Change.{Change}
 use Rattle.keep_change.specs.Form.{IsWellFormed, ListsInOrder}
 use Rattle.keep_journal.specs.Journal.{Journal}
-use Rattle.keep_book.specs.BookState.{AreWellFormed}
+use Rattle.keep_journal.specs.Opening.{AreWellFormed}
 
 in_order-prop : (c : Change) → IsProp (ListsInOrder c)
 in_order-prop c = hlevel (IsStrictlySortedBy-prop facet_cmp)

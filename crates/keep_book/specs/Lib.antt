@@ -1,7 +1,6 @@
 pub mod BookState
 pub mod Dependents
 pub mod Formed
-pub mod Known
 pub mod Limits
 pub mod Refusal
 pub mod Reply

@@ -63,9 +63,9 @@ empty_refusal j n =
     first_of ((not (is_change j n), Unknown) ∷ (nat_le n (final_number j), Final) ∷ (is_full j, Full) ∷ [])
 
 -- the refusal where there is one; and else what is told, unless memory runs out
-abbrev pub Answers : Option Refusal → Told → Result Told Refusal → Type 0
-Answers (Some refusal) told reply = reply ≡ Err refusal
-Answers None told reply = (reply ≡ Ok told) ⊎ (reply ≡ Err Memory)
+abbrev pub RefusesOrTells : Option Refusal → Told → Result Told Refusal → Type 0
+RefusesOrTells (Some refusal) told reply = reply ≡ Err refusal
+RefusesOrTells None told reply = (reply ≡ Ok told) ⊎ (reply ≡ Err Memory)
 
 -- the event of an accepted request
 abbrev pub event_of : Journal → Request → Event
@@ -82,15 +82,15 @@ told_of j request = record { number = number_of (event_of j request); at = lengt
 abbrev pub Replies : BookState → Request → Result Told Refusal → Type 0
 Replies b (Commit p) reply =
     let unmet = least_unmet (held b.live) p.change in
-    (IsWellFormed p.change → Answers (commit_refusal b.events p unmet) (told_of b.events (Commit p)) reply)
+    (IsWellFormed p.change → RefusesOrTells (commit_refusal b.events p unmet) (told_of b.events (Commit p)) reply)
     × (¬ IsWellFormed p.change → reply ≡ Err Malformed)
 Replies b (Undo n) reply =
     let broken = first_break (others b.events n) b.opening in
-    Answers (undo_refusal b.events n broken) (told_of b.events (Undo n)) reply
+    RefusesOrTells (undo_refusal b.events n broken) (told_of b.events (Undo n)) reply
 Replies b (Redo n) reply =
     let broken = first_break (kept_with b.events n) b.opening in
-    Answers (redo_refusal b.events n broken) (told_of b.events (Redo n)) reply
-Replies b (Empty n) reply = Answers (empty_refusal b.events n) (told_of b.events (Empty n)) reply
+    RefusesOrTells (redo_refusal b.events n broken) (told_of b.events (Redo n)) reply
+Replies b (Empty n) reply = RefusesOrTells (empty_refusal b.events n) (told_of b.events (Empty n)) reply
 
 -- change n is taken back where the others, in their order, can be made of the opening, and what they make of it is left, unless memory runs out; else the first that can't be made is named
 abbrev pub TakesBack : BookState → ℕ → Result Told Refusal → Repository → Type 0

@@ -1,7 +1,4 @@
 ghost use Rattle.std.specs.Prelude.{◌≡◌, ◌+◌, ◌<◌, true, IfOk, IsSome, IsTrue, OnOk, OnErr};
-ghost use Rattle.std.specs.BTreeSet.{contains};
-ghost use Rattle.keep_names.specs.Orders.{id_cmp};
-ghost use Rattle.keep_names.specs.declared.id.Id as the_id;
 ghost use Rattle.keep_repo.specs.Repository.{Repository, held};
 ghost use Rattle.keep_change.specs.Change.{is_ready};
 ghost use Rattle.keep_change.specs.Result.{result_of, reverse_of};
@@ -10,19 +7,18 @@ ghost use Rattle.keep_journal.specs.Event.{number_of};
 ghost use Rattle.keep_journal.specs.History.{Fits, IsNumbered, change_of, length_of};
 ghost use Rattle.keep_journal.specs.Kept.{is_kept};
 ghost use Rattle.keep_journal.specs.Journal.{posted};
-ghost use Rattle.keep_book.specs.BookState.{BookState, IsOpen, JustCommitted, new_book};
-ghost use Rattle.keep_book.specs.Known.{is_known};
+ghost use Rattle.keep_view.specs.Shown.{shown_of};
+ghost use Rattle.keep_book.specs.BookState.{BookState, JustCommitted, new_book};
 ghost use Rattle.keep_book.specs.Limits.{event_limit};
 ghost use Rattle.keep_book.specs.Reply.{Replies, Restores, TakesBack, state_after};
 ghost use Rattle.keep_book.specs.Request as request;
 
 use crate::checks::{check_commit, check_empty, check_redo, check_undo};
-use crate::known::known_snapshots;
 use crate::reply::{Refusal, Told};
-use keep_catalog::View;
 use keep_change::Planned;
 use keep_journal::{Entry, Event, History};
 use keep_repo::Repo;
+use keep_view::View;
 use std::alloc::{AllocError, Global};
 use std::marker::Model;
 
@@ -37,7 +33,8 @@ pub struct Book {
 impl Model for Book {
     ghost use Rattle.std.specs.Coded.{codes};
     ghost use Rattle.keep_repo.specs.Repository.{coded_repository};
-    ghost use Rattle.keep_book.specs.BookState.{BookState, IsOpen, opening_under};
+    ghost use Rattle.keep_journal.specs.Opening.{IsOpen, opening_under};
+    ghost use Rattle.keep_book.specs.BookState.{BookState};
 
     ghost Value = { BookState };
 
@@ -77,20 +74,12 @@ impl Book {
         &self.live
     }
 
-    /// The live repository, the snapshots that the book knows, and the number of the last event.
-    pub fn view(&self, alloc: Global) -> Result<View, AllocError>
-        ensures repo { IfOk result (λ view. view.repo ≡ self.now.live) }
-        ensures known { IfOk result (λ view. (id : the_id.Id) →
-            contains id_cmp view.known id ≡ is_known self.now id) }
-        ensures length { IfOk result (λ view. view.length ≡ length_of self.now.events) }
+    /// The live repository, the snapshots that the book knows, and the number of the last event. It
+    /// takes no memory.
+    pub fn view(&self) -> View<'_>
+        ensures { result ≡ shown_of self.now.opening self.now.events self.now.live }
     {
-        let repo = self.live.copy()?;
-        let known = known_snapshots(alloc, &self.history, &self.live)?;
-        Ok(View {
-            repo,
-            known,
-            length: self.history.length(),
-        })
+        View::of(&self.live, &self.history)
     }
 
     pub fn history(&self) -> &History

@@ -5,7 +5,7 @@ ghost use Rattle.keep_change.specs.Form.{IsWellFormed, least_unmet};
 ghost use Rattle.keep_change.specs.Touch.{facets};
 ghost use Rattle.keep_journal.specs.History.{final_number, is_change, last_change, length_of};
 ghost use Rattle.keep_book.specs.Dependents.{leaned_on, blocked_by, Passes};
-ghost use Rattle.keep_book.specs.BookState.{AreWellFormed};
+ghost use Rattle.keep_journal.specs.Opening.{AreWellFormed};
 ghost use Rattle.keep_book.specs.Limits.{change_limit, event_limit};
 ghost use Rattle.keep_book.specs.Reply.{first_of, is_full, is_full_for, commit_refusal, undo_refusal, redo_refusal, empty_refusal};
 

@@ -1,27 +1,13 @@
-ghost use Rattle.std.specs.Prelude.{◌≡◌, IfSome, option_copied};
+ghost use Rattle.std.specs.Prelude.{◌≡◌};
 ghost use Rattle.keep_change.specs.Fold.{first_leaning};
-ghost use Rattle.keep_change.specs.Form.{IsWellFormed};
 ghost use Rattle.keep_journal.specs.Kept.{later};
-ghost use Rattle.keep_book.specs.Dependents.{kept_change, leaned_on, blocked_at, blocked_by};
-ghost use Rattle.keep_book.specs.BookState.{AreWellFormed};
+ghost use Rattle.keep_journal.specs.Opening.{AreWellFormed};
+ghost use Rattle.keep_book.specs.Dependents.{leaned_on, blocked_at, blocked_by};
 
 use crate::place::Place;
 use keep_change::Change;
-use keep_journal::{History, Status};
+use keep_journal::History;
 use keep_repo::Repo;
-
-/// Change n, where it is in force and isn't final.
-pub(crate) fn kept_change(history: &History, n: u64) -> Option<&Change>
-    requires { AreWellFormed history.now.journal }
-    ensures exact { option_copied result ≡ kept_change history.now.journal n }
-    ensures formed { IfSome (option_copied result) IsWellFormed }
-{
-    let change = history.change(n)?;
-    match history.status(n) {
-        Status::InForce => Some(change),
-        Status::Unknown | Status::Final | Status::Undone => None,
-    }
-}
 
 /// The first change in force after n that touches what the change writes.
 pub(crate) fn first_leaning(history: &History, n: u64, change: &Change) -> Option<u64>
@@ -30,7 +16,7 @@ pub(crate) fn first_leaning(history: &History, n: u64, change: &Change) -> Optio
 {
     for before in n..history.last_change() {
         let number = before + 1;
-        if let Some(later) = kept_change(history, number) {
+        if let Some(later) = history.kept_change(number) {
             if later.leans_on(change) {
                 return Some(number);
             }

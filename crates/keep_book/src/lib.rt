@@ -4,7 +4,6 @@
 mod book;
 mod checks;
 mod dependents;
-mod known;
 mod place;
 mod reply;
 #[cfg(test)]

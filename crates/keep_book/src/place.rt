@@ -1,10 +1,9 @@
 ghost use Rattle.std.specs.Prelude.{◌≡◌, option_copied, MatchOption};
 ghost use Rattle.keep_change.specs.Touch.{before_of};
 ghost use Rattle.keep_change.specs.Form.{IsWellFormed};
-ghost use Rattle.keep_book.specs.BookState.{AreWellFormed};
+ghost use Rattle.keep_journal.specs.Opening.{AreWellFormed};
 ghost use Rattle.keep_book.specs.Formed.{AreWellFormed-prop};
 
-use crate::dependents::kept_change;
 use keep_change::{Change, Holder};
 use keep_journal::History;
 use keep_names::{FileName, Id};
@@ -35,7 +34,7 @@ impl Place<'_> {
             (λ c. IsWellFormed c × (there facet ≡ before_of c facet)) }
     {
         for before in self.number..self.history.last_change() {
-            if let Some(change) = kept_change(self.history, before + 1) {
+            if let Some(change) = self.history.kept_change(before + 1) {
                 if change.writes(facet) {
                     return Some(change);
                 }

@@ -39,28 +39,6 @@ pub enum Refusal {
     Memory,
 }
 
-impl Refusal {
-    ghost use Rattle.keep_book.specs.Refusal.{refusal_number};
-
-    /// The refusal's number, for those that have one.
-    pub fn number(&self) -> Option<u8>
-        ensures { result ≡ refusal_number self.now }
-    {
-        match self {
-            Refusal::Malformed => Some(12),
-            Refusal::Unknown => Some(24),
-            Refusal::Final => Some(25),
-            Refusal::NotInForce | Refusal::InForce => Some(26),
-            Refusal::Full => Some(27),
-            Refusal::Stale(_) => Some(28),
-            Refusal::Unmet(_) => Some(30),
-            Refusal::LeanedOn(_) => Some(31),
-            Refusal::Blocked(_) => Some(32),
-            Refusal::Memory => None,
-        }
-    }
-}
-
 impl fmt::Display for Refusal {
     ghost use Rattle.std.specs.Prelude.{Some};
     ghost use Rattle.keep_book.specs.Refusal.{refusal_text};

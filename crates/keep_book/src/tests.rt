@@ -1,7 +1,7 @@
 use crate::{Book, Refusal, Told};
 use keep_change::{Change, Listed, PackMark, Planned, StoredFile};
-use keep_names::{FileName, Id, Kind, id_of};
-use keep_repo::{Bytes, Facet, Mark, Repo};
+use keep_names::{FileName, Id, Kind};
+use keep_repo::{Facet, Mark, Repo};
 use std::alloc::{AllocError, Global};
 use std::test::Fail;
 
@@ -24,13 +24,9 @@ fn only<T: Drop>(alloc: Global, item: T) -> Result<Listed<T>, AllocError> {
 
 /// Adds an index of these bytes.
 fn addition(alloc: Global, bytes: &[u8]) -> Result<Change, AllocError> {
-    let name = FileName {
-        kind: Kind::Index,
-        id: id_of(bytes),
-    };
-    let bytes = Bytes::new(alloc, bytes.to_vec(alloc)?)?;
+    let file = StoredFile::of(alloc, Kind::Index, bytes.to_vec(alloc)?)?;
     let mut change = Change::new(alloc);
-    change.adds = only(alloc, StoredFile { name, bytes })?;
+    change.adds = only(alloc, file)?;
     Ok(change)
 }
 

@@ -10,51 +10,51 @@ use Rattle.std.specs.Map.{lookup}
 use Rattle.keep_names.proofs.Orders.{blob_total}
 use Rattle.keep_names.specs.declared.blob.BlobId.{BlobId}
 use Rattle.keep_names.specs.declared.id.Id.{Id}
-use Rattle.keep_pack.specs.declared.entry.PackEntry.{PackEntry}
+use Rattle.keep_names.specs.declared.blob.Blob.{Blob}
 use Rattle.keep_repo.specs.Repository.{Repository}
-use Rattle.keep_catalog.specs.Orders.{blob_eq, place_cmp, place_eq}
-use Rattle.keep_catalog.specs.Places.{is_honest, stored_of}
+use Rattle.keep_catalog.specs.Orders.{blob_eq, packed_blob_cmp, packed_blob_eq}
+use Rattle.keep_catalog.specs.Places.{is_honest, packed_of}
 use Rattle.keep_catalog.specs.Read.{Hashed, IsHashed}
-use Rattle.keep_catalog.specs.Wrong.{once, wrong_at}
-use Rattle.keep_catalog.specs.declared.spot.Place.{Place}
+use Rattle.keep_catalog.specs.Wrong.{first_of_each, wrong_at}
+use Rattle.keep_catalog.specs.declared.spot.PackedBlob.{PackedBlob}
 use Rattle.keep_catalog.proofs.Growing.{map_taken, taken_any, taken_more}
-use Rattle.keep_catalog.proofs.SpotOrders.{place_eq_same}
+use Rattle.keep_catalog.proofs.SpotOrders.{packed_blob_eq_same}
 
 module _ (r : Repository) (old new : Hashed) where
-  pub one_hashed : (place : Place) (honest : Bool) → ((q : Place) → tree.get place_cmp new q ≡ cond (is_at (place_cmp place) q) (Some honest) (tree.get place_cmp old q)) → honest ≡ is_honest r place.blob place.spot → IsHashed r old → IsHashed r new
-  one_hashed place honest put is before q b got = cases (place_eq place q) refl where
-    cases : (t : Bool) → place_eq place q ≡ t → is_honest r q.blob q.spot ≡ b
+  pub one_hashed : (place : PackedBlob) (honest : Bool) → ((q : PackedBlob) → tree.get packed_blob_cmp new q ≡ cond (is_at (packed_blob_cmp place) q) (Some honest) (tree.get packed_blob_cmp old q)) → honest ≡ is_honest r place.blob place.spot → IsHashed r old → IsHashed r new
+  one_hashed place honest put is before q b got = cases (packed_blob_eq place q) refl where
+    cases : (t : Bool) → packed_blob_eq place q ≡ t → is_honest r q.blob q.spot ≡ b
     cases true same =
-        let at : Some honest ≡ Some b = sym (put q ∙ ap (λ t. cond t (Some honest) (tree.get place_cmp old q)) same) ∙ got in
+        let at : Some honest ≡ Some b = sym (put q ∙ ap (λ t. cond t (Some honest) (tree.get packed_blob_cmp old q)) same) ∙ got in
         let e : honest ≡ b = cc at in
-        ap (λ (p : Place). is_honest r p.blob p.spot) (sym (place_eq_same place q same)) ∙ sym is ∙ e
-    cases false other = before q b (sym (put q ∙ ap (λ t. cond t (Some honest) (tree.get place_cmp old q)) other) ∙ got)
+        ap (λ (p : PackedBlob). is_honest r p.blob p.spot) (sym (packed_blob_eq_same place q same)) ∙ sym is ∙ e
+    cases false other = before q b (sym (put q ∙ ap (λ t. cond t (Some honest) (tree.get packed_blob_cmp old q)) other) ∙ got)
 
   pub same_hashed : new.entries ≡ old.entries → IsHashed r old → IsHashed r new
-  same_hashed same before q b got = before q b (sym (ap (lookup (is_at (place_cmp q))) same) ∙ got)
+  same_hashed same before q b got = before q b (sym (ap (lookup (is_at (packed_blob_cmp q))) same) ∙ got)
 
 pub none_hashed : (r : Repository) (none : Hashed) → none.entries ≡ [] → IsHashed r none
 none_hashed r none empty q b got = cc (rw empty at got)
 
 -- ---- wrong blobs
 
-pub wrong_none : (r : Repository) (p : Place) (blobs : List BlobId) → is_honest r p.blob p.spot ≡ true → blobs ≡ blobs ++ option_to_list (wrong_at r p)
+pub wrong_none : (r : Repository) (p : PackedBlob) (blobs : List BlobId) → is_honest r p.blob p.spot ≡ true → blobs ≡ blobs ++ option_to_list (wrong_at r p)
 wrong_none r p blobs h = rw h (sym (append-nil blobs))
 
-pub wrong_one : (r : Repository) (p : Place) (blobs : List BlobId) → is_honest r p.blob p.spot ≡ false → blobs ++ p.blob ∷ [] ≡ blobs ++ option_to_list (wrong_at r p)
+pub wrong_one : (r : Repository) (p : PackedBlob) (blobs : List BlobId) → is_honest r p.blob p.spot ≡ false → blobs ++ p.blob ∷ [] ≡ blobs ++ option_to_list (wrong_at r p)
 wrong_one r p blobs h = rw h refl
 
 cons_list : {Y : Type 0} (o : Option Y) → cons_option o [] ≡ option_to_list o
 cons_list None = refl
 cons_list (Some y) = refl
 
-pub more_wrong : (r : Repository) (pack : Id) (entries : List PackEntry) (i : ℕ) (d : PackEntry) (now later : List BlobId) → i < length entries → now ≡ filter_map (wrong_at r) (map (stored_of pack) (take i entries)) → later ≡ now ++ option_to_list (wrong_at r (stored_of pack (get_or entries i d))) → later ≡ filter_map (wrong_at r) (map (stored_of pack) (take (i + 1) entries))
+pub more_wrong : (r : Repository) (pack : Id) (entries : List Blob) (i : ℕ) (d : Blob) (now later : List BlobId) → i < length entries → now ≡ filter_map (wrong_at r) (map (packed_of pack) (take i entries)) → later ≡ now ++ option_to_list (wrong_at r (packed_of pack (get_or entries i d))) → later ≡ filter_map (wrong_at r) (map (packed_of pack) (take (i + 1) entries))
 more_wrong r pack entries i d now later lt so step =
-    let p = stored_of pack (get_or entries i d) in
+    let p = packed_of pack (get_or entries i d) in
     step ∙ ap (λ ys. ys ++ option_to_list (wrong_at r p)) so
-    ∙ ap (λ ys. filter_map (wrong_at r) (map (stored_of pack) (take i entries)) ++ ys) (sym (cons_list (wrong_at r p)))
-    ∙ sym (ap (filter_map (wrong_at r)) (map_taken entries i (get_or entries i d) d lt refl (stored_of pack))
-    ∙ filter_map-append (wrong_at r) (map (stored_of pack) (take i entries)) (p ∷ []))
+    ∙ ap (λ ys. filter_map (wrong_at r) (map (packed_of pack) (take i entries)) ++ ys) (sym (cons_list (wrong_at r p)))
+    ∙ sym (ap (filter_map (wrong_at r)) (map_taken entries i (get_or entries i d) d lt refl (packed_of pack))
+    ∙ filter_map-append (wrong_at r) (map (packed_of pack) (take i entries)) (p ∷ []))
 
 -- ---- each once
 
@@ -71,12 +71,12 @@ last_once x y false = ap (λ b. cond (not b) (x ∷ []) []) (blob_symm y x) ∙ 
   cases true = refl
   cases false = refl
 
-once_more : (xs : List BlobId) (x : BlobId) → once blob_eq (xs ++ x ∷ []) ≡ once blob_eq xs ++ cond (list_any (blob_eq x) xs) [] (x ∷ [])
+once_more : (xs : List BlobId) (x : BlobId) → first_of_each blob_eq (xs ++ x ∷ []) ≡ first_of_each blob_eq xs ++ cond (list_any (blob_eq x) xs) [] (x ∷ [])
 once_more [] x = refl
 once_more (y ∷ xs) x =
     ap (λ zs. y ∷ filter (λ z. not (blob_eq y z)) zs) (once_more xs x)
-    ∙ ap (λ zs. y ∷ zs) (filter-append (λ z. not (blob_eq y z)) (once blob_eq xs) (cond (list_any (blob_eq x) xs) [] (x ∷ []))
-    ∙ ap (λ zs. filter (λ z. not (blob_eq y z)) (once blob_eq xs) ++ zs) (last_once x y (list_any (blob_eq x) xs)))
+    ∙ ap (λ zs. y ∷ zs) (filter-append (λ z. not (blob_eq y z)) (first_of_each blob_eq xs) (cond (list_any (blob_eq x) xs) [] (x ∷ []))
+    ∙ ap (λ zs. filter (λ z. not (blob_eq y z)) (first_of_each blob_eq xs) ++ zs) (last_once x y (list_any (blob_eq x) xs)))
 
 abbrev pub in_pack : Id → BlobId → Id × BlobId
 in_pack pack blob = (pack, blob)
@@ -89,14 +89,14 @@ module _ (pack : Id) (blobs : List BlobId) (i : ℕ) (d : BlobId) (lt : i < leng
   abbrev x : BlobId
   x = get_or blobs i d
 
-  pub more_told : (before now later : List (Id × BlobId)) (was : Bool) → now ≡ before ++ map (in_pack pack) (once blob_eq (take i blobs)) → was ≡ list_any (blob_eq x) (take i blobs) → later ≡ now ++ cond was [] ((pack, x) ∷ []) → later ≡ before ++ map (in_pack pack) (once blob_eq (take (i + 1) blobs))
+  pub more_told : (before now later : List (Id × BlobId)) (was : Bool) → now ≡ before ++ map (in_pack pack) (first_of_each blob_eq (take i blobs)) → was ≡ list_any (blob_eq x) (take i blobs) → later ≡ now ++ cond was [] ((pack, x) ∷ []) → later ≡ before ++ map (in_pack pack) (first_of_each blob_eq (take (i + 1) blobs))
   more_told before now later was so told step =
       step ∙ ap (λ ys. ys ++ cond was [] ((pack, x) ∷ [])) so ∙ append_assoc before _ _
       ∙ ap (λ ys. before ++ ys)
-      (ap (λ b. map (in_pack pack) (once blob_eq (take i blobs)) ++ cond b [] ((pack, x) ∷ [])) told
-      ∙ ap (λ ys. map (in_pack pack) (once blob_eq (take i blobs)) ++ ys) (sym (map_last pack x (list_any (blob_eq x) (take i blobs))))
-      ∙ sym (ap (λ ys. map (in_pack pack) (once blob_eq ys)) (taken_more blobs i x d lt refl) ∙ ap (map (in_pack pack)) (once_more (take i blobs) x)
-      ∙ map-append (in_pack pack) (once blob_eq (take i blobs)) (cond (list_any (blob_eq x) (take i blobs)) [] (x ∷ []))))
+      (ap (λ b. map (in_pack pack) (first_of_each blob_eq (take i blobs)) ++ cond b [] ((pack, x) ∷ [])) told
+      ∙ ap (λ ys. map (in_pack pack) (first_of_each blob_eq (take i blobs)) ++ ys) (sym (map_last pack x (list_any (blob_eq x) (take i blobs))))
+      ∙ sym (ap (λ ys. map (in_pack pack) (first_of_each blob_eq ys)) (taken_more blobs i x d lt refl) ∙ ap (map (in_pack pack)) (once_more (take i blobs) x)
+      ∙ map-append (in_pack pack) (first_of_each blob_eq (take i blobs)) (cond (list_any (blob_eq x) (take i blobs)) [] (x ∷ []))))
 
   or_turn : (k a : Bool) → cond k true a ≡ (a || k)
   or_turn true true = refl

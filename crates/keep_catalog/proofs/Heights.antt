@@ -5,7 +5,7 @@ use Rattle.std.specs.Option.{option_or}
 use Rattle.keep_names.specs.declared.blob.BlobId.{BlobId}
 use Rattle.keep_names.specs.declared.blob.BlobType.{BlobType}
 use Rattle.keep_names.specs.declared.blob.BlobType.TheVariants.{Content, Tree}
-use Rattle.keep_catalog.specs.Reach.{Naming, first_of, is_tree, own_or, refusal_at}
+use Rattle.keep_catalog.specs.Reach.{Naming, first_of, has_type_tree, own_or, refusal_at}
 use Rattle.keep_catalog.specs.Walk.{HasHeight, HaveHeight, too_deep}
 use Rattle.keep_catalog.specs.declared.reach_error.ReachError.{ReachError}
 use Rattle.keep_catalog.specs.declared.reach_error.ReachError.TheVariants.{TooDeep}
@@ -63,8 +63,8 @@ module _ (refusal : BlobId → Option ReachError) where
 -- ---- heights
 
 -- a piece needs no level
-at_zero : (named : Naming) (blob : BlobId) (t : BlobType) → t ≡ Content → cond (is_tree t) (Some TooDeep) (own_or (λ _. None) (named blob)) ≡ own_or (λ _. None) (named blob)
-at_zero named blob t piece = ap (λ x. cond (is_tree x) (Some TooDeep) (own_or (λ _. None) (named blob))) piece
+at_zero : (named : Naming) (blob : BlobId) (t : BlobType) → t ≡ Content → cond (has_type_tree t) (Some TooDeep) (own_or (λ _. None) (named blob)) ≡ own_or (λ _. None) (named blob)
+at_zero named blob t piece = ap (λ x. cond (has_type_tree x) (Some TooDeep) (own_or (λ _. None) (named blob))) piece
 
 module _ (named : Naming) where
   pub piece_height : (blob : BlobId) → blob.blob_type ≡ Content → named blob ≡ Ok [] → HasHeight named blob 0

@@ -1,5 +1,6 @@
--- What `find` finds among the entries of a map is the least that passes the test.
-use Rattle.std.proofs.Common.{◌≡◌, ◌≢◌, ◌&&◌, Bool, true, false, cond, List, [], ◌∷◌, Option, None, Some, refl, sym, ap, subst, ◌∙◌, T, Ordering, Less, Equal, Greater}
+-- What `find` finds among the entries of a map is the least that passes the test, and so the chosen place the
+-- least of the open ones.
+use Rattle.std.proofs.Common.{◌≡◌, ◌≢◌, ◌&&◌, Bool, true, false, cond, List, [], ◌∷◌, Option, None, Some, is_some, refl, sym, ap, subst, ◌∙◌, T, Ordering, Less, Equal, Greater}
 use Rattle.std.specs.Cmp.{tied_itself}
 use Rattle.std.specs.FinMap as finite
 use Rattle.std.specs.FinMap.Entries.{below_all}
@@ -9,28 +10,17 @@ use Rattle.std.proofs.lemmas.Map.Views.{tells_apart}
 use Rattle.keep_names.specs.declared.blob.BlobId.{BlobId}
 use Rattle.keep_names.specs.declared.id.Id.{Id}
 use Rattle.keep_repo.specs.Repository.{Repository}
-use Rattle.keep_catalog.specs.Chosen.{IsChosen}
+use Rattle.keep_catalog.specs.Chosen.{IsChosen, IsOpenPlace}
 use Rattle.keep_catalog.specs.Orders.{spot_cmp}
-use Rattle.keep_catalog.specs.Places.{chosen_listing, is_open, spots_of}
+use Rattle.keep_catalog.specs.Places.{chosen_listing, is_honest, is_open, is_unmarked, spots_of}
 use Rattle.keep_catalog.specs.declared.spot.Spot.{Spot}
-use Rattle.keep_catalog.proofs.SpotOrders.{spot_exact, spot_total}
-
-first_of_both : (a b : Bool) → T (a && b) → T a
-first_of_both true b h = tt
-first_of_both false b h = h
-
-second_of_both : (a b : Bool) → T (a && b) → T b
-second_of_both true b h = h
-second_of_both false b h = absurd h
+use Rattle.keep_catalog.proofs.Ids.{first_of_both, less, second_of_both}
+use Rattle.keep_catalog.proofs.SpotOrders.{spot_exact, spot_less, spot_total}
+use Rattle.keep_catalog.proofs.Spots.{spot_kept, spot_least, spot_listed, spot_stored}
 
 both_of : (a b : Bool) → T a → T b → T (a && b)
 both_of true b g h = h
 both_of false b g h = g
-
-less : (o : Ordering) → T (is_lt o) → o ≡ Less
-less Less h = refl
-less Equal h = absurd h
-less Greater h = absurd h
 
 -- a spot that is above another isn't below it, and isn't it
 above : (a b : Spot) → spot_cmp a b ≡ Less → spot_cmp b a ≡ Greater
@@ -42,7 +32,7 @@ not_below a b h below = cc (above a b h, below)
 not_itself : (a : Spot) → spot_cmp a a ≢ Less
 not_itself a below = cc (tied_itself spot_total a, below)
 
-abbrev Entries : Type 0
+abbrev pub Entries : Type 0
 Entries = List (Spot × Id)
 
 -- the spot after the first are above it
@@ -65,7 +55,7 @@ after_first x (y ∷ es) q w sorted h = cases (after_first x es q w rest) (eq_by
 
 module _ (p : Spot × Id → Bool) where
   -- where some entry passes, find finds one that it is not below
-  picks : (es : Entries) (q : Spot) (w : Id) → T (finite.is_sorted spot_cmp es) → finite.find spot_cmp q es ≡ Some w → p (q, w) ≡ true → (e : Spot × Id) × (find p es ≡ Some e) × (spot_cmp q e.0 ≢ Less)
+  pub picks : (es : Entries) (q : Spot) (w : Id) → T (finite.is_sorted spot_cmp es) → finite.find spot_cmp q es ≡ Some w → p (q, w) ≡ true → (e : Spot × Id) × (find p es ≡ Some e) × (spot_cmp q e.0 ≢ Less)
   picks [] q w sorted h passes = cc h
   picks (x ∷ es) q w sorted h passes =
       cases (λ there. picks es q w (second_of_both (below_all spot_cmp x.0 es) (finite.is_sorted spot_cmp es) sorted) there passes) (eq_by_cmp spot_cmp q x.0) refl (p x) refl h where
@@ -82,7 +72,7 @@ module _ (p : Spot × Id → Bool) where
         cases later false other false picked there = later there
 
   -- what find finds is an entry that passes
-  finds : (es : Entries) (e : Spot × Id) → T (finite.is_sorted spot_cmp es) → find p es ≡ Some e → (finite.find spot_cmp e.0 es ≡ Some e.1) × (p e ≡ true)
+  pub finds : (es : Entries) (e : Spot × Id) → T (finite.is_sorted spot_cmp es) → find p es ≡ Some e → (finite.find spot_cmp e.0 es ≡ Some e.1) × (p e ≡ true)
   finds [] e sorted h = cc h
   finds (x ∷ es) e sorted h = cases (finds es e (second_of_both (below_all spot_cmp x.0 es) (finite.is_sorted spot_cmp es) sorted)) (p x) refl h where
     here : Spot × Id → Type 0
@@ -105,10 +95,20 @@ module _ (p : Spot × Id → Bool) where
 abbrev open_at : Repository → BlobId → Spot × Id → Bool
 open_at r blob e = is_open r blob e.0
 
--- the chosen listing is the least of the open ones
-pub chosen_so : (r : Repository) (blob : BlobId) → IsChosen r blob (chosen_listing r blob)
+-- a spot that is kept and open, and the first of those
+abbrev IsOpenSpot : Repository → BlobId → Spot → Id → Type 0
+IsOpenSpot r blob spot index =
+    (finite.get (spots_of r blob) spot ≡ Some index) × (is_open r blob spot ≡ true)
+
+abbrev IsFirstOpen : Repository → BlobId → Option (Spot × Id) → Type 0
+IsFirstOpen r blob None = (spot : Spot) (index : Id) → ¬ IsOpenSpot r blob spot index
+IsFirstOpen r blob (Some c) =
+    IsOpenSpot r blob c.0 c.1
+    × ((spot : Spot) (index : Id) → IsOpenSpot r blob spot index → spot_cmp spot c.0 ≢ Less)
+
+first_chosen : (r : Repository) (blob : BlobId) → IsFirstOpen r blob (chosen_listing r blob)
 unfolding chosen_listing
-chosen_so r blob = cases (find (open_at r blob) es) refl where
+first_chosen r blob = cases (find (open_at r blob) es) refl where
   es : Entries
   es = finite.entries (spots_of r blob)
 
@@ -118,7 +118,7 @@ chosen_so r blob = cases (find (open_at r blob) es) refl where
   listed : (q : Spot) (w : Id) → finite.get (spots_of r blob) q ≡ Some w → finite.find spot_cmp q es ≡ Some w
   listed q w h = sym (finite.get-entries (spots_of r blob) q) ∙ h
 
-  cases : (o : Option (Spot × Id)) → find (open_at r blob) es ≡ o → IsChosen r blob o
+  cases : (o : Option (Spot × Id)) → find (open_at r blob) es ≡ o → IsFirstOpen r blob o
   cases None none = λ q w at_spot.
       let found = picks (open_at r blob) es q w sorted (listed q w at_spot.0) at_spot.1 in
       cc (none, found.1)
@@ -131,3 +131,45 @@ chosen_so r blob = cases (find (open_at r blob) es) refl where
             let P : Spot × Id → Type 0 = λ x. spot_cmp q x.0 ≢ Less in
             subst P same least.2,
       )
+
+-- ---- in the words of indexes, headers and bytes
+
+both_true : (a b : Bool) → (a && b) ≡ true → (a ≡ true) × (b ≡ true)
+both_true true b h = (refl, h)
+both_true false b h = cc h
+
+pub some_index : (o : Option Id) → is_some o ≡ true → (x : Id) × (o ≡ Some x)
+some_index None h = cc h
+some_index (Some x) h = (x, refl)
+
+module _ (r : Repository) (blob : BlobId) where
+  -- an open spot is an open place
+  open_place : (spot : Spot) (index : Id) → IsOpenSpot r blob spot index → IsOpenPlace r blob spot index
+  open_place spot index is =
+      let parts = both_true (is_unmarked r spot.pack) (is_honest r blob spot) is.1 in
+      record {
+        listed = spot_listed r blob spot index is.0;
+        stored = spot_stored r blob spot index is.0;
+        honest = parts.1;
+        unmarked = parts.0;
+      }
+
+  -- an open place is an open spot, by the index that is kept
+  open_spot : (spot : Spot) (index : Id) → IsOpenPlace r blob spot index → (kept : Id) × IsOpenSpot r blob spot kept
+  open_spot spot index place =
+      let kept = some_index (finite.get (spots_of r blob) spot) (spot_kept r blob spot index place.listed place.stored) in
+      (kept.0, (kept.1, ap (λ b. b && is_honest r blob spot) place.unmarked ∙ place.honest))
+
+  by_places : (o : Option (Spot × Id)) → IsFirstOpen r blob o → IsChosen r blob o
+  by_places None none = λ spot index place. let kept = open_spot spot index place in none spot kept.0 kept.1
+  by_places (Some c) first = record {
+    place = open_place c.0 c.1 first.0;
+    least_spot = λ spot index place lesser.
+        let kept = open_spot spot index place in
+        first.1 spot kept.0 kept.1 ((spot_less spot c.0).1 lesser);
+    least_index = spot_least r blob c.0 c.1 first.0.0;
+  }
+
+  -- the chosen place is the least of the open ones
+  pub chosen_so : IsChosen r blob (chosen_listing r blob)
+  chosen_so = by_places (chosen_listing r blob) (first_chosen r blob)

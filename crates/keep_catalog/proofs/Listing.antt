@@ -12,8 +12,8 @@ use Rattle.keep_names.specs.declared.blob.BlobId.{BlobId}
 use Rattle.keep_names.specs.declared.id.Id.{Id}
 use Rattle.keep_catalog.specs.Orders.{spot_cmp, spot_eq, blob_eq}
 use Rattle.keep_catalog.specs.Places.{candidate}
-use Rattle.keep_catalog.specs.Read.{Listed, listing_at}
-use Rattle.keep_catalog.specs.declared.spot.Place.{Place}
+use Rattle.keep_catalog.specs.Read.{Listings, listing_at}
+use Rattle.keep_catalog.specs.declared.spot.PackedBlob.{PackedBlob}
 use Rattle.keep_catalog.specs.declared.spot.Spot.{Spot}
 use Rattle.keep_catalog.proofs.SpotOrders.{blob_eq_same, blob_eq_refl, spot_eq_same, spot_total}
 
@@ -29,7 +29,7 @@ none_after : {A : Type 0} (o : Option A) → o ≡ option_or o None
 none_after None = refl
 none_after (Some x) = refl
 
-module _ (stored : Place → Bool) (old removed new : Listed) (spots spots' fresh : BTreeMap Spot Id) (place : Place) (index : Id)
+module _ (stored : PackedBlob → Bool) (old removed new : Listings) (spots spots' fresh : BTreeMap Spot Id) (place : PackedBlob) (index : Id)
     (put : (q : BlobId) → tree.get blob_cmp new q ≡ cond (is_at (blob_cmp place.blob) q) (Some spots') (tree.get blob_cmp removed q))
     (took : (q : BlobId) → tree.get blob_cmp removed q ≡ cond (is_at (blob_cmp place.blob) q) None (tree.get blob_cmp old q))
     (lent : spots ≡ unwrap_or (tree.get blob_cmp old place.blob) fresh)

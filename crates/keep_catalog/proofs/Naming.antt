@@ -1,15 +1,16 @@
 -- What nodes name, one node later, and what a piece and a tree name.
-use Rattle.std.proofs.Common.{◌≡◌, ℕ, ◌+◌, ◌<◌, List, [], ◌∷◌, ◌++◌, map, take, length, get_or, Option, None, Some, Ok, Err, sym, ap, ◌∙◌}
+use Rattle.std.proofs.Common.{◌≡◌, ℕ, ◌+◌, ◌<◌, List, [], ◌∷◌, ◌++◌, map, take, length, get_or, Option, None, Some, Ok, Err, refl, sym, ap, ◌∙◌}
 use Rattle.std.proofs.lemmas.List.{append-nil}
 use Rattle.std.proofs.lemmas.Grind.{flat_map-append}
 use Rattle.std.specs.List.{flat_map}
+use Rattle.keep_names.specs.BlobId.{tree_at}
 use Rattle.keep_names.specs.declared.blob.BlobId.{BlobId}
 use Rattle.keep_names.specs.declared.blob.BlobType.TheVariants.{Content}
 use Rattle.keep_names.specs.declared.id.Id.{Id}
 use Rattle.keep_repo.specs.Repository.{Repository}
 use Rattle.keep_tree.specs.Tree.{node_view}
 use Rattle.keep_tree.specs.declared.node.Node.{Node}
-use Rattle.keep_catalog.specs.Naming.{missing, named_at, named_by, named_of, names_at, why_missing}
+use Rattle.keep_catalog.specs.Naming.{blobs_named, missing, named_at, named_by, named_of, names_at, nodes_at_spot, nodes_chosen, nodes_under, why_missing}
 use Rattle.keep_catalog.specs.Places.{chosen_listing, spots_of}
 use Rattle.keep_catalog.specs.declared.spot.Spot.{Spot}
 use Rattle.std.specs.FinMap as finite
@@ -41,3 +42,22 @@ pieces_name_nothing r blob names piece is = cases (chosen_listing r blob) is whe
   cases : (o : Option (Spot × Id)) → named_at r blob o ≡ Ok names → named_at r blob o ≡ Ok []
   cases None h = cc h
   cases (Some e) h = ap (λ t. names_at r t e.0) piece
+
+-- the nodes of a tree, by its chosen listing
+module _ (r : Repository) (tree : Id) (blob : BlobId) (is : blob ≡ tree_at tree) where
+  pub nodes_there : (e : Spot × Id) → chosen_listing r blob ≡ Some e → nodes_under r tree ≡ nodes_at_spot r e.0
+  unfolding nodes_under
+  nodes_there e chosen = ap (nodes_chosen r tree) (sym (ap (chosen_listing r) is) ∙ chosen)
+
+  pub nodes_nowhere : chosen_listing r blob ≡ None → nodes_under r tree ≡ Err (missing r blob)
+  unfolding nodes_under
+  nodes_nowhere none =
+      ap (nodes_chosen r tree) (sym (ap (chosen_listing r) is) ∙ none) ∙ ap (λ b. Err (missing r b)) (sym is)
+
+-- a tree names what its nodes name
+pub trees_name : (r : Repository) (tree : Id) → named_by r (tree_at tree) ≡ blobs_named (nodes_under r tree)
+unfolding named_by nodes_under
+trees_name r tree = cases (chosen_listing r (tree_at tree)) where
+  cases : (o : Option (Spot × Id)) → named_at r (tree_at tree) o ≡ blobs_named (nodes_chosen r tree o)
+  cases None = refl
+  cases (Some e) = refl

@@ -2,26 +2,28 @@
 use Rattle.std.proofs.Common.{◌≡◌, ◌≢◌, ℕ, List, [], ◌∷◌, ◌++◌, Option, None, Some, Result, Ok, Err, option_map, option_to_list, refl, sym, ap, ◌∙◌}
 use Rattle.std.proofs.lemmas.List.{append-nil}
 use Rattle.std.specs.FinMap as finite
+use Rattle.keep_names.specs.FileName.{named}
+use Rattle.keep_names.specs.declared.file_name.FileName.{FileName}
 use Rattle.keep_names.specs.declared.file_name.Kind.{Kind}
 use Rattle.keep_names.specs.declared.id.Id.{Id}
 use Rattle.keep_repo.specs.Repository.{Repository}
 use Rattle.keep_pack.specs.Reading.{Refuses}
-use Rattle.keep_pack.specs.declared.entry.PackEntry.{PackEntry}
+use Rattle.keep_names.specs.declared.blob.Blob.{Blob}
 use Rattle.keep_pack.specs.declared.pack_error.PackError.{PackError}
 use Rattle.keep_pack.specs.declared.pack_error.PackError.TheVariants.{ShortPack, BadHeaderLength, BadBlobType, LengthsDontFit, Memory}
 use Rattle.keep_catalog.specs.Files.{file_in, refusal_in}
 
 module _ {X E : Type 0} (r : Repository) (kind : Kind) (id : Id) (reader : List ℕ → Result X E) where
   -- there is no such file
-  pub not_there : None ≡ finite.get r.files (record { kind = kind; id = id }) → option_map reader (file_in r kind id) ≡ None
+  pub not_there : (name : FileName) → name ≡ named kind id → None ≡ finite.get r.files name → option_map reader (file_in r kind id) ≡ None
   unfolding file_in
-  not_there absent = ap (option_map reader) (sym absent)
+  not_there name is absent = ap (option_map reader) (sym (absent ∙ ap (finite.get r.files) is))
 
   -- what a reader makes of a file that is there
-  pub read_as : (bytes lent : List ℕ) (answer : Result X E) → Some bytes ≡ finite.get r.files (record { kind = kind; id = id }) → lent ≡ bytes → reader lent ≡ answer → option_map reader (file_in r kind id) ≡ Some answer
+  pub read_as : (name : FileName) (bytes lent : List ℕ) (answer : Result X E) → name ≡ named kind id → Some bytes ≡ finite.get r.files name → lent ≡ bytes → reader lent ≡ answer → option_map reader (file_in r kind id) ≡ Some answer
   unfolding file_in
-  read_as bytes lent answer there same is =
-      ap (option_map reader) (sym there) ∙ ap (λ b. Some (reader b)) (sym same) ∙ ap Some is
+  read_as name bytes lent answer named_so there same is =
+      ap (option_map reader) (sym (there ∙ ap (finite.get r.files) named_so)) ∙ ap (λ b. Some (reader b)) (sym same) ∙ ap Some is
 
 module _ {X E U : Type 0} (note : E → U) (found : Option (Result X E)) (noted : List U) where
   pub absent_unnoted : found ≡ None → noted ≡ noted ++ option_to_list (option_map note (refusal_in found))
@@ -34,7 +36,7 @@ module _ {X E U : Type 0} (note : E → U) (found : Option (Result X E)) (noted 
   refused_noted e is = rw is refl
 
 -- a pack's refusal that isn't want of memory is the header's
-pub refused : (e : PackError) (header : Result (List PackEntry) PackError) → e ≢ Memory → Refuses e header → header ≡ Err e
+pub refused : (e : PackError) (header : Result (List Blob) PackError) → e ≢ Memory → Refuses e header → header ≡ Err e
 refused ShortPack header other h = h
 refused BadHeaderLength header other h = h
 refused BadBlobType header other h = h

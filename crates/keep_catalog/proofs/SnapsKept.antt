@@ -1,33 +1,29 @@
 -- The snapshots that a catalog keeps are those that can be read.
-use Rattle.std.proofs.Common.{◌≡◌, ℕ, Bool, true, false, ◌||◌, cond, List, [], ◌∷◌, map, filter, Option, None, Some, option_map, is_some, refl, sym, ap, subst, ◌∙◌}
+use Rattle.std.proofs.Common.{◌≡◌, ℕ, Bool, true, false, ◌||◌, cond, List, [], ◌∷◌, map, Option, None, Some, option_map, is_some, refl, sym, ap, subst, ◌∙◌}
 use Rattle.std.proofs.lemmas.Map.Made.{keys_of-map_values, lookup-map_values}
 use Rattle.std.proofs.lemmas.Map.Views.{tells_apart}
 use Rattle.std.specs.BTreeMap.{BTreeMap, IsOrdered, is_at}
 use Rattle.std.specs.BTreeMap as tree
-use Rattle.std.specs.Cmp.{eq_by_cmp_equiv, tied_itself}
+use Rattle.std.specs.Cmp.{eq_by_cmp_equiv}
 use Rattle.std.specs.FinMap as finite
 use Rattle.std.specs.List.{cons_option, filter_map, list_any}
 use Rattle.std.specs.List.Sorted.{IsStrictlySortedBy}
 use Rattle.std.specs.Map.{keys_of}
 use Rattle.std.specs.Option.{option_and_then, option_or}
-use Rattle.std.specs.Ordering.{eq_by_cmp, is_eq}
 use Rattle.std.specs.Result.{result_ok}
-use Rattle.keep_names.proofs.Orders.{id_exact, id_total, name_exact}
-use Rattle.keep_names.specs.Orders.{id_cmp, name_cmp}
-use Rattle.keep_names.specs.declared.file_name.FileName.{FileName}
+use Rattle.keep_names.proofs.Orders.{id_exact, id_total}
+use Rattle.keep_names.specs.FileName.{named}
+use Rattle.keep_names.specs.Orders.{id_cmp}
 use Rattle.keep_names.specs.declared.file_name.Kind.TheVariants.{Snapshot}
 use Rattle.keep_names.specs.declared.id.Id.{Id}
 use Rattle.keep_repo.proofs.Maps.{entries_made, get_made}
 use Rattle.keep_repo.specs.Repository.{Repository}
 use Rattle.keep_snap.specs.Snap.{SnapData, snap_view}
 use Rattle.keep_snap.specs.declared.snap.Snap.{Snap}
-use Rattle.keep_catalog.specs.Files.{file_in, ids_among, ids_in, named_snap, snap_in, snap_of, snaps_in}
-use Rattle.keep_catalog.specs.Orders.{kind_eq, same_id}
+use Rattle.keep_catalog.specs.Files.{file_in, ids_in, named_snap, snap_in, snap_of, snaps_in}
+use Rattle.keep_catalog.specs.Orders.{same_id}
 use Rattle.keep_catalog.specs.Read.{snap_at}
-use Rattle.keep_catalog.proofs.Present.{map_cond, or_true}
-
-id_refl : (id : Id) → same_id id id ≡ true
-id_refl id = ap is_eq (tied_itself id_total id)
+use Rattle.keep_catalog.proofs.Ids.{id_there}
 
 -- ---- one snapshot more
 
@@ -68,33 +64,14 @@ one_snap r a q x now later so step =
 
 -- ---- all snapshots
 
-abbrev snap_name : Id → FileName
-snap_name id = record { kind = Snapshot; id = id }
-
-behind : (id x : Id) (b : Bool) (ids : List Id) → list_any (same_id id) ids ≡ true → list_any (same_id id) (cond b (x ∷ ids) ids) ≡ true
-behind id x true ids h = ap (λ b. same_id id x || b) h ∙ or_true (same_id id x)
-behind id x false ids h = h
-
-by_name : (names : List FileName) (id : Id) → list_any (eq_by_cmp name_cmp (snap_name id)) names ≡ true → list_any (same_id id) (ids_among Snapshot names) ≡ true
-by_name [] id h = cc h
-by_name (name ∷ names) id h = cases (by_name names id) (eq_by_cmp name_cmp (snap_name id) name) refl h where
-  cases : (list_any (eq_by_cmp name_cmp (snap_name id)) names ≡ true → list_any (same_id id) (ids_among Snapshot names) ≡ true) → (b : Bool) → eq_by_cmp name_cmp (snap_name id) name ≡ b → (b || list_any (eq_by_cmp name_cmp (snap_name id)) names) ≡ true → list_any (same_id id) (ids_among Snapshot (name ∷ names)) ≡ true
-  cases others true same _ =
-      let P : FileName → Type 0 = λ x. list_any (same_id id) (ids_among Snapshot (x ∷ names)) ≡ true in
-      subst P (tells_apart name_exact (snap_name id) name same) (ap (λ b. b || list_any (same_id id) (ids_among Snapshot names)) (id_refl id))
-  cases others false _ rest =
-      let Q : List Id → Type 0 = λ ids. list_any (same_id id) ids ≡ true in
-      subst Q (sym (map_cond (λ (n : FileName). n.id) (kind_eq name.kind Snapshot) name (filter (λ n. kind_eq n.kind Snapshot) names)))
-      (behind id name.id (kind_eq name.kind Snapshot) (ids_among Snapshot names) (others rest))
-
 absent : (r : Repository) (q : Id) → list_any (same_id q) (ids_in r Snapshot) ≡ false → None ≡ snap_in r q
 unfolding snap_in file_in
-absent r q none = cases (finite.get r.files (snap_name q)) refl where
-  cases : (o : Option (List ℕ)) → finite.get r.files (snap_name q) ≡ o → None ≡ option_and_then result_ok (option_map snap_of o)
+absent r q none = cases (finite.get r.files (named Snapshot q)) refl where
+  cases : (o : Option (List ℕ)) → finite.get r.files (named Snapshot q) ≡ o → None ≡ option_and_then result_ok (option_map snap_of o)
   cases None h = refl
   cases (Some bytes) h =
-      let named = by_name (finite.keys r.files) q (sym (finite.contains_key-keys r.files (snap_name q)) ∙ ap is_some h) in
-      cc (none, named)
+      let among : list_any (same_id q) (ids_in r Snapshot) ≡ true = id_there Snapshot r q (ap is_some h) in
+      cc (none, among)
 
 present : (r : Repository) (q : Id) → cond (list_any (same_id q) (ids_in r Snapshot)) (snap_in r q) None ≡ snap_in r q
 present r q = cases (list_any (same_id q) (ids_in r Snapshot)) refl where

@@ -1,8 +1,9 @@
 -- What a walk remembers, one blob later.
 use Rattle.std.proofs.Common.{◌≡◌, ◌↔◌, ◌⊎◌, ℕ, zero, suc, ◌+◌, ◌-◌, ◌<◌, ◌≤◌, max, Bool, true, false, cond, List, [], ◌∷◌, ◌++◌, length, get_or, take, Some, Ok, is_some, refl, sym, ap, subst, ◌∙◌, inl, inr, arith}
-use Rattle.std.specs.BTreeMap.{is_at}
+use Rattle.std.specs.BTreeMap.{IsOrdered, is_at}
 use Rattle.std.specs.BTreeMap as tree
-use Rattle.std.specs.Map.{lookup}
+use Rattle.std.specs.List.Sorted.{IsStrictlySortedBy}
+use Rattle.std.specs.Map.{keys_of, lookup}
 use Rattle.keep_names.specs.Orders.{blob_cmp}
 use Rattle.keep_names.specs.declared.blob.BlobId.{BlobId}
 use Rattle.keep_names.specs.declared.blob.BlobType.TheVariants.{Content}
@@ -67,8 +68,9 @@ module _ (old new : Walked) (blob : BlobId) (found : Found) (put : (q : BlobId) 
 
   module _ (named : Naming) where
     -- a blob is remembered after all that it names
-    pub put_walked : (chosen : Choosing) → IsWalked named chosen old → HasHeight named blob found.height → chosen blob ≡ Some (found.spot, found.index) → ((b : BlobId) → Names named blob b → Knows old b) → IsWalked named chosen new
-    put_walked chosen walked has place names = record {
+    pub put_walked : (chosen : Choosing) → IsWalked named chosen old → HasHeight named blob found.height → chosen blob ≡ Some (found.spot, found.index) → ((b : BlobId) → Names named blob b → Knows old b) → IsOrdered blob_cmp new → IsWalked named chosen new
+    put_walked chosen walked has place names ordered = record {
+      ordered = ordered;
       heights = put_holds (λ b f. HasHeight named b f.height) walked.heights has;
       places = put_holds (λ b f. chosen b ≡ Some (f.spot, f.index)) walked.places place;
       closed = λ a b knows named_so. elim (put_from a knows) [
@@ -102,6 +104,13 @@ module _ (old new : Walked) (blob : BlobId) (found : Found) (put : (q : BlobId) 
         let same : suc levels - 1 ≡ levels = omega arith in
         let R : ℕ → Type 0 = λ n. Reaches named n from.top b in
         (from.top, rw is from.among, subst R same from.reached)
+
+abbrev in_order : List (BlobId × Found) → Type 0
+in_order es = IsStrictlySortedBy blob_cmp (keys_of es)
+
+none_ordered : in_order []
+unfolding IsStrictlySortedBy
+none_ordered = tt
 
 module _ (named : Naming) (chosen : Choosing) where
   pub same_grew : (levels : ℕ) (blob : BlobId) (walked : Walked) → Grew named levels blob walked walked
@@ -174,6 +183,7 @@ module _ (named : Naming) (chosen : Choosing) where
     heights = λ b f is. walked.heights b f (sym (got b) ∙ is);
     places = λ b f is. walked.places b f (sym (got b) ∙ is);
     closed = λ a b knows names. record { known = ap is_some (got b) ∙ (walked.closed a b (record { known = sym (ap is_some (got a)) ∙ knows.known }) names).known };
+    ordered = subst in_order (sym same) walked.ordered;
   } where
     got : (b : BlobId) → tree.get blob_cmp new b ≡ tree.get blob_cmp old b
     got b = ap (lookup (is_at (blob_cmp b))) same
@@ -192,6 +202,7 @@ module _ (named : Naming) (chosen : Choosing) where
     heights = λ b h is. cc (rw empty at is);
     places = λ b h is. cc (rw empty at is);
     closed = λ a b was names. absurd (nothing a was);
+    ordered = subst in_order (sym empty) none_ordered;
   } where
     nothing : (b : BlobId) → Knows none b → ⊥
     nothing b was = let h : is_some (tree.get blob_cmp none b) ≡ true = was.known in cc (rw empty at h)

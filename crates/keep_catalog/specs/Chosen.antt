@@ -1,23 +1,41 @@
--- What the chosen place of a blob is, by the places themselves.
+-- What the chosen place of a blob is, by what indexes list, what headers have and what bytes hash to.
 use Rattle.std.specs.Prelude.{◌≡◌, ◌≢◌, true, Option, None, Some}
 use Rattle.std.specs.declared.cmp.Ordering.TheVariants.{Less}
-use Rattle.std.specs.FinMap as finite
+use Rattle.keep_names.specs.Orders.{id_cmp}
 use Rattle.keep_names.specs.declared.blob.BlobId.{BlobId}
 use Rattle.keep_names.specs.declared.id.Id.{Id}
 use Rattle.keep_repo.specs.Repository.{Repository}
-use Rattle.keep_catalog.specs.Orders.{spot_cmp}
-use Rattle.keep_catalog.specs.Places.{spots_of, is_open}
+use Rattle.keep_catalog.specs.Orders.{IsLessSpot}
+use Rattle.keep_catalog.specs.Places.{at, is_among, is_honest, is_stored, is_unmarked, listed_in}
 use Rattle.keep_catalog.specs.declared.spot.Spot.{Spot}
 
--- an index lists the blob there and the pack's header has it, the pack is unmarked, and the bytes have the
--- blob's id
-abbrev pub IsOpenPlace : Repository → BlobId → Spot → Id → Type 0
-IsOpenPlace r blob spot index =
-    (finite.get (spots_of r blob) spot ≡ Some index) × (is_open r blob spot ≡ true)
+-- this index is there and lists the blob at the spot
+abbrev pub IsListed : Repository → BlobId → Spot → Id → Type 0
+IsListed r blob spot index = is_among (listed_in r index) (at blob spot) ≡ true
 
--- the least of the open places, none where there is none
+-- the header of the spot's pack has the blob there
+abbrev pub IsStored : Repository → BlobId → Spot → Type 0
+IsStored r blob spot = is_stored r (at blob spot) ≡ true
+
+-- no index of a lesser name lists it there
+abbrev pub IsLeastIndex : Repository → BlobId → Spot → Id → Type 0
+IsLeastIndex r blob spot index = (other : Id) → IsListed r blob spot other → id_cmp other index ≢ Less
+
+-- this index lists the blob at the spot, the header of its pack has it there, the bytes there have its id,
+-- and the pack has no mark
+pub record IsOpenPlace (r : Repository) (blob : BlobId) (spot : Spot) (index : Id) : Type 0 where
+  pub listed : IsListed r blob spot index
+  pub stored : IsStored r blob spot
+  pub honest : is_honest r blob spot ≡ true
+  pub unmarked : is_unmarked r spot.pack ≡ true
+
+-- it is such a place, no lesser spot is one by any index, and the index is the least that lists it there
+pub record IsLeastPlace (r : Repository) (blob : BlobId) (spot : Spot) (index : Id) : Type 0 where
+  pub place : IsOpenPlace r blob spot index
+  pub least_spot : (other : Spot) (by : Id) → IsOpenPlace r blob other by → ¬ IsLessSpot other spot
+  pub least_index : IsLeastIndex r blob spot index
+
+-- the least of the open places; none just where there is none
 abbrev pub IsChosen : Repository → BlobId → Option (Spot × Id) → Type 0
 IsChosen r blob None = (spot : Spot) (index : Id) → ¬ IsOpenPlace r blob spot index
-IsChosen r blob (Some c) =
-    IsOpenPlace r blob c.0 c.1
-    × ((spot : Spot) (index : Id) → IsOpenPlace r blob spot index → spot_cmp spot c.0 ≢ Less)
+IsChosen r blob (Some c) = IsLeastPlace r blob c.0 c.1

@@ -1,37 +1,36 @@
 -- What the files of a repository say, and which of them can't be read.
-use Rattle.std.specs.Prelude.{ℕ, List, [], ◌++◌, map, filter, Option, None, Some, Result, Ok, Err}
+use Rattle.std.specs.Prelude.{ℕ, List, [], ◌++◌, map, Option, None, Some, Result, Ok, Err}
 use Rattle.std.specs.List.{filter_map}
 use Rattle.std.specs.Option.{option_and_then, option_map}
 use Rattle.std.specs.Result.{result_ok}
 use Rattle.std.specs.FinMap as finite
+use Rattle.std.specs.Global.{Vec}
+use Rattle.keep_names.specs.FileName.{named}
 use Rattle.keep_names.specs.Orders.{id_cmp}
 use Rattle.keep_names.specs.declared.file_name.Kind.{Kind}
 use Rattle.keep_names.specs.declared.file_name.Kind.TheVariants.{Pack, Index, Snapshot}
-use Rattle.keep_names.specs.declared.file_name.FileName.{FileName}
 use Rattle.keep_names.specs.declared.id.Id.{Id}
 use Rattle.keep_repo.specs.Repository.{Repository}
 use Rattle.keep_pack.specs.Reading.{header_of}
-use Rattle.keep_pack.specs.declared.entry.PackEntry.{PackEntry}
+use Rattle.keep_names.specs.declared.blob.Blob.{Blob}
 use Rattle.keep_pack.specs.declared.pack_error.PackError.{PackError}
-use Rattle.keep_index.specs.Index.{PackData}
+use Rattle.keep_index.specs.Index.{PackData, pack_view}
 use Rattle.keep_index.specs.Reading as index_reading
+use Rattle.keep_index.specs.declared.index.IndexedPack.{IndexedPack}
 use Rattle.keep_index.specs.declared.index_error.IndexError.{IndexError}
 use Rattle.keep_snap.specs.Snap.{SnapData}
 use Rattle.keep_snap.specs.Snap as snap_reading
 use Rattle.keep_snap.specs.declared.snap.SnapError.{SnapError}
-use Rattle.keep_catalog.specs.Orders.{kind_eq}
+use Rattle.keep_repo.specs.Kinds.{ids_among}
 use Rattle.keep_catalog.specs.declared.unread.FileError.{FileError}
 use Rattle.keep_catalog.specs.declared.unread.FileError.TheVariants as refusal
 use Rattle.keep_catalog.specs.declared.unread.Unread.{Unread}
 
 -- the bytes of the file, none where it isn't there
 unfoldable pub file_in : Repository → Kind → Id → Option (List ℕ)
-file_in r kind id = finite.get r.files (record { kind = kind; id = id })
+file_in r kind id = finite.get r.files (named kind id)
 
 -- the names of the files of a kind, in order
-abbrev pub ids_among : Kind → List FileName → List Id
-ids_among kind names = map (λ name. name.id) (filter (λ name. kind_eq name.kind kind) names)
-
 abbrev pub ids_in : Repository → Kind → List Id
 ids_in r kind = ids_among kind (finite.keys r.files)
 
@@ -56,7 +55,7 @@ refusal_in (Some (Ok x)) = None
 refusal_in (Some (Err refusal)) = Some refusal
 
 -- the header of this pack, as it is to be read
-abbrev pub header_in : Repository → Id → Option (Result (List PackEntry) PackError)
+abbrev pub header_in : Repository → Id → Option (Result (List Blob) PackError)
 header_in r pack = option_map header_of (file_in r Pack pack)
 
 -- this index, as it is to be read
@@ -66,6 +65,25 @@ index_in r index = option_map index_of (file_in r Index index)
 -- this snapshot, as it is to be read
 abbrev pub snapshot_in : Repository → Id → Option (Result SnapData SnapError)
 snapshot_in r snapshot = option_map snap_of (file_in r Snapshot snapshot)
+
+-- what was read under this name, none where there is no such file, or none that can be read
+abbrev pub readable : {X E : Type 0} → Id → Option (Result X E) → Option (Id × X)
+readable id found = option_map (λ x. (id, x)) (option_and_then result_ok found)
+
+-- a pack's name with its entries, and an index's name with its packs, without where they lie in memory
+abbrev pub header_view : Id × Vec Blob → Id × List Blob
+header_view header = (header.0, header.1.items)
+
+abbrev pub packs_view : Id × Vec IndexedPack → Id × List PackData
+packs_view listing = (listing.0, map pack_view listing.1.items)
+
+-- what the headers that can be read say, the packs by name
+abbrev pub headers_in : Repository → List (Id × List Blob)
+headers_in r = filter_map (λ pack. readable pack (header_in r pack)) (ids_in r Pack)
+
+-- what the indexes that can be read say, by name
+abbrev pub indexes_in : Repository → List (Id × List PackData)
+indexes_in r = filter_map (λ index. readable index (index_in r index)) (ids_in r Index)
 
 -- what this snapshot says, none where there is no such snapshot, or none that can be read
 unfoldable pub snap_in : Repository → Id → Option SnapData
@@ -81,7 +99,7 @@ snaps_in r = finite.from_entries (filter_map (named_snap r) (ids_in r Snapshot))
 
 -- a file that can't be read, and why
 abbrev pub unread : Kind → Id → FileError → Unread
-unread kind id why = record { name = record { kind = kind; id = id }; refusal = why }
+unread kind id why = record { name = named kind id; refusal = why }
 
 -- this pack, where it can't be read
 unfoldable pub unread_pack : Repository → Id → Option Unread

@@ -6,6 +6,8 @@ pub mod Places
 pub mod Reach
 pub mod Read
 pub mod Snapshots
+pub mod Sound
+pub mod Used
 pub mod Walk
 pub mod Words
 pub mod Wrong

@@ -9,60 +9,50 @@ use Rattle.keep_names.specs.declared.file_name.Kind.TheVariants.{Pack, Index}
 use Rattle.keep_names.specs.declared.id.Id.{Id}
 use Rattle.keep_repo.specs.Repository.{Repository}
 use Rattle.keep_index.specs.Index.{PackData}
-use Rattle.keep_index.specs.declared.index.IndexedBlob.{IndexedBlob}
-use Rattle.keep_pack.specs.declared.entry.PackEntry.{PackEntry}
+use Rattle.keep_names.specs.declared.blob.Blob.{Blob}
 use Rattle.keep_catalog.specs.Files.{file_in, ids_in, header_in, index_in, what_is_read}
-use Rattle.keep_catalog.specs.Orders.{spot_cmp, blob_eq, id_eq, place_eq}
-use Rattle.keep_catalog.specs.declared.spot.Place.{Place}
+use Rattle.keep_catalog.specs.Orders.{spot_cmp, blob_eq, id_eq, packed_blob_eq}
+use Rattle.keep_catalog.specs.declared.spot.PackedBlob.{PackedBlob}
 use Rattle.keep_catalog.specs.declared.spot.Spot.{Spot}
 
--- these bytes of a pack, as a place of the blob
-abbrev pub place_in : Id → BlobId → ℕ → ℕ → Place
-place_in pack blob offset length =
-    record { blob = blob; spot = record { pack = pack; offset = offset; length = length } }
-
 -- a blob at a spot
-abbrev pub at : BlobId → Spot → Place
+abbrev pub at : BlobId → Spot → PackedBlob
 at blob spot = record { blob = blob; spot = spot }
 
 -- whether the place is one of these
-abbrev pub is_among : List Place → Place → Bool
-is_among places p = list_any (place_eq p) places
+abbrev pub is_among : List PackedBlob → PackedBlob → Bool
+is_among places p = list_any (packed_blob_eq p) places
 
--- what an entry of this pack's header says
-abbrev pub stored_of : Id → PackEntry → Place
-stored_of pack entry = place_in pack entry.blob entry.offset entry.length
+-- a blob of this pack, as the pack's header or an index says it
+abbrev pub packed_of : Id → Blob → PackedBlob
+packed_of pack b = record { blob = b.blob; spot = record { pack = pack; offset = b.offset; length = b.length } }
 
 -- what the header of this pack has; nothing where there is no such pack, or none that can be read
-unfoldable pub stored_in : Repository → Id → List Place
-stored_in r pack = map (stored_of pack) (what_is_read (header_in r pack))
-
--- what an entry for this pack in an index says
-abbrev pub listing_of : Id → IndexedBlob → Place
-listing_of pack entry = place_in pack entry.blob entry.offset entry.length
+unfoldable pub stored_in : Repository → Id → List PackedBlob
+stored_in r pack = map (packed_of pack) (what_is_read (header_in r pack))
 
 -- what an index says of a pack
-abbrev pub listed_of : PackData → List Place
-listed_of listed = map (listing_of listed.id) listed.blobs
+abbrev pub listed_of : PackData → List PackedBlob
+listed_of listed = map (packed_of listed.id) listed.blobs
 
 -- what this index lists; nothing where there is no such index, or none that can be read
-unfoldable pub listed_in : Repository → Id → List Place
+unfoldable pub listed_in : Repository → Id → List PackedBlob
 listed_in r index = flat_map listed_of (what_is_read (index_in r index))
 
 -- whether the header of the place's pack has it
-abbrev pub is_stored : Repository → Place → Bool
+abbrev pub is_stored : Repository → PackedBlob → Bool
 is_stored r p = is_among (stored_in r p.spot.pack) p
 
 -- each place that this index lists, with its name
-abbrev pub listings_of : Repository → Id → List (Place × Id)
+abbrev pub listings_of : Repository → Id → List (PackedBlob × Id)
 listings_of r index = map (λ p. (p, index)) (listed_in r index)
 
 -- all listings, the indexes by name
-abbrev pub listings_in : Repository → List (Place × Id)
+abbrev pub listings_in : Repository → List (PackedBlob × Id)
 listings_in r = flat_map (listings_of r) (ids_in r Index)
 
 -- the spot of a listing, where it is the blob's and is stored
-abbrev pub candidate : (Place → Bool) → BlobId → Place × Id → Option (Spot × Id)
+abbrev pub candidate : (PackedBlob → Bool) → BlobId → PackedBlob × Id → Option (Spot × Id)
 candidate stored blob listing =
     if blob_eq blob listing.0.blob && stored listing.0 then Some (listing.0.spot, listing.1) else None
 
@@ -101,7 +91,7 @@ unfoldable pub chosen_listing : Repository → BlobId → Option (Spot × Id)
 chosen_listing r blob = find (λ e. is_open r blob e.0) (finite.entries (spots_of r blob))
 
 -- the chosen place
-abbrev pub chosen : Repository → BlobId → Option Place
+abbrev pub chosen : Repository → BlobId → Option PackedBlob
 chosen r blob = option_map (λ e. at blob e.0) (chosen_listing r blob)
 
 -- what a use of the blob where it is rests on: the pack, and the least-named index that lists the chosen

@@ -11,9 +11,9 @@ use Rattle.keep_catalog.specs.declared.reach_error.ReachError.TheVariants.{TooDe
 abbrev pub Naming : Type 0
 Naming = BlobId → Result (List BlobId) ReachError
 
-abbrev pub is_tree : BlobType → Bool
-is_tree Content = false
-is_tree Tree = true
+abbrev pub has_type_tree : BlobType → Bool
+has_type_tree Content = false
+has_type_tree Tree = true
 
 -- the first refusal among blobs
 abbrev pub first_of : (BlobId → Option ReachError) → List BlobId → Option ReachError
@@ -27,7 +27,7 @@ own_or refusal (Err own) = Some own
 
 -- the first refusal depth first, where trees may stand at this many levels from the blob down
 abbrev pub refusal_at : Naming → ℕ → BlobId → Option ReachError
-refusal_at named zero blob = if is_tree blob.blob_type then Some TooDeep else own_or (λ _. None) (named blob)
+refusal_at named zero blob = if has_type_tree blob.blob_type then Some TooDeep else own_or (λ _. None) (named blob)
 refusal_at named (suc levels) blob = own_or (refusal_at named levels) (named blob)
 
 -- the blob is one of these
@@ -40,7 +40,7 @@ Names named a b = IsOkAnd (named a) (λ blobs. HasBlob blobs b)
 
 -- the second is reached from the first, where trees may stand at this many levels from the first down
 abbrev pub Reaches : Naming → ℕ → BlobId → BlobId → Type 0
-Reaches named zero a b = (is_tree a.blob_type ≡ false) × (a ≡ b)
+Reaches named zero a b = (has_type_tree a.blob_type ≡ false) × (a ≡ b)
 Reaches named (suc levels) a b = (a ≡ b) ⊎ ((c : BlobId) × Names named a c × Reaches named levels c b)
 
 -- how deep trees may stand: the root is at level 1

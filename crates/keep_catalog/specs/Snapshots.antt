@@ -1,14 +1,15 @@
 -- What the snapshots of a repository reach.
 use Rattle.std.specs.Prelude.{List, Option}
 use Rattle.std.specs.FinMap as finite
-use Rattle.std.specs.List.{filter_map}
+use Rattle.std.specs.List.{Any, filter_map}
 use Rattle.std.specs.Option.{IsSomeAnd, option_and_then, option_map}
+use Rattle.keep_names.specs.BlobId.{tree_at}
 use Rattle.keep_names.specs.declared.blob.BlobId.{BlobId}
 use Rattle.keep_names.specs.declared.id.Id.{Id}
 use Rattle.keep_repo.specs.Repository.{Repository}
 use Rattle.keep_snap.specs.Snap.{SnapData}
 use Rattle.keep_catalog.specs.Files.{snap_in, snaps_in}
-use Rattle.keep_catalog.specs.Naming.{named_by, tree_at}
+use Rattle.keep_catalog.specs.Naming.{named_by}
 use Rattle.keep_catalog.specs.Reach.{Reaches, most_levels, refusal_at}
 use Rattle.keep_catalog.specs.declared.reach_error.ReachError.{ReachError}
 
@@ -25,6 +26,10 @@ Owes r snapshot blob =
 abbrev pub IsUsed : Repository → BlobId → Type 0
 IsUsed r blob = (snapshot : Id) × Owes r snapshot blob
 
+-- one of these snapshots reaches it
+abbrev pub IsOwedByOne : Repository → List Id → BlobId → Type 0
+IsOwedByOne r snapshots blob = Any (λ snapshot. Owes r snapshot blob) snapshots
+
 -- the first refusal from this root, depth first
 abbrev pub refusal_from : Repository → BlobId → Option ReachError
 refusal_from r root = refusal_at (named_by r) most_levels root
@@ -32,6 +37,10 @@ refusal_from r root = refusal_at (named_by r) most_levels root
 -- the first refusal of what the snapshot reaches
 abbrev pub refusal_of : Repository → Id → Option ReachError
 refusal_of r snapshot = option_and_then (λ snap. refusal_from r (root_of snap)) (snap_in r snapshot)
+
+-- the first refusal of each of these snapshots that has one
+abbrev pub refusals_of : Repository → List Id → List ReachError
+refusals_of r snapshots = filter_map (refusal_of r) snapshots
 
 -- the snapshot with its first refusal, if it has one
 abbrev pub broken_by : Repository → Id → Option (Id × ReachError)

@@ -1,6 +1,7 @@
--- What a walk over trees remembers of each blob: how many levels of trees it has, and its chosen listing.
+-- What a walk over trees remembers of each blob: how many levels of trees it has, and its chosen listing. All
+-- but `Walked`, `HasHeight`, `Knows`, `HaveHeights` and `AreChosen` is of the private contracts of the walk alone.
 use Rattle.std.specs.Prelude.{◌≡◌, ℕ, zero, suc, ◌⊎◌, true, List, Option, None, Some, is_some}
-use Rattle.std.specs.BTreeMap.{BTreeMap}
+use Rattle.std.specs.BTreeMap.{BTreeMap, IsOrdered}
 use Rattle.std.specs.BTreeMap as tree
 use Rattle.keep_names.specs.Orders.{blob_cmp}
 use Rattle.keep_names.specs.declared.blob.BlobId.{BlobId}
@@ -49,11 +50,12 @@ AreChosen chosen walked =
     (blob : BlobId) (found : Found)
     → tree.get blob_cmp walked blob ≡ Some found → chosen blob ≡ Some (found.spot, found.index)
 
--- what is remembered is right, and what a remembered blob names is remembered
+-- what is remembered is right and in order, and what a remembered blob names is remembered
 pub record IsWalked (named : Naming) (chosen : Choosing) (walked : Walked) : Type 0 where
   pub heights : HaveHeights named walked
   pub places : AreChosen chosen walked
   pub closed : (a b : BlobId) → Knows walked a → Names named a b → Knows walked b
+  pub ordered : IsOrdered blob_cmp walked
 
 -- only what is reached was added
 pub record Grew (named : Naming) (levels : ℕ) (top : BlobId) (old new : Walked) : Type 0 where

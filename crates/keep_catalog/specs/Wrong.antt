@@ -8,20 +8,20 @@ use Rattle.keep_repo.specs.Repository.{Repository}
 use Rattle.keep_catalog.specs.Files.{ids_in}
 use Rattle.keep_catalog.specs.Orders.{blob_eq}
 use Rattle.keep_catalog.specs.Places.{is_honest, stored_in}
-use Rattle.keep_catalog.specs.declared.spot.Place.{Place}
+use Rattle.keep_catalog.specs.declared.spot.PackedBlob.{PackedBlob}
 
 -- each once, where it stands first
-abbrev pub once : {X : Type 0} → (X → X → Bool) → List X → List X
-once same [] = []
-once same (x ∷ xs) = x ∷ filter (λ y. not (same x y)) (once same xs)
+abbrev pub first_of_each : {X : Type 0} → (X → X → Bool) → List X → List X
+first_of_each same [] = []
+first_of_each same (x ∷ xs) = x ∷ filter (λ y. not (same x y)) (first_of_each same xs)
 
 -- the blob at a place, where the bytes have another hash
-abbrev pub wrong_at : Repository → Place → Option BlobId
+abbrev pub wrong_at : Repository → PackedBlob → Option BlobId
 wrong_at r p = if is_honest r p.blob p.spot then None else Some p.blob
 
 -- the wrong blobs of this pack in the order of its header, each once
 abbrev pub wrong_in : Repository → Id → List (Id × BlobId)
-wrong_in r pack = map (λ blob. (pack, blob)) (once blob_eq (filter_map (wrong_at r) (stored_in r pack)))
+wrong_in r pack = map (λ blob. (pack, blob)) (first_of_each blob_eq (filter_map (wrong_at r) (stored_in r pack)))
 
 -- the wrong blobs of all packs that can be read, the packs by name
 abbrev pub wrong_blobs_in : Repository → List (Id × BlobId)

@@ -2,23 +2,19 @@ ghost use Rattle.std.specs.Prelude.{◌≡◌, option_map};
 ghost use Rattle.keep_catalog.specs.Places as spec;
 ghost use Rattle.keep_catalog.specs.Read.{IsHashed};
 
-use crate::spot::{Place, Spot};
-use keep_names::{BlobId, FileName, Kind, id_of};
+use crate::spot::{PackedBlob, Spot};
+use keep_names::{BlobId, FileName, id_of};
 use keep_repo::Repo;
 use std::collections::BTreeMap;
 
 // Whether places that were hashed are honest.
-pub(crate) type Hashed = BTreeMap<Place, bool>;
+pub(crate) type Hashed = BTreeMap<PackedBlob, bool>;
 
 // The bytes at the spot, if its pack is there and has as many.
 pub(crate) fn bytes_at(repo: &Repo, spot: Spot) -> Option<&[u8]>
     ensures { option_map (λ bytes. bytes.now) result ≡ spec.bytes_at repo.entry.now spot }
 {
-    let name = FileName {
-        kind: Kind::Pack,
-        id: spot.pack,
-    };
-    let Some(bytes) = repo.get(name) else {
+    let Some(bytes) = repo.get(FileName::pack(spot.pack)) else {
         return None;
     };
     slice_of(bytes.as_slice(), spot.offset, spot.length)
@@ -41,7 +37,7 @@ pub(crate) fn is_honest(repo: &Repo, hashed: &Hashed, blob: BlobId, spot: Spot) 
     requires { IsHashed repo.now hashed.now }
     ensures { result ≡ spec.is_honest repo.now blob spot }
 {
-    match hashed.get(&Place { blob, spot }).copied() {
+    match hashed.get(&PackedBlob { blob, spot }).copied() {
         Some(is_honest) => is_honest,
         None => has_hash(repo, blob, spot),
     }

@@ -5,8 +5,9 @@ ghost use Rattle.std.specs.List.{find};
 ghost use Rattle.keep_names.specs.Orders.{id_cmp};
 ghost use Rattle.keep_names.specs.declared.id.Id as the_id;
 ghost use Rattle.keep_snap.specs.Snap.{snap_view};
+ghost use Rattle.keep_tree.specs.Tree.{node_view};
 ghost use Rattle.keep_catalog.specs.Files.{snap_in, snaps_in, unread_in};
-ghost use Rattle.keep_catalog.specs.Naming.{missing, named_by};
+ghost use Rattle.keep_catalog.specs.Naming.{missing, named_by, nodes_at_spot, nodes_under};
 ghost use Rattle.keep_catalog.specs.Orders.{spot_cmp};
 ghost use Rattle.keep_catalog.specs.Places.{chosen, chosen_listing, reuse_of};
 ghost use Rattle.keep_catalog.specs.Places as spec;
@@ -17,17 +18,17 @@ ghost use Rattle.keep_catalog.specs.declared.catalog_error.CatalogError.TheVaria
 
 use crate::bytes_there::{Hashed, bytes_at, is_open};
 use crate::catalog_error::CatalogError;
-use crate::listed::{Listed, listed_places};
-use crate::names::{Named, names_at, why_missing};
+use crate::listed::{Listings, listed_places};
+use crate::names::{Named, names_at, nodes_at, why_missing};
 use crate::reach_error::ReachError;
-use crate::reading::ids_of;
 use crate::snapshots::read_snapshots;
-use crate::spot::{Place, Spot};
+use crate::spot::{PackedBlob, Spot};
 use crate::stored::stored_places;
 use crate::unread::Unread;
 use keep_names::{BlobId, Id, Kind};
 use keep_repo::Repo;
 use keep_snap::Snap;
+use keep_tree::Node;
 use std::alloc::{AllocError, Global};
 use std::collections::BTreeMap;
 use std::marker::Model;
@@ -40,7 +41,7 @@ use std::marker::Model;
 #[derive(Drop)]
 pub struct Catalog<'a> {
     pub(crate) repo: &'a Repo,
-    listed: Listed,
+    listed: Listings,
     snaps: BTreeMap<Id, Snap>,
     pub(crate) hashed: Hashed,
 }
@@ -81,13 +82,12 @@ impl<'a> Catalog<'a> {
         ensures catalog { IfOk result (λ made. made.0 ≡ repo.entry.now) }
         ensures unread { IfOk result (λ made. made.1.items ≡ unread_in repo.entry.now) }
     {
-        let (names, _) = repo.list()?;
         let mut unread = Vec::new(alloc);
-        let packs = ids_of(alloc, &names, Kind::Pack)?;
+        let packs = repo.ids(Kind::Pack)?;
         let stored = stored_places(alloc, repo, &packs, &mut unread)?;
-        let indexes = ids_of(alloc, &names, Kind::Index)?;
+        let indexes = repo.ids(Kind::Index)?;
         let listed = listed_places(alloc, repo, &indexes, &stored, &mut unread)?;
-        let snapshots = ids_of(alloc, &names, Kind::Snapshot)?;
+        let snapshots = repo.ids(Kind::Snapshot)?;
         let snaps = read_snapshots(alloc, repo, &snapshots, &mut unread)?;
         let hashed = BTreeMap::new(alloc);
         let catalog = Catalog {
@@ -117,11 +117,11 @@ impl<'a> Catalog<'a> {
     }
 
     /// The chosen place of the blob: the least in an unmarked pack.
-    pub fn place(&self, blob: BlobId) -> Option<Place>
+    pub fn place(&self, blob: BlobId) -> Option<PackedBlob>
         ensures { result ≡ chosen self.now blob }
     {
         let (spot, _) = self.choose(blob)?;
-        Some(Place { blob, spot })
+        Some(PackedBlob { blob, spot })
     }
 
     /// The pack of the chosen place, and the least-named index that lists it.
@@ -130,6 +130,27 @@ impl<'a> Catalog<'a> {
     {
         let (spot, index) = self.choose(blob)?;
         Some((spot.pack, index))
+    }
+
+    /// The nodes of a tree at its chosen place. Else why it can't be had: no place is chosen, or its bytes aren't
+    /// a tree.
+    pub fn nodes(&self, alloc: Global, tree: Id) -> Result<Vec<Node>, ReachError>
+        ensures { Answers the_reach_error.Memory (λ nodes. map node_view nodes.items)
+            (nodes_under self.now tree) result }
+    {
+        let blob = BlobId::tree(tree);
+        let Some((spot, _)) = self.choose(blob) else {
+            return Err(self.missing(blob));
+        };
+        self.nodes_at(alloc, spot)
+    }
+
+    /// The nodes of the tree at this spot, as where a walk found one. Nothing is hashed.
+    pub fn nodes_at(&self, alloc: Global, spot: Spot) -> Result<Vec<Node>, ReachError>
+        ensures { Answers the_reach_error.Memory (λ nodes. map node_view nodes.items)
+            (nodes_at_spot self.now spot) result }
+    {
+        nodes_at(alloc, self.repo, spot)
     }
 
     // The chosen spot, and the least-named index that lists the blob there.

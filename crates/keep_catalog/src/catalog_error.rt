@@ -1,9 +1,8 @@
 use crate::unread::Unread;
 use std::alloc::AllocError;
-use thiserror::Error;
 
-/// Why a repository has no catalog. It prints as its file's refusal.
-#[derive(Clone, Copy, Debug, PartialEq, Eq, Error)]
+/// Why a repository has no catalog.
+#[derive(Clone, Copy, Debug, PartialEq, Eq)]
 pub enum CatalogError {
     /// This file can't be read.
     Unread(Unread),

@@ -1,10 +1,85 @@
+ghost use Rattle.std.specs.Prelude.{◌≡◌, ◌↔◌, [], Some, true, false};
+ghost use Rattle.std.specs.FinMap as finite;
+ghost use Rattle.std.specs.List.{All, IsDistinct};
+ghost use Rattle.std.specs.List.Sorted.{IsStrictlySortedBy};
+ghost use Rattle.std.specs.Option.{IsSome};
+ghost use Rattle.std.specs.declared.cmp.Ordering.TheVariants.{Less};
+ghost use Rattle.keep_names.specs.BlobId.{tree_at};
+ghost use Rattle.keep_names.specs.Orders.{blob_cmp};
 ghost use Rattle.keep_names.specs.declared.blob.BlobId as the_blob;
+ghost use Rattle.keep_names.specs.declared.id.Id as the_id;
 ghost use Rattle.keep_repo.specs.Repository.{Repository};
-ghost use Rattle.keep_catalog.specs.Chosen.{IsChosen};
-ghost use Rattle.keep_catalog.specs.Places.{chosen_listing};
+ghost use Rattle.keep_catalog.specs.Chosen.{IsChosen, IsLeastIndex, IsListed, IsStored};
+ghost use Rattle.keep_catalog.specs.Naming.{blobs_named, missing, named_by, nodes_under};
+ghost use Rattle.keep_catalog.specs.Orders.{IsLessSpot, blob_eq, spot_cmp};
+ghost use Rattle.keep_catalog.specs.Places.{chosen_listing, is_honest, spots_of};
+ghost use Rattle.keep_catalog.specs.Reach.{HasBlob};
+ghost use Rattle.keep_catalog.specs.Snapshots.{IsUsed, broken_in};
+ghost use Rattle.keep_catalog.specs.Sound.{IsOfTree, IsSound};
+ghost use Rattle.keep_catalog.specs.Used.{used_in};
+ghost use Rattle.keep_catalog.specs.declared.reach_error.ReachError.TheVariants.{MissingBlob, WrongHash};
+ghost use Rattle.keep_catalog.specs.declared.spot.Spot as the_spot;
 
 /// The chosen place of a blob is the least of its places in unmarked packs: an index lists it, the header of
-/// its pack has it, and its bytes have the blob's id. Where there is none, there is no such place.
+/// its pack has it, and its bytes have the blob's id. The index is the least-named one that lists it. Where
+/// none is chosen, there is no such place.
 pub fn the_chosen_place_is_least()
     ensures { (r : Repository) (blob : the_blob.BlobId) → IsChosen r blob (chosen_listing r blob) }
+{}
+
+/// A blob's spots are just those at which an index lists it and the header of the pack has it, each with the
+/// least-named index that lists it there.
+pub fn spots_are_listed_and_stored()
+    ensures listed { (r : Repository) (blob : the_blob.BlobId) (spot : the_spot.Spot) (index : the_id.Id)
+        → finite.get (spots_of r blob) spot ≡ Some index → IsListed r blob spot index }
+    ensures stored { (r : Repository) (blob : the_blob.BlobId) (spot : the_spot.Spot) (index : the_id.Id)
+        → finite.get (spots_of r blob) spot ≡ Some index → IsStored r blob spot }
+    ensures least { (r : Repository) (blob : the_blob.BlobId) (spot : the_spot.Spot) (index : the_id.Id)
+        → finite.get (spots_of r blob) spot ≡ Some index → IsLeastIndex r blob spot index }
+    ensures kept { (r : Repository) (blob : the_blob.BlobId) (spot : the_spot.Spot) (index : the_id.Id)
+        → IsListed r blob spot index → IsStored r blob spot → IsSome (finite.get (spots_of r blob) spot) }
+{}
+
+/// A blob that has no chosen place has another hash where an index lists it, the header has it there, and no
+/// such bytes have its id. Else it is missing: nothing has it, or packs with marks alone have it.
+pub fn a_wrong_hash_is_not_missing()
+    ensures wrong { (r : Repository) (blob : the_blob.BlobId) (spot : the_spot.Spot) (index : the_id.Id)
+        → IsListed r blob spot index → IsStored r blob spot
+        → ((other : the_spot.Spot) (by : the_id.Id) → IsListed r blob other by → IsStored r blob other
+        → is_honest r blob other ≡ false)
+        → missing r blob ≡ WrongHash blob.id }
+    ensures honest { (r : Repository) (blob : the_blob.BlobId) (spot : the_spot.Spot) (index : the_id.Id)
+        → IsListed r blob spot index → IsStored r blob spot → is_honest r blob spot ≡ true
+        → missing r blob ≡ MissingBlob blob.id }
+    ensures nowhere { (r : Repository) (blob : the_blob.BlobId)
+        → ((spot : the_spot.Spot) (index : the_id.Id) → IsListed r blob spot index → ¬ IsStored r blob spot)
+        → missing r blob ≡ MissingBlob blob.id }
+{}
+
+/// Spots are in order by pack, then by offset, then by length.
+pub fn spots_are_in_order()
+    ensures { (a : the_spot.Spot) (b : the_spot.Spot) → (spot_cmp a b ≡ Less) ↔ IsLessSpot a b }
+{}
+
+/// A tree names what its nodes name, and can't be had where they can't.
+pub fn trees_name_what_their_nodes_name()
+    ensures { (r : Repository) (tree : the_id.Id)
+        → named_by r (tree_at tree) ≡ blobs_named (nodes_under r tree) }
+{}
+
+/// A repository in which no snapshot is broken is sound.
+pub fn the_unbroken_is_sound()
+    ensures { (r : Repository) → broken_in r ≡ [] → IsSound r }
+{}
+
+/// In a sound repository trees alone are refused: those that stand too deep, and those that aren't trees.
+pub fn the_sound_is_broken_by_trees_alone()
+    ensures { (r : Repository) → IsSound r → All (λ broken. IsOfTree broken.1) (broken_in r) }
+{}
+
+/// The list of used blobs has just the blobs that some snapshot reaches, each once, in their order.
+pub fn used_blobs_are_listed_once()
+    ensures used { (r : Repository) (blob : the_blob.BlobId) → HasBlob (used_in r) blob ↔ IsUsed r blob }
+    ensures once { (r : Repository) → IsDistinct blob_eq (used_in r) }
+    ensures ordered { (r : Repository) → IsStrictlySortedBy blob_cmp (used_in r) }
 {}

@@ -5,9 +5,12 @@ mod bytes_there;
 mod catalog;
 mod catalog_error;
 mod found;
+mod headers;
 mod laws;
 mod listed;
 mod names;
+#[cfg(test)]
+mod place_tests;
 mod reach;
 mod reach_error;
 #[cfg(test)]
@@ -19,17 +22,18 @@ mod stored;
 #[cfg(test)]
 mod tests;
 mod unread;
-mod view;
 mod walk;
-mod words;
 mod wrong;
 
 pub use catalog::Catalog;
 pub use catalog_error::CatalogError;
 pub use found::{Found, Reached};
-pub use laws::the_chosen_place_is_least;
+pub use laws::{
+    a_wrong_hash_is_not_missing, spots_are_in_order, spots_are_listed_and_stored,
+    the_chosen_place_is_least, the_sound_is_broken_by_trees_alone, the_unbroken_is_sound,
+    trees_name_what_their_nodes_name, used_blobs_are_listed_once,
+};
 pub use reach_error::ReachError;
-pub use spot::{Place, Spot};
+pub use spot::{PackedBlob, Spot};
 pub use unread::{FileError, Unread};
-pub use view::View;
 pub use walk::levels;

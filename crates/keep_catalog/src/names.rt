@@ -9,7 +9,8 @@ ghost use Rattle.keep_tree.specs.declared.tree.TreeError.TheVariants as the_tree
 ghost use Rattle.keep_catalog.specs.Naming as spec;
 ghost use Rattle.keep_catalog.specs.Places as places;
 ghost use Rattle.keep_catalog.specs.Read.{IsHashed};
-ghost use Rattle.keep_catalog.specs.Naming.{named_in, named_of, names_of, piece_of, tree_of};
+ghost use Rattle.keep_catalog.specs.Naming.{named_in, named_of, nodes_read, read_tree_of};
+ghost use Rattle.keep_names.specs.BlobId.{piece_of};
 ghost use Rattle.keep_catalog.specs.declared.reach_error.ReachError.TheVariants as the_reach_error;
 
 use crate::bytes_there::{Hashed, bytes_at, is_honest};
@@ -42,19 +43,31 @@ pub(crate) fn names_at(
 {
     match blob_type {
         BlobType::Content => Ok(Vec::new(alloc)),
-        BlobType::Tree => match bytes_at(repo, spot) {
-            Some(bytes) => names_in(alloc, bytes),
-            None => Err(ReachError::BadTree),
-        },
+        BlobType::Tree => {
+            let nodes = nodes_at(alloc, repo, spot)?;
+            Ok(named_blobs(alloc, &nodes)?)
+        }
     }
 }
 
-// What the bytes of a tree name.
-fn names_in(alloc: Global, bytes: &[u8]) -> Result<Vec<BlobId>, ReachError>
-    ensures { Answers the_reach_error.Memory (λ names. names.items) (names_of (tree_of bytes.now)) result }
+// The nodes of the tree at the spot.
+pub(crate) fn nodes_at(alloc: Global, repo: &Repo, spot: Spot) -> Result<Vec<Node>, ReachError>
+    ensures { Answers the_reach_error.Memory (λ nodes. map node_view nodes.items)
+        (spec.nodes_at_spot repo.now spot) result }
+{
+    match bytes_at(repo, spot) {
+        Some(bytes) => nodes_in(alloc, bytes),
+        None => Err(ReachError::BadTree),
+    }
+}
+
+// The nodes that the bytes of a tree hold.
+fn nodes_in(alloc: Global, bytes: &[u8]) -> Result<Vec<Node>, ReachError>
+    ensures { Answers the_reach_error.Memory (λ nodes. map node_view nodes.items)
+        (nodes_read (read_tree_of bytes.now)) result }
 {
     match read_tree(alloc, bytes) {
-        Ok(tree) => Ok(named_blobs(alloc, &tree.nodes)?),
+        Ok(tree) => Ok(tree.nodes),
         Err(refusal) => {
             if is_memory(refusal) {
                 return Err(ReachError::Memory);
@@ -87,10 +100,7 @@ fn add_named(names: &mut Vec<BlobId>, kind: &NodeKind) -> Result<(), AllocError>
 {
     match kind {
         NodeKind::Dir { subtree } => {
-            names.push(BlobId {
-                id: *subtree,
-                blob_type: BlobType::Tree,
-            })?;
+            names.push(BlobId::tree(*subtree))?;
             Ok(())
         }
         NodeKind::File { content } => add_pieces(names, content),
@@ -103,10 +113,7 @@ fn add_pieces(names: &mut Vec<BlobId>, content: &[Id]) -> Result<(), AllocError>
     ensures { OnOk result (names.new.items ≡ names.old.items ++ map piece_of content.now) }
 {
     for id in content {
-        names.push(BlobId {
-            id: *id,
-            blob_type: BlobType::Content,
-        })?;
+        names.push(BlobId::content(*id))?;
     }
     Ok(())
 }

@@ -1,12 +1,17 @@
 ghost use Rattle.std.specs.Prelude.{◌≡◌, ◌≢◌, ◌++◌, ◌↔◌, [], None, Some, IfErr, IfOk, OnOk};
-ghost use Rattle.std.specs.Prelude.{map, option_map, option_to_list, slice_get};
+ghost use Rattle.std.specs.Prelude.{option_map, option_to_list, slice_get};
+ghost use Rattle.std.specs.BTreeMap.{IsOrdered};
+ghost use Rattle.std.specs.BTreeMap as tree;
 ghost use Rattle.std.specs.List.{filter_map};
+ghost use Rattle.keep_names.specs.Orders.{blob_cmp};
 ghost use Rattle.keep_names.specs.declared.blob.BlobId as the_blob;
 ghost use Rattle.keep_snap.specs.Snap.{snap_view};
 ghost use Rattle.keep_catalog.specs.Naming.{named_by};
 ghost use Rattle.keep_catalog.specs.Places.{chosen_listing};
-ghost use Rattle.keep_catalog.specs.Reach.{Reaches, most_levels};
-ghost use Rattle.keep_catalog.specs.Snapshots.{IsUsed, Owes, broken_in, refusal_from, refusal_of, root_of};
+ghost use Rattle.keep_catalog.specs.Read.{snap_at};
+ghost use Rattle.keep_catalog.specs.Snapshots.{IsOwedByOne, IsUsed, Owes, broken_in};
+ghost use Rattle.keep_catalog.specs.Snapshots.{refusal_from, refusal_of, refusals_of, root_of};
+ghost use Rattle.keep_catalog.specs.Used.{used_in};
 ghost use Rattle.keep_catalog.specs.Walk.{AreChosen, HaveHeights, IsWalked, Knows};
 ghost use Rattle.keep_catalog.specs.declared.reach_error.ReachError.TheVariants.{Memory};
 
@@ -14,7 +19,7 @@ use crate::catalog::Catalog;
 use crate::found::Reached;
 use crate::reach_error::ReachError;
 use crate::walk::{levels, walk, walk_all};
-use keep_names::{BlobId, BlobType, Id};
+use keep_names::{BlobId, Id};
 use keep_snap::Snap;
 use std::alloc::{AllocError, Global};
 use std::collections::BTreeMap;
@@ -30,24 +35,38 @@ impl<'a> Catalog<'a> {
         ensures all { IfOk result (λ _. refusal_of self.now snapshot ≡ None) }
         ensures refused { IfErr result (λ error. error ≢ Memory → refusal_of self.now snapshot ≡ Some error) }
     {
-        let Some(snap) = self.snaps().get(&snapshot) else {
-            return Ok(BTreeMap::new(alloc));
-        };
-        reach_from(alloc, self, root(snap))
+        self.reach_all(alloc, &[snapshot])
     }
 
-    /// What the snapshots that can be read reach, all together. Each tree is read once, however many
-    /// snapshots reach it. Else the first refusal of the first snapshot by name that has one.
+    /// What the snapshots that can be read reach, all together, in the blobs' order. Else the first refusal of
+    /// the first snapshot by name that has one.
     pub fn used(&self, alloc: Global) -> Result<Reached, ReachError>
         ensures reached { IfOk result (λ reached. (blob : the_blob.BlobId)
             → Knows reached blob ↔ IsUsed self.now blob) }
+        ensures listed { IfOk result (λ reached. tree.keys reached ≡ used_in self.now) }
         ensures places { IfOk result (AreChosen (chosen_listing self.now)) }
         ensures heights { IfOk result (HaveHeights (named_by self.now)) }
         ensures all { IfOk result (λ _. broken_in self.now ≡ []) }
         ensures refused { IfErr result (λ error. error ≢ Memory
             → option_map (λ b. b.1) (slice_get (broken_in self.now) 0) ≡ Some error) }
     {
-        let roots = roots(alloc, self.snaps())?;
+        let snapshots = snapshot_names(alloc, self.snaps())?;
+        self.reach_all(alloc, &snapshots)
+    }
+
+    /// What the snapshots of these names reach, all together. Each tree is read once, however many of them reach
+    /// it. Else the first refusal of the first of them that has one.
+    pub fn reach_all(&self, alloc: Global, snapshots: &[Id]) -> Result<Reached, ReachError>
+        ensures reached { IfOk result (λ reached. (blob : the_blob.BlobId)
+            → Knows reached blob ↔ IsOwedByOne self.now snapshots.now blob) }
+        ensures ordered { IfOk result (IsOrdered blob_cmp) }
+        ensures places { IfOk result (AreChosen (chosen_listing self.now)) }
+        ensures heights { IfOk result (HaveHeights (named_by self.now)) }
+        ensures all { IfOk result (λ _. refusals_of self.now snapshots.now ≡ []) }
+        ensures refused { IfErr result (λ error. error ≢ Memory
+            → slice_get (refusals_of self.now snapshots.now) 0 ≡ Some error) }
+    {
+        let roots = roots(alloc, self.snaps(), snapshots)?;
         let mut walked = BTreeMap::new(alloc);
         walk_all(alloc, self, &roots, levels(), &mut walked)?;
         Ok(walked)
@@ -84,34 +103,45 @@ fn broken_among(
 fn root(snap: &Snap) -> BlobId
     ensures { result ≡ root_of (snap_view snap.now) }
 {
-    BlobId {
-        id: snap.tree,
-        blob_type: BlobType::Tree,
-    }
+    BlobId::tree(snap.tree)
 }
 
-// The root trees of snapshots, by name.
-fn roots(alloc: Global, snaps: &BTreeMap<Id, Snap>) -> Result<Vec<BlobId>, AllocError>
-    ensures { IfOk result (λ roots. roots.items ≡ map (λ e. root_of (snap_view e.1)) snaps.now.entries) }
+// The names of snapshots, in order.
+fn snapshot_names(alloc: Global, snaps: &BTreeMap<Id, Snap>) -> Result<Vec<Id>, AllocError>
+    ensures { IfOk result (λ names. names.items ≡ tree.keys snaps.now) }
+{
+    snaps.keys().copied().collect(alloc)
+}
+
+// The root trees of those of the snapshots that there are.
+fn roots(
+    alloc: Global,
+    snaps: &BTreeMap<Id, Snap>,
+    snapshots: &[Id],
+) -> Result<Vec<BlobId>, AllocError>
+    ensures { IfOk result (λ roots. roots.items
+        ≡ filter_map (λ name. option_map root_of (snap_at snaps.now name)) snapshots.now) }
 {
     let mut roots = Vec::new(alloc);
-    for (_, snap) in snaps {
-        roots.push(root(snap))?;
+    for snapshot in snapshots {
+        add_root(&mut roots, snaps, *snapshot)?;
     }
     Ok(roots)
 }
 
-// What is reached from this root.
-fn reach_from(alloc: Global, catalog: &Catalog, root: BlobId) -> Result<Reached, ReachError>
-    ensures reached { IfOk result (λ reached. (blob : the_blob.BlobId)
-        → Knows reached blob ↔ Reaches (named_by catalog.now) most_levels root blob) }
-    ensures walked { IfOk result (IsWalked (named_by catalog.now) (chosen_listing catalog.now)) }
-    ensures all { IfOk result (λ _. refusal_from catalog.now root ≡ None) }
-    ensures refused { IfErr result (λ error. error ≢ Memory → refusal_from catalog.now root ≡ Some error) }
+// Adds the root tree of a snapshot, if there is one.
+fn add_root(
+    roots: &mut Vec<BlobId>,
+    snaps: &BTreeMap<Id, Snap>,
+    snapshot: Id,
+) -> Result<(), AllocError>
+    ensures { OnOk result (roots.new.items
+        ≡ roots.old.items ++ option_to_list (option_map root_of (snap_at snaps.now snapshot))) }
 {
-    let mut walked = BTreeMap::new(alloc);
-    walk(alloc, catalog, root, levels(), &mut walked)?;
-    Ok(walked)
+    if let Some(snap) = snaps.get(&snapshot) {
+        roots.push(root(snap))?;
+    }
+    Ok(())
 }
 
 // The first refusal from this root, after others were walked.

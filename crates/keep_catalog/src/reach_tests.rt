@@ -1,6 +1,6 @@
 use crate::tests::{FIRST, SECOND, THIRD, put};
 use crate::{Catalog, Found, ReachError, Spot};
-use keep_names::{BlobId, BlobType, Id, Kind, id_of};
+use keep_names::{BlobId, Id, Kind, id_of};
 use keep_repo::{Mark, Repo};
 use std::alloc::{AllocError, Global};
 use std::test::Fail;
@@ -86,6 +86,8 @@ fn the_first_refusal_is_found_depth_first(rt: HostRuntime) -> Result<(), Fail> {
         Some(ReachError::BadTree)
     );
     assert_eq!(rt; catalog.used(alloc).err(), Some(missing));
+    let first = catalog.reach_all(alloc, &[THIRD, FIRST]).err();
+    assert_eq!(rt; first, Some(ReachError::BadTree));
     let broken = catalog.broken(alloc)?;
     let told = [(FIRST, missing), (THIRD, ReachError::BadTree)];
     assert_eq!(rt; broken.as_slice(), told.as_slice());
@@ -106,6 +108,8 @@ fn what_snapshots_reach_is_used(rt: HostRuntime) -> Result<(), Fail> {
     assert_eq!(rt; catalog.snaps().len(), 2);
     assert_eq!(rt; catalog.reach(alloc, FIRST)?.len(), 1);
     assert_eq!(rt; catalog.reach(alloc, THIRD)?.len(), 0);
+    assert_eq!(rt; catalog.reach_all(alloc, &[FIRST, SECOND])?.len(), 2);
+    assert_eq!(rt; catalog.nodes(alloc, top)?.len(), 2);
     let used = catalog.used(alloc)?;
     assert_eq!(rt; used.len(), 2);
     let found = Found {
@@ -117,11 +121,7 @@ fn what_snapshots_reach_is_used(rt: HostRuntime) -> Result<(), Fail> {
         },
         index: top,
     };
-    let blob = BlobId {
-        id: top,
-        blob_type: BlobType::Tree,
-    };
-    assert_eq!(rt; used.get(&blob).copied(), Some(found));
+    assert_eq!(rt; used.get(&BlobId::tree(top)).copied(), Some(found));
     assert_eq!(rt; catalog.broken(alloc)?.len(), 0);
     Ok(())
 }

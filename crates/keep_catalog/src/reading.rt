@@ -3,7 +3,7 @@ ghost use Rattle.keep_docs.specs.declared.doc.DocError.TheVariants.{Memory};
 ghost use Rattle.keep_index.specs.Index.{pack_view};
 ghost use Rattle.keep_index.specs.declared.index_error.IndexError.TheVariants.{Doc};
 ghost use Rattle.keep_pack.specs.declared.pack_error.PackError.TheVariants as the_pack_error;
-ghost use Rattle.keep_catalog.specs.Files.{header_in, ids_among, index_in, what_is_read};
+ghost use Rattle.keep_catalog.specs.Files.{header_in, index_in, what_is_read};
 ghost use Rattle.keep_catalog.specs.Files.{snap_in, unread_index, unread_pack, unread_snap};
 ghost use Rattle.keep_snap.specs.Snap.{snap_view};
 ghost use Rattle.keep_snap.specs.declared.snap.SnapError.TheVariants as the_snap_error;
@@ -11,22 +11,11 @@ ghost use Rattle.keep_snap.specs.declared.snap.SnapError.TheVariants as the_snap
 use crate::unread::{FileError, Unread};
 use keep_docs::DocError;
 use keep_index::{IndexError, IndexedPack, read_index};
-use keep_names::{FileName, Id, Kind};
-use keep_pack::{PackEntry, PackError, read_header};
+use keep_names::{Blob, FileName, Id};
+use keep_pack::{PackError, read_header};
 use keep_repo::Repo;
 use keep_snap::{Snap, SnapError, read_snap};
 use std::alloc::{AllocError, Global};
-
-// The names of a kind among these.
-pub(crate) fn ids_of(alloc: Global, names: &[FileName], kind: Kind) -> Result<Vec<Id>, AllocError>
-    ensures { IfOk result (λ ids. ids.items ≡ ids_among kind names.now) }
-{
-    names
-        .iter()
-        .filter(|name| name.kind == kind)
-        .map(|name| name.id)
-        .collect(alloc)
-}
 
 // The entries of a pack. One that can't be read has none, and is noted.
 pub(crate) fn read_pack(
@@ -34,15 +23,12 @@ pub(crate) fn read_pack(
     repo: &Repo,
     pack: Id,
     unread: &mut Vec<Unread>,
-) -> Result<Vec<PackEntry>, AllocError>
+) -> Result<Vec<Blob>, AllocError>
     ensures entries { IfOk result (λ entries. entries.items ≡ what_is_read (header_in repo.now pack)) }
     ensures unread { OnOk result
         (unread.new.items ≡ unread.old.items ++ option_to_list (unread_pack repo.now pack)) }
 {
-    let name = FileName {
-        kind: Kind::Pack,
-        id: pack,
-    };
+    let name = FileName::pack(pack);
     let Some(bytes) = repo.get(name) else {
         return Ok(Vec::new(alloc));
     };
@@ -73,10 +59,7 @@ pub(crate) fn read_listed(
     ensures unread { OnOk result
         (unread.new.items ≡ unread.old.items ++ option_to_list (unread_index repo.now index)) }
 {
-    let name = FileName {
-        kind: Kind::Index,
-        id: index,
-    };
+    let name = FileName::index(index);
     let Some(bytes) = repo.get(name) else {
         return Ok(Vec::new(alloc));
     };
@@ -106,10 +89,7 @@ pub(crate) fn read_snapshot(
     ensures unread { OnOk result
         (unread.new.items ≡ unread.old.items ++ option_to_list (unread_snap repo.now snapshot)) }
 {
-    let name = FileName {
-        kind: Kind::Snapshot,
-        id: snapshot,
-    };
+    let name = FileName::snapshot(snapshot);
     let Some(bytes) = repo.get(name) else {
         return Ok(None);
     };
@@ -128,13 +108,13 @@ pub(crate) fn read_snapshot(
     }
 }
 
-fn is_pack_memory(refusal: PackError) -> bool
+pub(crate) fn is_pack_memory(refusal: PackError) -> bool
     ensures { IsTrue result ↔ (refusal ≡ the_pack_error.Memory) }
 {
     matches!(refusal, PackError::Memory)
 }
 
-fn is_index_memory(refusal: IndexError) -> bool
+pub(crate) fn is_index_memory(refusal: IndexError) -> bool
     ensures { IsTrue result ↔ (refusal ≡ Doc Memory) }
 {
     matches!(refusal, IndexError::Doc(DocError::Memory))

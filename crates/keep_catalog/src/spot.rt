@@ -1,4 +1,4 @@
-use keep_names::{BlobId, Id};
+use keep_names::{Blob, BlobId, Id};
 
 /// Where bytes stand: in which pack, and where in it. Spots are in order by pack, offset and length.
 #[derive(Clone, Copy, Debug, PartialEq, Eq, PartialOrd, Ord)]
@@ -10,9 +10,28 @@ pub struct Spot {
     pub length: u32,
 }
 
-/// A blob at a spot, as an index and a pack's header list it.
+/// A blob and the pack that it stands in, as an index and a pack's header list it.
 #[derive(Clone, Copy, Debug, PartialEq, Eq, PartialOrd, Ord)]
-pub struct Place {
+pub struct PackedBlob {
     pub blob: BlobId,
     pub spot: Spot,
+}
+
+impl PackedBlob {
+    ghost use Rattle.std.specs.Prelude.{◌≡◌};
+    ghost use Rattle.keep_catalog.specs.Places.{packed_of};
+
+    /// A blob that stands in this pack.
+    pub fn of(pack: Id, stored: Blob) -> PackedBlob
+        ensures { result ≡ packed_of pack stored }
+    {
+        PackedBlob {
+            blob: stored.blob,
+            spot: Spot {
+                pack,
+                offset: stored.offset,
+                length: stored.length,
+            },
+        }
+    }
 }

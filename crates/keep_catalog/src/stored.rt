@@ -2,15 +2,14 @@ ghost use Rattle.std.specs.Prelude.{◌≡◌, ◌++◌, ◌||◌, map, IfOk, On
 ghost use Rattle.std.specs.BTreeSet.{contains};
 ghost use Rattle.std.specs.List.{filter_map, flat_map};
 ghost use Rattle.keep_catalog.specs.Files.{unread_pack};
-ghost use Rattle.keep_catalog.specs.Orders.{place_cmp};
-ghost use Rattle.keep_catalog.specs.Places.{is_among, stored_in, stored_of};
-ghost use Rattle.keep_catalog.specs.declared.spot.Place as the_place;
+ghost use Rattle.keep_catalog.specs.Orders.{packed_blob_cmp};
+ghost use Rattle.keep_catalog.specs.Places.{is_among, stored_in, packed_of};
+ghost use Rattle.keep_catalog.specs.declared.spot.PackedBlob as the_packed_blob;
 
 use crate::reading::read_pack;
-use crate::spot::{Place, Spot};
+use crate::spot::PackedBlob;
 use crate::unread::Unread;
-use keep_names::Id;
-use keep_pack::PackEntry;
+use keep_names::{Blob, Id};
 use keep_repo::Repo;
 use std::alloc::{AllocError, Global};
 use std::collections::BTreeSet;
@@ -21,9 +20,9 @@ pub(crate) fn stored_places(
     repo: &Repo,
     packs: &[Id],
     unread: &mut Vec<Unread>,
-) -> Result<BTreeSet<Place>, AllocError>
-    ensures stored { IfOk result (λ stored. (p : the_place.Place)
-        → contains place_cmp stored p ≡ is_among (flat_map (stored_in repo.now) packs.now) p) }
+) -> Result<BTreeSet<PackedBlob>, AllocError>
+    ensures stored { IfOk result (λ stored. (p : the_packed_blob.PackedBlob)
+        → contains packed_blob_cmp stored p ≡ is_among (flat_map (stored_in repo.now) packs.now) p) }
     ensures unread { OnOk result
         (unread.new.items ≡ unread.old.items ++ filter_map (unread_pack repo.now) packs.now) }
 {
@@ -36,21 +35,13 @@ pub(crate) fn stored_places(
 }
 
 // Adds what a pack's header has.
-fn store(stored: &mut BTreeSet<Place>, pack: Id, entries: &[PackEntry]) -> Result<(), AllocError>
-    ensures { OnOk result ((p : the_place.Place)
-        → contains place_cmp stored.new p
-        ≡ (contains place_cmp stored.old p || is_among (map (stored_of pack) entries.now) p)) }
+fn store(stored: &mut BTreeSet<PackedBlob>, pack: Id, entries: &[Blob]) -> Result<(), AllocError>
+    ensures { OnOk result ((p : the_packed_blob.PackedBlob)
+        → contains packed_blob_cmp stored.new p
+        ≡ (contains packed_blob_cmp stored.old p || is_among (map (packed_of pack) entries.now) p)) }
 {
     for entry in entries {
-        let spot = Spot {
-            pack,
-            offset: entry.offset,
-            length: entry.length,
-        };
-        stored.insert(Place {
-            blob: entry.blob,
-            spot,
-        })?;
+        stored.insert(PackedBlob::of(pack, *entry))?;
     }
     Ok(())
 }

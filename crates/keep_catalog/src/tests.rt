@@ -1,7 +1,7 @@
-use crate::{Catalog, CatalogError, FileError, Place, Spot, Unread};
+use crate::{Catalog, CatalogError, FileError, PackedBlob, Spot, Unread};
 use keep_docs::DocError;
 use keep_index::IndexError;
-use keep_names::{BlobId, BlobType, FileName, Id, Kind, id_of};
+use keep_names::{BlobId, FileName, Id, Kind, id_of};
 use keep_pack::PackError;
 use keep_repo::{Bytes, Mark, Repo};
 use keep_snap::SnapError;
@@ -9,7 +9,7 @@ use std::alloc::{AllocError, Global};
 use std::test::Fail;
 
 // The pack of the one data blob `hello`. Its id is that of sha256sum.
-const HELLO: [u8; 46] = [
+pub(crate) const HELLO: [u8; 46] = [
     0x68, 0x65, 0x6c, 0x6c, 0x6f, 0x00, 0x05, 0x00, 0x00, 0x00, 0x2c, 0xf2, 0x4d, 0xba, 0x5f, 0xb0,
     0xa3, 0x0e, 0x26, 0xe8, 0x3b, 0x2a, 0xc5, 0xb9, 0xe2, 0x9e, 0x1b, 0x16, 0x1e, 0x5c, 0x1f, 0xa7,
     0x42, 0x5e, 0x73, 0x04, 0x33, 0x62, 0x93, 0x8b, 0x98, 0x24, 0x25, 0x00, 0x00, 0x00,
@@ -41,10 +41,7 @@ fn index_text(alloc: Global, entry: &str) -> Result<String, AllocError> {
 }
 
 fn hello() -> BlobId {
-    BlobId {
-        id: id_of(b"hello"),
-        blob_type: BlobType::Content,
-    }
+    BlobId::content(id_of(b"hello"))
 }
 
 #[test]
@@ -64,7 +61,7 @@ fn a_place_is_what_index_and_header_agree_on(rt: HostRuntime) -> Result<(), Fail
     for (entry, place) in [
         (
             "\"type\":\"data\",\"offset\":0,\"length\":5",
-            Some(Place { blob, spot }),
+            Some(PackedBlob { blob, spot }),
         ),
         ("\"type\":\"data\",\"offset\":1,\"length\":5", None),
         ("\"type\":\"data\",\"offset\":0,\"length\":4", None),
@@ -128,24 +125,15 @@ fn what_cannot_be_read_is_told_by_name(rt: HostRuntime) -> Result<(), Fail> {
     put(alloc, &mut repo, Kind::Pack, SECOND, &[1, 2, 3])?;
     put(alloc, &mut repo, Kind::Snapshot, FIRST, b"[]")?;
     let pack = Unread {
-        name: FileName {
-            kind: Kind::Pack,
-            id: SECOND,
-        },
+        name: FileName::pack(SECOND),
         refusal: FileError::Pack(PackError::ShortPack),
     };
     let index = Unread {
-        name: FileName {
-            kind: Kind::Index,
-            id: FIRST,
-        },
+        name: FileName::index(FIRST),
         refusal: FileError::Index(IndexError::Doc(DocError::NotJson)),
     };
     let snapshot = Unread {
-        name: FileName {
-            kind: Kind::Snapshot,
-            id: FIRST,
-        },
+        name: FileName::snapshot(FIRST),
         refusal: FileError::Snap(SnapError::BadSnapshot),
     };
     let (_, unread) = Catalog::read_past(alloc, &repo)?;

@@ -5,17 +5,16 @@ ghost use Rattle.std.specs.List.{filter_map, flat_map};
 ghost use Rattle.keep_names.specs.Orders.{blob_cmp};
 ghost use Rattle.keep_names.specs.declared.blob.BlobId as the_blob;
 ghost use Rattle.keep_catalog.specs.Orders.{blob_eq};
-ghost use Rattle.keep_catalog.specs.Places.{stored_in, stored_of};
+ghost use Rattle.keep_catalog.specs.Places.{stored_in, packed_of};
 ghost use Rattle.keep_catalog.specs.Places as spec;
 ghost use Rattle.keep_catalog.specs.Read.{IsHashed};
-ghost use Rattle.keep_catalog.specs.Wrong.{once, wrong_at, wrong_blobs_in, wrong_in};
+ghost use Rattle.keep_catalog.specs.Wrong.{first_of_each, wrong_at, wrong_blobs_in, wrong_in};
 
 use crate::bytes_there::{Hashed, is_honest};
 use crate::catalog::Catalog;
-use crate::reading::{ids_of, read_pack};
-use crate::spot::{Place, Spot};
-use keep_names::{BlobId, Id, Kind};
-use keep_pack::PackEntry;
+use crate::reading::read_pack;
+use crate::spot::PackedBlob;
+use keep_names::{Blob, BlobId, Id, Kind};
 use keep_repo::Repo;
 use std::alloc::{AllocError, Global};
 use std::collections::BTreeSet;
@@ -28,8 +27,7 @@ impl<'a> Catalog<'a> {
         ensures wrong { IfOk result (λ wrong. wrong.items ≡ wrong_blobs_in self.old) }
         ensures same { self.new ≡ self.old }
     {
-        let (names, _) = self.repo.list()?;
-        let packs = ids_of(alloc, &names, Kind::Pack)?;
+        let packs = self.repo.ids(Kind::Pack)?;
         hash_packs(alloc, self.repo, &packs, &mut self.hashed)
     }
 }
@@ -74,25 +72,17 @@ fn hash_entries(
     alloc: Global,
     repo: &Repo,
     pack: Id,
-    entries: &[PackEntry],
+    entries: &[Blob],
     hashed: &mut Hashed,
 ) -> Result<Vec<BlobId>, AllocError>
     requires { IsHashed repo.now hashed.old }
     ensures blobs { IfOk result (λ blobs.
-        blobs.items ≡ filter_map (wrong_at repo.now) (map (stored_of pack) entries.now)) }
+        blobs.items ≡ filter_map (wrong_at repo.now) (map (packed_of pack) entries.now)) }
     ensures after { IsHashed repo.now hashed.new }
 {
     let mut blobs = Vec::new(alloc);
     for entry in entries {
-        let spot = Spot {
-            pack,
-            offset: entry.offset,
-            length: entry.length,
-        };
-        let place = Place {
-            blob: entry.blob,
-            spot,
-        };
+        let place = PackedBlob::of(pack, *entry);
         hash_place(repo, place, hashed, &mut blobs)?;
     }
     Ok(blobs)
@@ -101,7 +91,7 @@ fn hash_entries(
 // Adds the blob of a place, if its bytes have another hash.
 fn hash_place(
     repo: &Repo,
-    place: Place,
+    place: PackedBlob,
     hashed: &mut Hashed,
     blobs: &mut Vec<BlobId>,
 ) -> Result<(), AllocError>
@@ -119,7 +109,7 @@ fn hash_place(
 }
 
 // Whether the place is honest, which is remembered.
-fn remember(repo: &Repo, place: Place, hashed: &mut Hashed) -> Result<bool, AllocError>
+fn remember(repo: &Repo, place: PackedBlob, hashed: &mut Hashed) -> Result<bool, AllocError>
     requires { IsHashed repo.now hashed.old }
     ensures honest { IfOk result (λ honest. honest ≡ spec.is_honest repo.now place.blob place.spot) }
     ensures after { IsHashed repo.now hashed.new }
@@ -137,7 +127,7 @@ fn tell(
     wrong: &mut Vec<(Id, BlobId)>,
 ) -> Result<(), AllocError>
     ensures { OnOk result (wrong.new.items
-        ≡ wrong.old.items ++ map (λ blob. (pack, blob)) (once blob_eq blobs.now)) }
+        ≡ wrong.old.items ++ map (λ blob. (pack, blob)) (first_of_each blob_eq blobs.now)) }
 {
     let mut told = BTreeSet::new(alloc);
     for blob in blobs {

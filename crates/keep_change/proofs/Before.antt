@@ -11,9 +11,9 @@ use Rattle.keep_repo.specs.Facet.{Stored, Marked, facet_cmp, facet_eq}
 use Rattle.keep_repo.proofs.Orders.{facet_total}
 use Rattle.keep_repo.specs.declared.facet.Facet.{Facet}
 use Rattle.keep_repo.specs.declared.facet.Facet.TheVariants.{File, Mark}
+use Rattle.keep_change.specs.NamedBytes.{NamedBytes}
 use Rattle.keep_change.specs.declared.change.Change.{Change}
 use Rattle.keep_change.specs.declared.change.PackMark.{PackMark}
-use Rattle.keep_change.specs.declared.change.StoredFile.{StoredFile}
 use Rattle.keep_change.specs.Change.{Written, written, record_of, added, dropped, set, cleared}
 use Rattle.keep_change.specs.Form.{HasNoFacetTwice}
 use Rattle.keep_change.specs.Touch.{before_of}
@@ -58,9 +58,9 @@ record_parts c q =
     ∙ ap (option_or (find p (map dropped c.drops))) (find-append p (map set c.sets) (map cleared c.clears)))
     ∙ rw (find-map added p c.adds, find-map dropped p c.drops, find-map set p c.sets, find-map cleared p c.clears) refl
 
-one_of_four : (a d : Option StoredFile) (s k : Option PackMark) → some_number a + some_number d + some_number s + some_number k ≤ 1 →
+one_of_four : (a d : Option NamedBytes) (s k : Option PackMark) → some_number a + some_number d + some_number s + some_number k ≤ 1 →
     option_map_or (λ (w : Written). w.before) (option_or (option_map added a) (option_or (option_map dropped d) (option_or (option_map set s) (option_map cleared k)))) None
-    ≡ option_or (option_map (λ (f : StoredFile). Stored f.bytes) d) (option_map (λ (m : PackMark). Marked m.mark) k)
+    ≡ option_or (option_map (λ (f : NamedBytes). Stored f.bytes) d) (option_map (λ (m : PackMark). Marked m.mark) k)
 one_of_four None None None None few = refl
 one_of_four None None None (Some k) few = refl
 one_of_four None None (Some s) None few = refl
@@ -86,8 +86,8 @@ before_parts c once q =
       arith,
       once q,
       count_by-facets (facet_eq q) c,
-      find_counted (λ (f : StoredFile). File f.name) (facet_eq q) c.adds,
-      find_counted (λ (f : StoredFile). File f.name) (facet_eq q) c.drops,
+      find_counted (λ (f : NamedBytes). File f.name) (facet_eq q) c.adds,
+      find_counted (λ (f : NamedBytes). File f.name) (facet_eq q) c.drops,
       find_counted (λ (m : PackMark). Mark m.pack) (facet_eq q) c.sets,
       find_counted (λ (m : PackMark). Mark m.pack) (facet_eq q) c.clears,
     ) in
@@ -104,10 +104,10 @@ or_nothing None = refl
 or_nothing (Some x) = refl
 
 -- of a file it asks for what it drops
-pub before-file : (c : Change) → HasNoFacetTwice c → (name : FileName) (d : Option StoredFile) → find (λ f. facet_eq (File name) (File f.name)) c.drops ≡ d → before_of c (File name) ≡ option_map (λ (f : StoredFile). Stored f.bytes) d
+pub before-file : (c : Change) → HasNoFacetTwice c → (name : FileName) (d : Option NamedBytes) → find (λ f. facet_eq (File name) (File f.name)) c.drops ≡ d → before_of c (File name) ≡ option_map (λ (f : NamedBytes). Stored f.bytes) d
 before-file c once name d found =
     before_parts c once (File name)
-    ∙ rw (none_found c.clears, found) (or_nothing (option_map (λ (f : StoredFile). Stored f.bytes) d))
+    ∙ rw (none_found c.clears, found) (or_nothing (option_map (λ (f : NamedBytes). Stored f.bytes) d))
 
 -- of a mark it asks for what it clears
 pub before-mark : (c : Change) → HasNoFacetTwice c → (pack : Id) (k : Option PackMark) → find (λ m. facet_eq (Mark pack) (Mark m.pack)) c.clears ≡ k → before_of c (Mark pack) ≡ option_map (λ (m : PackMark). Marked m.mark) k
@@ -118,9 +118,9 @@ pub before-some : (c : Change) → HasNoFacetTwice c → (q : Facet) → is_some
 before-some c once q =
     ap is_some (before_parts c once q)
     ∙ either (find (λ f. facet_eq q (File f.name)) c.drops) (find (λ m. facet_eq q (Mark m.pack)) c.clears)
-    ∙ rw (is_some-find facet_cmp facet_total (λ (f : StoredFile). File f.name) q c.drops, is_some-find facet_cmp facet_total (λ (m : PackMark). Mark m.pack) q c.clears) refl
+    ∙ rw (is_some-find facet_cmp facet_total (λ (f : NamedBytes). File f.name) q c.drops, is_some-find facet_cmp facet_total (λ (m : PackMark). Mark m.pack) q c.clears) refl
   where
-    either : (d : Option StoredFile) (k : Option PackMark) → is_some (option_or (option_map (λ (f : StoredFile). Stored f.bytes) d) (option_map (λ (m : PackMark). Marked m.mark) k)) ≡ (is_some d || is_some k)
+    either : (d : Option NamedBytes) (k : Option PackMark) → is_some (option_or (option_map (λ (f : NamedBytes). Stored f.bytes) d) (option_map (λ (m : PackMark). Marked m.mark) k)) ≡ (is_some d || is_some k)
     either None None = refl
     either None (Some m) = refl
     either (Some f) k = refl

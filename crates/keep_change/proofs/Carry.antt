@@ -12,9 +12,9 @@ use Rattle.keep_repo.proofs.Orders.{facet_eq_same}
 use Rattle.keep_repo.specs.Facet.{facet_eq}
 use Rattle.keep_repo.specs.Repository.{Repository, held}
 use Rattle.keep_repo.specs.declared.facet.Facet.{Facet}
+use Rattle.keep_change.specs.NamedBytes.{NamedBytes}
 use Rattle.keep_change.specs.declared.change.Change.{Change}
 use Rattle.keep_change.specs.declared.change.PackMark.{PackMark}
-use Rattle.keep_change.specs.declared.change.StoredFile.{StoredFile}
 use Rattle.keep_change.specs.Change.{Holding, Written, added, dropped, set, cleared, reversed, written, asked, is_ready, is_met, record_of, replaced}
 use Rattle.keep_change.specs.Fold.{Numbered, fold_of, first_break}
 use Rattle.keep_change.specs.Form.{HasNoFacetTwice}
@@ -47,13 +47,13 @@ each_written_once (w ∷ ws) h once q =
 
 -- ---- what the eight loops of a result make
 
-held-put_files : (fs : List StoredFile) (r : Repository) → held (record r { files = put_files fs r.files }) ≡ each_written (map added fs) (held r)
+held-put_files : (fs : List NamedBytes) (r : Repository) → held (record r { files = put_files fs r.files }) ≡ each_written (map added fs) (held r)
 held-put_files [] r = refl
 held-put_files (f ∷ fs) r =
     held-put_files fs (record r { files = finite.insert r.files f.name f.bytes })
     ∙ ap (each_written (map added fs)) (λ i q. held-insert_file r f.name f.bytes q i)
 
-held-take_files : (fs : List StoredFile) (r : Repository) → held (record r { files = take_files fs r.files }) ≡ each_written (map dropped fs) (held r)
+held-take_files : (fs : List NamedBytes) (r : Repository) → held (record r { files = take_files fs r.files }) ≡ each_written (map dropped fs) (held r)
 held-take_files [] r = refl
 held-take_files (f ∷ fs) r =
     held-take_files fs (record r { files = finite.remove r.files f.name })

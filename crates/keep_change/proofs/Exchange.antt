@@ -15,9 +15,9 @@ use Rattle.keep_repo.specs.Facet.{Stored, Marked}
 use Rattle.keep_repo.specs.Repository.{Repository, held}
 use Rattle.keep_repo.specs.declared.facet.Mark as the_mark
 use Rattle.keep_change.specs.Change.{added, set, holds_same, is_as_written}
+use Rattle.keep_change.specs.NamedBytes.{NamedBytes}
 use Rattle.keep_change.specs.Result.{put_files, put_marks, take_files, take_marks}
 use Rattle.keep_change.specs.declared.change.PackMark.{PackMark}
-use Rattle.keep_change.specs.declared.change.StoredFile.{StoredFile}
 
 module _ {I K X : Type 0} {R : K → K → Ordering} (key : I → K) (value : I → X) where
   put_all : List I → FinMap R X → FinMap R X
@@ -83,7 +83,7 @@ no_mark : (o : Option the_mark.Mark) → holds_same (option_map Marked o) None �
 no_mark None h = refl
 no_mark (Some x) h = cc h
 
-no_files : (r : Repository) (fs : List StoredFile) → list_all (is_as_written (held r)) (map added fs) ≡ true → AllByRecursion (λ f. get r.files f.name ≡ None) fs
+no_files : (r : Repository) (fs : List NamedBytes) → list_all (is_as_written (held r)) (map added fs) ≡ true → AllByRecursion (λ f. get r.files f.name ≡ None) fs
 no_files r [] h = tt
 no_files r (f ∷ fs) h = let parts = and_parts _ _ h in (no_bytes _ parts.0, no_files r fs parts.1)
 
@@ -91,12 +91,12 @@ no_marks : (r : Repository) (ms : List PackMark) → list_all (is_as_written (he
 no_marks r [] h = tt
 no_marks r (m ∷ ms) h = let parts = and_parts _ _ h in (no_mark _ parts.0, no_marks r ms parts.1)
 
-all_files_put : (fs : List StoredFile) (m : FinMap name_cmp (List ℕ)) → put_files fs m ≡ put_all (λ f. f.name) (λ f. f.bytes) fs m
+all_files_put : (fs : List NamedBytes) (m : FinMap name_cmp (List ℕ)) → put_files fs m ≡ put_all (λ f. f.name) (λ f. f.bytes) fs m
 unfolding put_all
 all_files_put [] m = refl
 all_files_put (f ∷ fs) m = all_files_put fs (insert m f.name f.bytes)
 
-all_files_taken : (fs : List StoredFile) (m : FinMap name_cmp (List ℕ)) → take_files fs m ≡ take_all (λ f. f.name) (λ f. f.bytes) fs m
+all_files_taken : (fs : List NamedBytes) (m : FinMap name_cmp (List ℕ)) → take_files fs m ≡ take_all (λ f. f.name) (λ f. f.bytes) fs m
 unfolding take_all
 all_files_taken [] m = refl
 all_files_taken (f ∷ fs) m = all_files_taken fs (remove m f.name)
@@ -112,10 +112,10 @@ all_marks_taken [] m = refl
 all_marks_taken (s ∷ ms) m = all_marks_taken ms (remove m s.pack)
 
 -- the repository with these files put among its own, or taken from them, and with these marks
-abbrev pub files_put : List StoredFile → Repository → Repository
+abbrev pub files_put : List NamedBytes → Repository → Repository
 files_put fs r = record r { files = put_files fs r.files }
 
-abbrev pub files_taken : List StoredFile → Repository → Repository
+abbrev pub files_taken : List NamedBytes → Repository → Repository
 files_taken fs r = record r { files = take_files fs r.files }
 
 abbrev pub marks_put : List PackMark → Repository → Repository
@@ -125,7 +125,7 @@ abbrev pub marks_taken : List PackMark → Repository → Repository
 marks_taken ms r = record r { marks = take_marks ms r.marks }
 
 -- files that are put where there were none, and taken away again
-pub files_back : (r : Repository) (fs : List StoredFile) → list_all (is_as_written (held r)) (map added fs) ≡ true → files_taken fs (files_put fs r) ≡ r
+pub files_back : (r : Repository) (fs : List NamedBytes) → list_all (is_as_written (held r)) (map added fs) ≡ true → files_taken fs (files_put fs r) ≡ r
 files_back r fs ready =
     ap (λ files. record r { files = files })
     (all_files_taken fs _ ∙ ap (take_all (λ f. f.name) (λ f. f.bytes) fs) (all_files_put fs r.files)
@@ -138,7 +138,7 @@ marks_back r ms ready =
     (all_marks_taken ms _ ∙ ap (take_all (λ s. s.pack) (λ s. s.mark) ms) (all_marks_put ms r.marks)
     ∙ take-put_all id_total id_exact (λ s. s.pack) (λ s. s.mark) ms r.marks (no_marks r ms ready))
 
-put_files-append : (fs gs : List StoredFile) (m : FinMap name_cmp (List ℕ)) → put_files (fs ++ gs) m ≡ put_files gs (put_files fs m)
+put_files-append : (fs gs : List NamedBytes) (m : FinMap name_cmp (List ℕ)) → put_files (fs ++ gs) m ≡ put_files gs (put_files fs m)
 put_files-append [] gs m = refl
 put_files-append (f ∷ fs) gs m = put_files-append fs gs (insert m f.name f.bytes)
 
@@ -147,7 +147,7 @@ put_marks-append [] ns m = refl
 put_marks-append (s ∷ ms) ns m = put_marks-append ms ns (insert m s.pack s.mark)
 
 -- one more file
-pub files_put_more : (r : Repository) (fs : List StoredFile) (i : ℕ) (f : StoredFile) → i < length fs → f ≡ get_or fs i f → files_put (f ∷ []) (files_put (take i fs) r) ≡ files_put (take (i + 1) fs) r
+pub files_put_more : (r : Repository) (fs : List NamedBytes) (i : ℕ) (f : NamedBytes) → i < length fs → f ≡ get_or fs i f → files_put (f ∷ []) (files_put (take i fs) r) ≡ files_put (take (i + 1) fs) r
 files_put_more r fs i f within is =
     ap (λ files. record r { files = files })
     (sym (ap (λ gs. put_files gs r.files) (take_more fs i f within ∙ ap (λ g. take i fs ++ g ∷ []) (sym is)) ∙ put_files-append (take i fs) (f ∷ []) r.files))
@@ -159,6 +159,6 @@ marks_put_more r ms i d within =
     (sym (ap (λ ns. put_marks ns r.marks) (take_more ms i d within) ∙ put_marks-append (take i ms) (get_or ms i d ∷ []) r.marks))
 
 -- marks stand apart from files
-pub marks_apart : (r : Repository) (fs : List StoredFile) (ms : List PackMark) → list_all (is_as_written (held (files_put fs r))) (map set ms) ≡ list_all (is_as_written (held r)) (map set ms)
+pub marks_apart : (r : Repository) (fs : List NamedBytes) (ms : List PackMark) → list_all (is_as_written (held (files_put fs r))) (map set ms) ≡ list_all (is_as_written (held r)) (map set ms)
 marks_apart r fs [] = refl
 marks_apart r fs (m ∷ ms) = ap (λ b. is_as_written (held r) (set m) && b) (marks_apart r fs ms)

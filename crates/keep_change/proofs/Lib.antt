@@ -1,3 +1,5 @@
+pub mod Apart
+pub mod Asking
 pub mod Before
 pub mod Carry
 pub mod Exchange

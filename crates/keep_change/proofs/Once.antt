@@ -18,9 +18,9 @@ use Rattle.keep_repo.specs.Facet.{facet_eq}
 use Rattle.keep_repo.specs.declared.facet.Facet.{Facet}
 use Rattle.keep_repo.specs.declared.facet.Facet.TheVariants.{File, Mark}
 use Rattle.keep_repo.proofs.Orders.{facet_eq_same, facet_eq_refl}
+use Rattle.keep_change.specs.NamedBytes.{NamedBytes}
 use Rattle.keep_change.specs.declared.change.Change.{Change}
 use Rattle.keep_change.specs.declared.change.PackMark.{PackMark}
-use Rattle.keep_change.specs.declared.change.StoredFile.{StoredFile}
 use Rattle.keep_change.specs.Change.{added, dropped, set, cleared}
 use Rattle.keep_change.specs.Form.{is_once, HasNoFacetTwice}
 use Rattle.keep_change.specs.Touch.{facets}
@@ -59,7 +59,7 @@ pub count_by-facets : (p : Facet → Bool) (c : Change) → count_by p (facets c
 count_by-facets p c = simp (map-append, map-map, sum_by-append) (omega arith)
 
 -- something is written where one of the four lists isn't empty
-pub some_written : (a d : List StoredFile) (s k : List PackMark) → IsTrue (not (((eqb (length a) 0 && eqb (length d) 0) && eqb (length s) 0) && eqb (length k) 0)) ↔ ((map added a ++ (map dropped d ++ (map set s ++ map cleared k))) ≢ [])
+pub some_written : (a d : List NamedBytes) (s k : List PackMark) → IsTrue (not (((eqb (length a) 0 && eqb (length d) 0) && eqb (length s) 0) && eqb (length k) 0)) ↔ ((map added a ++ (map dropped d ++ (map set s ++ map cleared k))) ≢ [])
 some_written [] [] [] [] = (λ h e. cc h, λ h. absurd (h refl))
 some_written [] [] [] (x ∷ k) = (λ h e. cc e, λ h. rw (eqb-suc-zero (length k)) refl)
 some_written [] [] (x ∷ s) k = (λ h e. cc e, λ h. rw (eqb-suc-zero (length s)) refl)

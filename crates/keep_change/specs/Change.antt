@@ -9,9 +9,9 @@ use Rattle.keep_names.specs.declared.id.Id.{Id}
 use Rattle.keep_repo.specs.Facet.{Content, Stored, Marked, facet_eq}
 use Rattle.keep_repo.specs.declared.facet.Facet.{Facet}
 use Rattle.keep_repo.specs.declared.facet.Facet.TheVariants.{File, Mark}
+use Rattle.keep_change.specs.NamedBytes.{NamedBytes}
 use Rattle.keep_change.specs.declared.change.Change.{Change}
 use Rattle.keep_change.specs.declared.change.PackMark.{PackMark}
-use Rattle.keep_change.specs.declared.change.StoredFile.{StoredFile}
 
 -- what each facet holds, none where it is empty
 abbrev pub Holding : Type 0
@@ -24,7 +24,7 @@ pub record Written : Type 0 where
   pub after : Option Content
 
 -- an added file isn't there before
-abbrev pub added : StoredFile → Written
+abbrev pub added : NamedBytes → Written
 added file = record { facet = File file.name; before = None; after = Some (Stored file.bytes) }
 
 -- a set mark isn't there before
@@ -36,7 +36,7 @@ abbrev pub reversed : Written → Written
 reversed w = record { facet = w.facet; before = w.after; after = w.before }
 
 -- a dropped file is there before, with just its bytes
-abbrev pub dropped : StoredFile → Written
+abbrev pub dropped : NamedBytes → Written
 dropped file = reversed (added file)
 
 -- a cleared mark is there before, with just its moment

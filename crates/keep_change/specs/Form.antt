@@ -6,8 +6,8 @@ use Rattle.keep_names.specs.Sha256.{sha256}
 use Rattle.keep_repo.specs.Facet.{facet_eq, facet_cmp}
 use Rattle.keep_repo.specs.declared.facet.Facet.{Facet}
 use Rattle.keep_repo.specs.declared.facet.Facet.TheVariants.{File, Mark}
+use Rattle.keep_change.specs.NamedBytes.{NamedBytes}
 use Rattle.keep_change.specs.declared.change.Change.{Change}
-use Rattle.keep_change.specs.declared.change.StoredFile.{StoredFile}
 use Rattle.keep_change.specs.Change.{Holding, written, asked, is_as_written, is_as_asked}
 use Rattle.keep_change.specs.Touch.{facets}
 
@@ -35,7 +35,7 @@ abbrev pub HasNoFacetTwice : Change → Type 0
 HasNoFacetTwice c = (q : Facet) → count_by (facet_eq q) (facets c) ≤ 1
 
 -- each file is named by the SHA-256 of its bytes
-abbrev pub AreNamedByBytes : List StoredFile → Type 0
+abbrev pub AreNamedByBytes : List NamedBytes → Type 0
 AreNamedByBytes files = All (λ f. f.name.id.0 ≡ sha256 f.bytes) files
 
 -- the change can be committed to some repository: its lists are in order, no facet stands twice, the adds are named by their bytes, and something is written

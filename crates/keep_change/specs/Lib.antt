@@ -3,6 +3,8 @@ pub mod Fold
 pub mod Form
 pub mod Holdings
 pub mod Law
+pub mod Lists
+pub mod NamedBytes
 pub mod Outline
 pub mod Result
 pub mod Touch

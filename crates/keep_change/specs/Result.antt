@@ -4,17 +4,17 @@ use Rattle.std.specs.FinMap as map
 use Rattle.keep_names.specs.Orders.{name_cmp, id_cmp}
 use Rattle.keep_repo.specs.Repository.{Repository}
 use Rattle.keep_repo.specs.declared.facet.Mark as the_mark
+use Rattle.keep_change.specs.NamedBytes.{NamedBytes}
 use Rattle.keep_change.specs.declared.change.Change.{Change}
 use Rattle.keep_change.specs.declared.change.PackMark.{PackMark}
-use Rattle.keep_change.specs.declared.change.StoredFile.{StoredFile}
 
 -- the files, with these put among them
-abbrev pub put_files : List StoredFile → map.FinMap name_cmp (List ℕ) → map.FinMap name_cmp (List ℕ)
+abbrev pub put_files : List NamedBytes → map.FinMap name_cmp (List ℕ) → map.FinMap name_cmp (List ℕ)
 put_files [] files = files
 put_files (f ∷ fs) files = put_files fs (map.insert files f.name f.bytes)
 
 -- the files without these
-abbrev pub take_files : List StoredFile → map.FinMap name_cmp (List ℕ) → map.FinMap name_cmp (List ℕ)
+abbrev pub take_files : List NamedBytes → map.FinMap name_cmp (List ℕ) → map.FinMap name_cmp (List ℕ)
 take_files [] files = files
 take_files (f ∷ fs) files = take_files fs (map.remove files f.name)
 

@@ -1,16 +1,10 @@
 ghost use Rattle.std.specs.Prelude.{◌≡◌, [], false};
 
 use crate::listed::Listed;
+use crate::stored_file::StoredFile;
 use keep_names::{FileName, Id};
-use keep_repo::{Bytes, Mark};
+use keep_repo::Mark;
 use std::alloc::Global;
-
-/// A file that a change adds or drops.
-#[derive(Debug, Drop)]
-pub struct StoredFile {
-    pub name: FileName,
-    pub bytes: Bytes,
-}
 
 /// A mark that a change sets or clears.
 #[derive(Clone, Copy, Debug, PartialEq, Eq)]

@@ -5,7 +5,8 @@ ghost use Rattle.keep_repo.specs.Repository.{held};
 ghost use Rattle.keep_change.specs.Change.{added, set, is_as_written, is_ready};
 ghost use Rattle.keep_change.specs.Result as made;
 
-use crate::change::{Change, PackMark, StoredFile};
+use crate::change::{Change, PackMark};
+use crate::stored_file::StoredFile;
 use keep_repo::Repo;
 use std::alloc::AllocError;
 
@@ -67,8 +68,8 @@ fn put_file(file: &StoredFile, repo: &mut Repo) -> Result<(), AllocError>
         OnOk result (repo.new ≡ record repo.old { files = files }) }
     ensures err { OnErr result (repo.new ≡ repo.old) }
 {
-    let bytes = file.bytes.clone()?;
-    repo.insert_file(file.name, bytes)
+    let bytes = file.bytes().clone()?;
+    repo.insert_file(file.name(), bytes)
 }
 
 /// Puts all of the files, or none.
@@ -107,7 +108,7 @@ fn take_files(files: &[StoredFile], repo: &mut Repo)
     ensures { repo.new ≡ record repo.old { files = made.take_files files.now repo.old.files } }
 {
     for file in files {
-        repo.remove_file(file.name);
+        repo.remove_file(file.name());
     }
 }
 

@@ -1,4 +1,5 @@
 ghost use Rattle.keep_change.specs.Law.{RedoIsExact, TakingBackRestores, UndoIsExact};
+ghost use Rattle.keep_change.specs.Lists.{SortedListsAreWellFormed, WhatIsAskedIsMet};
 
 /// The law under `unapply`: it gives back the repository that the change was made in.
 pub fn taking_back_restores()
@@ -13,4 +14,14 @@ pub fn undo_is_exact()
 /// The law under redo: what becomes of a history when a change is put in at its place.
 pub fn redo_is_exact()
     ensures { RedoIsExact }
+{}
+
+/// What a planner shows of its change's lists, so that the change can be committed to some repository.
+pub fn sorted_lists_are_well_formed()
+    ensures { SortedListsAreWellFormed }
+{}
+
+/// What a planner shows of the repository that it plans on, so that its change is met there.
+pub fn what_is_asked_is_met()
+    ensures { WhatIsAskedIsMet }
 {}

@@ -9,14 +9,19 @@ mod listed;
 mod meets;
 mod member;
 mod outline;
+mod stored_file;
 #[cfg(test)]
 mod tests;
 mod touch;
 mod well_formedness;
 
-pub use change::{Change, PackMark, Planned, StoredFile};
+pub use change::{Change, PackMark, Planned};
 pub use holder::Holder;
-pub use laws::{redo_is_exact, taking_back_restores, undo_is_exact};
+pub use laws::{
+    redo_is_exact, sorted_lists_are_well_formed, taking_back_restores, undo_is_exact,
+    what_is_asked_is_met,
+};
 pub use listed::Listed;
 pub use member::Member;
 pub use outline::{Outline, What};
+pub use stored_file::StoredFile;

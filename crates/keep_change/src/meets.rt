@@ -3,9 +3,10 @@ ghost use Rattle.keep_repo.specs.Facet.{Stored, Marked};
 ghost use Rattle.keep_change.specs.Change.{is_met, is_as_written, is_as_asked, written, asked, holds_same};
 ghost use Rattle.keep_change.specs.Form.{lesser, least_where, least_unmet};
 
-use crate::change::{Change, PackMark, StoredFile};
+use crate::change::{Change, PackMark};
 use crate::holder::Holder;
 use crate::member::Member;
+use crate::stored_file::StoredFile;
 use keep_repo::Facet;
 
 impl Change {
@@ -94,8 +95,9 @@ fn least_other_file<H: Holder>(files: &[StoredFile], holder: &H) -> Option<Facet
 {
     let mut least = None;
     for file in files {
-        if !holder.has_file(file.name, &file.bytes) {
-            least = lesser(least, Some(Facet::File(file.name)));
+        let name = file.name();
+        if !holder.has_file(name, file.bytes()) {
+            least = lesser(least, Some(Facet::File(name)));
         }
     }
     least

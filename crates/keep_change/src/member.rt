@@ -3,7 +3,8 @@ ghost use Rattle.std.specs.List.{list_any, find};
 ghost use Rattle.keep_repo.specs.Facet.{facet_eq};
 ghost use Rattle.keep_change.specs.Form.{IsInOrder};
 
-use crate::change::{PackMark, StoredFile};
+use crate::change::PackMark;
+use crate::stored_file::StoredFile;
 use keep_names::{FileName, Id};
 use keep_repo::Facet;
 
@@ -24,7 +25,7 @@ impl Member for StoredFile {
     ghost facet_of = { λ file. File file.name };
 
     fn facet(&self) -> Facet {
-        Facet::File(self.name)
+        Facet::File(self.name())
     }
 }
 

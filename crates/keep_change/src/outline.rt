@@ -1,8 +1,9 @@
 ghost use Rattle.std.specs.Prelude.{◌≡◌, IfOk, map};
 ghost use Rattle.keep_change.specs.Outline.{outline_of, empty_outline};
 
-use crate::change::{Change, PackMark, StoredFile};
+use crate::change::{Change, PackMark};
 use crate::listed::Listed;
+use crate::stored_file::StoredFile;
 use keep_names::{FileName, Id};
 use std::alloc::{AllocError, Global};
 
@@ -69,7 +70,7 @@ impl Outline {
 fn names_of(alloc: Global, files: &[StoredFile]) -> Result<Vec<FileName>, AllocError>
     ensures { IfOk result (λ names. names.items ≡ map (λ f. f.name) files.now) }
 {
-    files.iter().map(|file| file.name).collect(alloc)
+    files.iter().map(|file| file.name()).collect(alloc)
 }
 
 fn packs_of(alloc: Global, marks: &[PackMark]) -> Result<Vec<Id>, AllocError>

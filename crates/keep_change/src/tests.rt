@@ -81,7 +81,7 @@ fn files(
     let mut files = Vec::new(alloc);
     for (name, text) in rows {
         let bytes = bytes_of(alloc, text)?;
-        files.push(StoredFile { name: *name, bytes })?;
+        files.push(StoredFile::under(*name, bytes))?;
     }
     Ok(Listed::from_vec(files))
 }
@@ -107,6 +107,20 @@ fn small_repository(alloc: Global) -> Result<Repo, AllocError> {
     repo.insert_file(SNAPSHOT_A, bytes_of(alloc, "a")?)?;
     repo.insert_mark(MARK_A.pack, MARK_A.mark)?;
     Ok(repo)
+}
+
+#[test]
+fn a_file_that_is_made_from_its_bytes_is_named_by_them(rt: HostRuntime) -> Result<(), Fail> {
+    let alloc = rt.alloc();
+    let file = StoredFile::of(alloc, Kind::Index, b"a".to_vec(alloc)?)?;
+    assert_eq!(rt; file.name(), INDEX_A);
+    assert_eq!(rt; file.bytes().as_slice(), b"a".as_slice());
+    let mut files = Vec::new(alloc);
+    files.push(file)?;
+    let mut change = Change::new(alloc);
+    change.adds = Listed::from_vec(files);
+    assert!(rt; change.well_formed());
+    Ok(())
 }
 
 #[test]

@@ -86,7 +86,7 @@ impl Change {
         ensures { result ≡ holds_same (before_of self.now (Facet.File name)) (Some (Stored bytes.now)) }
     {
         match find(self.drops.as_slice(), Facet::File(name)) {
-            Some(file) => file.bytes.as_slice() == bytes.as_slice(),
+            Some(file) => file.bytes().as_slice() == bytes.as_slice(),
             None => false,
         }
     }

@@ -5,9 +5,9 @@ ghost use Rattle.keep_change.specs.Change.{written};
 ghost use Rattle.keep_change.specs.Form.{IsInOrder, ListsInOrder, HasNoFacetTwice, AreNamedByBytes, IsWellFormed, is_once};
 ghost use Rattle.keep_change.specs.Touch.{facets};
 
-use crate::change::{Change, StoredFile};
+use crate::change::Change;
 use crate::member::{Member, contains};
-use keep_names::id_of;
+use crate::stored_file::StoredFile;
 use keep_repo::Facet;
 
 impl Change {
@@ -97,9 +97,7 @@ impl Change {
 fn are_named_by_bytes(files: &[StoredFile]) -> bool
     ensures { IsTrue result ↔ AreNamedByBytes files.now }
 {
-    files
-        .iter()
-        .all(|file| id_of(file.bytes.as_slice()) == file.name.id)
+    files.iter().all(|file| file.is_named_by_bytes())
 }
 
 /// Whether each member's facet is above the one before.

@@ -19,7 +19,7 @@ use Rattle.keep_names.specs.Id.{IsDigest}
 use Rattle.keep_names.specs.declared.id.Id.{Id}
 use Rattle.keep_docs.specs.Fields.{as_id, as_list, id_data, others, values_of}
 use Rattle.keep_docs.specs.Lists.{each, list_data}
-use Rattle.keep_docs.specs.Sound.{IsSound, AreSound, HasSound, StandsBefore}
+use Rattle.keep_docs.specs.Readable.{IsReadable, AreReadable, HasReadable, StandsBefore}
 use Rattle.keep_docs.proofs.IdTexts.{id_of_text-id_text}
 
 -- ---- what is read back
@@ -77,9 +77,9 @@ module _ (named : List (List ℕ)) where
   others-others no_members = refl
   others-others (member k d ms) = again_either (IsNamed k) k d (others named ms) refl (others-others ms)
 
--- ---- soundness
+-- ---- what is readable
 
-before_trans : (k l : List ℕ) (ms : Members) → slice_cmp nat_cmp k l ≡ Less → StandsBefore l ms → StandsBefore k ms
+pub before_trans : (k l : List ℕ) (ms : Members) → slice_cmp nat_cmp k l ≡ Less → StandsBefore l ms → StandsBefore k ms
 before_trans k l no_members less h = tt
 before_trans k l (member q d ms) less h = (nat_list_cmp_total.trans k l q less h.0, before_trans k l ms less h.1)
 
@@ -90,36 +90,36 @@ before_put_at Equal q k l d e ms less h later = h
 before_put_at Greater q k l d e ms less h later = (h.0, later)
 
 -- a key that stands before what is put
-before_put : (q k : List ℕ) (d : Data) (ms : Members) → slice_cmp nat_cmp q k ≡ Less → StandsBefore q ms → StandsBefore q (put k d ms)
+pub before_put : (q k : List ℕ) (d : Data) (ms : Members) → slice_cmp nat_cmp q k ≡ Less → StandsBefore q ms → StandsBefore q (put k d ms)
 before_put q k d no_members less h = (less, tt)
 before_put q k d (member l e ms) less h = before_put_at (slice_cmp nat_cmp k l) q k l d e ms less h (before_put q k d ms less h.1)
 
-sound_put_at : (o : Ordering) (k l : List ℕ) (d e : Data) (ms : Members) → slice_cmp nat_cmp k l ≡ o → IsUtf8 k → IsSound d → HasSound (member l e ms) → HasSound (put k d ms)
-    → HasSound (match_ordering o (member k d (member l e ms)) (member l d ms) (member l e (put k d ms)))
-sound_put_at Less k l d e ms is text sound h later = (text, sound, (is, before_trans k l ms is h.2), h)
-sound_put_at Equal k l d e ms is text sound h later = (h.0, sound, h.2, h.3)
-sound_put_at Greater k l d e ms is text sound h later =
+readable_put_at : (o : Ordering) (k l : List ℕ) (d e : Data) (ms : Members) → slice_cmp nat_cmp k l ≡ o → IsUtf8 k → IsReadable d → HasReadable (member l e ms) → HasReadable (put k d ms)
+    → HasReadable (match_ordering o (member k d (member l e ms)) (member l d ms) (member l e (put k d ms)))
+readable_put_at Less k l d e ms is text readable h later = (text, readable, (is, before_trans k l ms is h.2), h)
+readable_put_at Equal k l d e ms is text readable h later = (h.0, readable, h.2, h.3)
+readable_put_at Greater k l d e ms is text readable h later =
     let less : slice_cmp nat_cmp l k ≡ Less = nat_list_cmp_total.antisymm l k ∙ ap ordering_reverse is in
     (h.0, h.1, before_put l k d ms less h.2, later)
 
--- an object stays sound where a sound value is put
-pub HasSound-put : (k : List ℕ) (d : Data) (ms : Members) → IsUtf8 k → IsSound d → HasSound ms → HasSound (put k d ms)
-HasSound-put k d no_members text sound all = (text, sound, tt, tt)
-HasSound-put k d (member l e ms) text sound all = sound_put_at (slice_cmp nat_cmp k l) k l d e ms refl text sound all (HasSound-put k d ms text sound all.3)
+-- an object stays readable where a readable value is put
+pub HasReadable-put : (k : List ℕ) (d : Data) (ms : Members) → IsUtf8 k → IsReadable d → HasReadable ms → HasReadable (put k d ms)
+HasReadable-put k d no_members text readable all = (text, readable, tt, tt)
+HasReadable-put k d (member l e ms) text readable all = readable_put_at (slice_cmp nat_cmp k l) k l d e ms refl text readable all (HasReadable-put k d ms text readable all.3)
 
-pub AreSound-items_of : (ds : List Data) → AllByRecursion IsSound ds → AreSound (items_of ds)
-AreSound-items_of [] h = tt
-AreSound-items_of (d ∷ ds) h = (h.0, AreSound-items_of ds h.1)
+pub AreReadable-items_of : (ds : List Data) → AllByRecursion IsReadable ds → AreReadable (items_of ds)
+AreReadable-items_of [] h = tt
+AreReadable-items_of (d ∷ ds) h = (h.0, AreReadable-items_of ds h.1)
 
--- a list of sound values is sound
-pub IsSound-list_data : (ds : List Data) → AllByRecursion IsSound ds → IsSound (list_data ds)
-IsSound-list_data = AreSound-items_of
+-- a list of readable values is readable
+pub IsReadable-list_data : (ds : List Data) → AllByRecursion IsReadable ds → IsReadable (list_data ds)
+IsReadable-list_data = AreReadable-items_of
 
 ascii_all : (xs : List ℕ) → list_all (λ x. nat_lt x 128) xs ≡ true → IsAscii xs
 ascii_all [] h i = omega arith
 ascii_all (x ∷ xs) h zero = ltb-true x 128 (and_parts _ _ h).0
 ascii_all (x ∷ xs) h (suc i) = ascii_all xs (and_parts (nat_lt x 128) _ h).1 i
 
--- the text of an id is sound
-pub IsSound-id_data : (id : Id) → IsSound (id_data id)
-IsSound-id_data id = IsUtf8-from_ascii _ (IsAscii-encode_with lower_digits id.0 (ascii_all lower_digits refl))
+-- the text of an id is readable
+pub IsReadable-id_data : (id : Id) → IsReadable (id_data id)
+IsReadable-id_data id = IsUtf8-from_ascii _ (IsAscii-encode_with lower_digits id.0 (ascii_all lower_digits refl))

@@ -2,6 +2,11 @@ pub mod Built
 pub mod Each
 pub mod FieldLemmas
 pub mod IdTexts
+pub mod Lexed
 pub mod Members
+pub mod Parsed
+pub mod Parts
 pub mod ReadBack
-pub mod Soundness
+pub mod Reading
+pub mod Strings
+pub mod Values

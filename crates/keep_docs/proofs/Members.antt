@@ -2,7 +2,7 @@
 use Rattle.std.proofs.Common.{◌≡◌, ℕ, Bool, true, false, cond, List, [], ◌∷◌, ◌++◌, map, Less, Greater, String, Global, string_bytes, string_cmp, refl, sym, ap, ◌∙◌}
 use Rattle.std.proofs.lemmas.Cmp.{nat_list_cmp_total}
 use Rattle.std.specs.Cmp.Lexicographic.{slice_cmp}
-use Rattle.std.specs.List.{AllByRecursion, list_any}
+use Rattle.std.specs.List.{AllByRecursion, AllZip, list_any}
 use Rattle.std.specs.List.Sorted.{IsStrictlySortedBy}
 use Rattle.std.specs.Map.{keys_of}
 use Rattle.std.specs.Ordering.{nat_cmp, ordering_reverse}
@@ -11,7 +11,7 @@ use Rattle.serde_json.specs.Data.{Data, Members, no_members, member, put}
 use Rattle.serde_json.specs.View.{view, members_view}
 use Rattle.serde_json.proofs.Views.{Entry}
 use Rattle.keep_docs.specs.Fields.{others}
-use Rattle.keep_docs.specs.Sound.{StandsBefore}
+use Rattle.keep_docs.specs.Readable.{StandsBefore}
 
 -- members one after the other
 abbrev pub join : Members → Members → Members
@@ -85,6 +85,13 @@ module _ (named : List (List ℕ)) where
 pub members_view-append : (es more : List Entry) → members_view (es ++ more) ≡ join (members_view es) (members_view more)
 members_view-append [] more = refl
 members_view-append (e ∷ es) more = ap (member (string_bytes e.0) (view e.1)) (members_view-append es more)
+
+-- clones of a map's entries are the same members
+pub members_view-clones : (es fs : List Entry) → AllZip (λ p q. (string_bytes q.0 ≡ string_bytes p.0) × (view q.1 ≡ view p.1)) es fs → members_view fs ≡ members_view es
+members_view-clones [] [] h = refl
+members_view-clones [] (f ∷ fs) h = absurd h
+members_view-clones (e ∷ es) [] h = absurd h
+members_view-clones (e ∷ es) (f ∷ fs) h = λ i. member (h.0.0 i) (h.0.1 i) (members_view-clones es fs h.1 i)
 
 -- the keys of a map ascend
 pub stands_before : (k : String Global) (es : List Entry) → AllByRecursion (λ l. string_cmp k l ≡ Less) (keys_of es) → StandsBefore (string_bytes k) (members_view es)

@@ -1,5 +1,5 @@
 -- The value of a document, and what a reader of documents answers.
-use Rattle.std.specs.Prelude.{◌≡◌, ◌≢◌, ℕ, List, Option, None, Some, Result, Ok, Err, if◌then◌else◌}
+use Rattle.std.specs.Prelude.{◌≡◌, ◌≢◌, ℕ, List, Option, None, Some, Result, Ok, Err, IsOk, if◌then◌else◌}
 use Rattle.std.specs.Str.{is_utf8}
 use Rattle.serde_json.specs.Data.{Data}
 use Rattle.serde_json.specs.Read.{read}
@@ -27,3 +27,9 @@ shaped wrap shape (Err refusal) = Err (wrap refusal)
 abbrev pub Answers : {T V E : Type 0} → E → (T → V) → Result V E → Result T E → Type 0
 Answers memory view due (Ok value) = due ≡ Ok (view value)
 Answers memory view due (Err refusal) = refusal ≢ memory → due ≡ Err refusal
+
+-- What a function gives that finds each refusal without memory: it answers, and memory runs out only where
+-- there is a value to give.
+abbrev pub Gives : {T V E : Type 0} → E → (T → V) → Result V E → Result T E → Type 0
+Gives memory view due (Ok value) = due ≡ Ok (view value)
+Gives memory view due (Err refusal) = (refusal ≢ memory → due ≡ Err refusal) × (refusal ≡ memory → IsOk due)

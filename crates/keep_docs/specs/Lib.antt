@@ -2,4 +2,5 @@ pub mod Config
 pub mod Doc
 pub mod Fields
 pub mod Lists
-pub mod Sound
+pub mod Readable
+pub mod Refusal

@@ -11,7 +11,6 @@ use crate::fields::{id_at, str_at, u64_at};
 use keep_names::Id;
 use serde_json::Value;
 use std::alloc::{AllocError, Global};
-use thiserror::Error;
 
 /// What a repository's config says. The polynomial is restic's, by which it cuts files into blobs; it is
 /// carried as it is written.
@@ -22,13 +21,11 @@ pub struct Config {
 }
 
 /// Why bytes weren't read as a config.
-#[derive(Clone, Copy, Debug, PartialEq, Eq, Error)]
+#[derive(Clone, Copy, Debug, PartialEq, Eq)]
 pub enum ConfigError {
     /// It isn't a document.
-    #[error(transparent)]
     Doc(DocError),
     /// `version` isn't 1, `id` isn't an id, or `chunker_polynomial` isn't a text.
-    #[error("BadConfig")]
     BadConfig,
 }
 

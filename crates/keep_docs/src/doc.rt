@@ -1,4 +1,4 @@
-ghost use Rattle.std.specs.Prelude.{◌≡◌, ◌≤◌, false, IfOk, IsUtf8};
+ghost use Rattle.std.specs.Prelude.{◌≡◌, ◌≤◌, ℕ, List, false, IfOk, IsUtf8};
 ghost use Rattle.serde_json.specs.Data.{Data, depth};
 ghost use Rattle.serde_json.specs.Find as find;
 ghost use Rattle.serde_json.specs.Read.{max_depth};
@@ -6,11 +6,12 @@ ghost use Rattle.serde_json.specs.View.{items_view, members_view, number_view, v
 ghost use Rattle.serde_json.specs.Written.{compact_text};
 ghost use Rattle.serde_json.specs.Written as written;
 ghost use Rattle.keep_docs.specs.Doc.{Answers, doc_of};
-ghost use Rattle.keep_docs.specs.Sound.{AreSound, HasSound, IsSound, IsWhole};
+ghost use Rattle.keep_docs.specs.Readable.{AreReadable, HasReadable, IsReadable, IsWhole};
 ghost use Rattle.keep_docs.specs.declared.doc.DocError.TheVariants.{Memory};
 
 use serde_json::{Map, Number, Value};
 use std::alloc::{AllocError, Global};
+use std::fmt;
 use thiserror::Error;
 
 /// Why bytes weren't read as a document.
@@ -18,21 +19,49 @@ use thiserror::Error;
 pub enum DocError {
     /// The bytes aren't one JSON text in UTF-8, nest deeper than 127 levels, or have a number that no float
     /// comes near.
-    #[error("NotJson")]
     NotJson,
     /// A number is no whole one, or fits neither an i64 nor a u64.
-    #[error("BadNumber")]
     BadNumber,
     /// Memory ran out.
-    #[error("Memory")]
     Memory,
+}
+
+impl DocError {
+    ghost use Rattle.std.specs.Prelude.{◌≡◌};
+    ghost use Rattle.keep_docs.specs.Refusal.{doc_number};
+
+    /// The number by which operators know the refusal. Want of memory has none.
+    pub fn number(&self) -> Option<u8>
+        ensures { result ≡ doc_number self.now }
+    {
+        match self {
+            DocError::NotJson => Some(2),
+            DocError::BadNumber => Some(3),
+            DocError::Memory => None,
+        }
+    }
+}
+
+impl fmt::Display for DocError {
+    ghost use Rattle.std.specs.Prelude.{Some};
+    ghost use Rattle.keep_docs.specs.Refusal.{doc_word};
+
+    ghost output = { λ refusal. Some (doc_word refusal) };
+
+    fn fmt<W: fmt::Write>(&self, f: &mut fmt::Formatter<W>) -> fmt::Result {
+        f.write_str(match self {
+            DocError::NotJson => "NotJson",
+            DocError::BadNumber => "BadNumber",
+            DocError::Memory => "Memory",
+        })
+    }
 }
 
 /// Reads a document (RFC 8259). Of equal keys in an object the last stays, and only numbers of what stays
 /// count.
 pub fn read_doc(alloc: Global, bytes: &[u8]) -> Result<Value, DocError>
     ensures read { Answers Memory view (doc_of bytes.now) result }
-    ensures sound { IfOk result (λ value. IsSound (view value)) }
+    ensures readable { IfOk result (λ value. IsReadable (view value)) }
 {
     let value = match Value::from_slice(alloc, bytes) {
         Ok(value) => value,
@@ -64,7 +93,7 @@ pub fn write_doc(alloc: Global, value: &Value) -> Result<Vec<u8>, AllocError>
 // Whether the number is neither a u64 nor an i64.
 fn is_float(number: Number) -> bool
     ensures value { result ≡ find.is_float (number_view number) }
-    ensures sound { result ≡ false → IsWhole (number_view number) }
+    ensures whole { result ≡ false → IsWhole (number_view number) }
 {
     match number.as_u64() {
         Some(_) => false,
@@ -76,7 +105,7 @@ fn is_float(number: Number) -> bool
 #[cycle(has_float)]
 fn has_float(value: &Value) -> bool
     ensures value { result ≡ written.has_float (view value.now) }
-    ensures sound { result ≡ false → IsSound (view value.now) }
+    ensures readable { result ≡ false → IsReadable (view value.now) }
 {
     match value {
         Value::Null | Value::Bool(_) | Value::String(_) => false,
@@ -89,7 +118,7 @@ fn has_float(value: &Value) -> bool
 #[cycle(has_float)]
 fn items_have_float(items: &Vec<Value>) -> bool
     ensures value { result ≡ written.items_have_float (items_view items.now.items) }
-    ensures sound { result ≡ false → AreSound (items_view items.now.items) }
+    ensures readable { result ≡ false → AreReadable (items_view items.now.items) }
 {
     for item in items {
         if has_float(item) {
@@ -102,7 +131,7 @@ fn items_have_float(items: &Vec<Value>) -> bool
 #[cycle(has_float)]
 fn members_have_float(members: &Map<String, Value>) -> bool
     ensures value { result ≡ written.members_have_float (members_view members.now.entries) }
-    ensures sound { result ≡ false → HasSound (members_view members.now.entries) }
+    ensures readable { result ≡ false → HasReadable (members_view members.now.entries) }
 {
     for (_, member) in members.iter() {
         if has_float(member) {
@@ -113,7 +142,9 @@ fn members_have_float(members: &Map<String, Value>) -> bool
 }
 
 /// Which values have a text that reads back as themselves: those whose texts are UTF-8, whose keys ascend and
-/// whose numbers are whole and fit, nested to at most 127 levels.
-pub fn sound_values_read_back()
-    ensures { (d : Data) → IsSound d → depth d ≤ max_depth → doc_of (compact_text d) ≡ Ok d }
+/// whose numbers are whole and fit, nested to at most 127 levels. What is read of any bytes is one of these.
+pub fn readable_values_read_back()
+    ensures written { (d : Data) → IsReadable d → depth d ≤ max_depth → doc_of (compact_text d) ≡ Ok d }
+    ensures read { (bytes : List ℕ) (d : Data) → doc_of bytes ≡ Ok d
+        → IsReadable d × (depth d ≤ max_depth) }
 {}

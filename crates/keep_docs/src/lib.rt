@@ -11,9 +11,9 @@ mod made;
 mod tests;
 
 pub use config::{Config, ConfigError, read_config};
-pub use doc::{DocError, read_doc, sound_values_read_back, write_doc};
+pub use doc::{DocError, read_doc, readable_values_read_back, write_doc};
 pub use fields::{
     id_at, list_at, list_or_null_at, optional_id_at, optional_str_at, str_at, u32_at, u64_at,
 };
 pub use lists::{ids, texts};
-pub use made::{id_value, ids_value, others, put, texts_value};
+pub use made::{id_value, ids_value, members_copy, others, put, texts_value};

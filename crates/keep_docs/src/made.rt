@@ -53,6 +53,13 @@ fn is_named(named: &[&str], key: &str) -> bool
     named.contains(&key)
 }
 
+/// The same members, once more.
+pub fn members_copy(members: &Map<String, Value>) -> Result<Map<String, Value>, AllocError>
+    ensures { IfOk result (λ copy. members_view copy.entries ≡ members_view members.now.entries) }
+{
+    members.clone()
+}
+
 /// Writes a member of an object, in place of one at the same key.
 pub fn put(
     alloc: Global,

@@ -1,7 +1,7 @@
 use crate::{
     Config, ConfigError, DocError, id_at, id_value, ids, ids_value, list_at, list_or_null_at,
-    optional_id_at, optional_str_at, others, put, read_config, read_doc, str_at, texts,
-    texts_value, u32_at, u64_at, write_doc,
+    members_copy, optional_id_at, optional_str_at, others, put, read_config, read_doc, str_at,
+    texts, texts_value, u32_at, u64_at, write_doc,
 };
 use keep_names::id_of;
 use serde_json::Value;
@@ -142,14 +142,14 @@ fn another_config_is_refused(rt: HostRuntime) -> Result<(), Fail> {
 }
 
 #[test]
-fn refusals_print_their_words(rt: HostRuntime) -> Result<(), Fail> {
-    for (refusal, word) in [
-        (ConfigError::Doc(DocError::NotJson), "NotJson"),
-        (ConfigError::Doc(DocError::BadNumber), "BadNumber"),
-        (ConfigError::Doc(DocError::Memory), "Memory"),
-        (ConfigError::BadConfig, "BadConfig"),
+fn refusals_have_words_and_numbers(rt: HostRuntime) -> Result<(), Fail> {
+    for (refusal, word, number) in [
+        (DocError::NotJson, "NotJson", Some(2)),
+        (DocError::BadNumber, "BadNumber", Some(3)),
+        (DocError::Memory, "Memory", None),
     ] {
         assert_eq!(rt; format!(in rt.alloc(); "{refusal}")?.as_str(), word);
+        assert_eq!(rt; refusal.number(), number, "{word}");
     }
     Ok(())
 }
@@ -205,7 +205,7 @@ fn lists_are_read_and_written(rt: HostRuntime) -> Result<(), Fail> {
 fn other_members_are_carried(rt: HostRuntime) -> Result<(), Fail> {
     let alloc = rt.alloc();
     let value = read_doc(alloc, b"{\"b\":{\"x\":[1]},\"a\":-1,\"c\":null}")?;
-    let mut members = others(alloc, &value, &["b", "d"])?;
+    let mut members = members_copy(&others(alloc, &value, &["b", "d"])?)?;
     put(alloc, &mut members, "id", id_value(alloc, id_of(b"a"))?)?;
     put(alloc, &mut members, "a", Value::from(2u64))?;
     let written = write_doc(alloc, &Value::from(members))?;

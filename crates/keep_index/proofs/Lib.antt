@@ -1,3 +1,2 @@
 pub mod ReadFits
-pub mod ReadNumbers
 pub mod RoundTrip

@@ -15,14 +15,14 @@ use Rattle.keep_names.specs.declared.blob.BlobType.TheVariants.{Content, Tree}
 use Rattle.keep_docs.specs.Doc.{shaped}
 use Rattle.keep_docs.specs.Fields.{if_below}
 use Rattle.keep_docs.specs.Lists.{each}
-use Rattle.keep_docs.specs.Sound.{IsSound}
-use Rattle.keep_docs.proofs.Built.{IsSound-id_data, IsSound-list_data}
+use Rattle.keep_docs.specs.Readable.{IsReadable}
+use Rattle.keep_docs.proofs.Built.{IsReadable-id_data, IsReadable-list_data}
 use Rattle.keep_docs.proofs.Built.{as_id-id_data, each-map, values_of-items_of}
-use Rattle.keep_docs.proofs.ReadBack.{doc_of-compact_text, has_float-IsSound}
+use Rattle.keep_docs.proofs.ReadBack.{doc_of-compact_text, has_float-IsReadable}
 use Rattle.keep_index.specs.Index.{Fits, FitsBlob, FitsPack, PackData}
 use Rattle.keep_index.specs.Reading.{as_blob_type, blob_in, index_in, index_of, pack_in}
 use Rattle.keep_index.specs.Writing.{blob_data, index_data, index_text, pack_data, type_word}
-use Rattle.keep_index.specs.declared.index.IndexedBlob.{IndexedBlob}
+use Rattle.keep_names.specs.declared.blob.Blob.{Blob}
 use Rattle.keep_index.specs.declared.index_error.IndexError.TheVariants.{Doc, BadIndex}
 
 -- ---- lists
@@ -47,16 +47,16 @@ module _ {A : Type 0} (write : A → Data) (n : ℕ) (shallow : (x : A) → dept
       let rest = items_depth-map xs in
       omega arith
 
--- ---- what is written is sound
+-- ---- what is written is readable
 
 word_utf8 : (t : BlobType) → IsUtf8 (type_word t)
 word_utf8 Content = IsUtf8-are_ascii _ refl
 word_utf8 Tree = IsUtf8-are_ascii _ refl
 
-sound_blob : (entry : IndexedBlob) → FitsBlob entry → IsSound (blob_data entry)
-sound_blob entry h = (
+readable_blob : (entry : Blob) → FitsBlob entry → IsReadable (blob_data entry)
+readable_blob entry h = (
   IsUtf8-are_ascii _ refl,
-  IsSound-id_data entry.blob.id,
+  IsReadable-id_data entry.blob.id,
   (refl, (refl, (refl, tt))),
   (
     IsUtf8-are_ascii _ refl,
@@ -71,19 +71,19 @@ sound_blob entry h = (
   ),
 )
 
-sound_pack : (pack : PackData) → FitsPack pack → IsSound (pack_data pack)
-sound_pack pack h = (
+readable_pack : (pack : PackData) → FitsPack pack → IsReadable (pack_data pack)
+readable_pack pack h = (
   IsUtf8-are_ascii _ refl,
-  IsSound-list_data (map blob_data pack.blobs)
-      (all_mapped FitsBlob IsSound blob_data sound_blob pack.blobs h.1),
+  IsReadable-list_data (map blob_data pack.blobs)
+      (all_mapped FitsBlob IsReadable blob_data readable_blob pack.blobs h.1),
   (refl, tt),
-  (IsUtf8-are_ascii _ refl, IsSound-id_data pack.id, tt, tt),
+  (IsUtf8-are_ascii _ refl, IsReadable-id_data pack.id, tt, tt),
 )
 
-sound_index : (packs : List PackData) → Fits packs → IsSound (index_data packs)
-sound_index packs h = (
+readable_index : (packs : List PackData) → Fits packs → IsReadable (index_data packs)
+readable_index packs h = (
   IsUtf8-are_ascii _ refl,
-  IsSound-list_data (map pack_data packs) (all_mapped FitsPack IsSound pack_data sound_pack packs h),
+  IsReadable-list_data (map pack_data packs) (all_mapped FitsPack IsReadable pack_data readable_pack packs h),
   tt,
   tt,
 )
@@ -109,7 +109,7 @@ type_back Tree = refl
 below_back : (limit n : ℕ) → n < limit → if_below limit n ≡ Some n
 below_back limit n h = rw (lt-ltb n limit h)
 
-blob_back : (entry : IndexedBlob) → FitsBlob entry → blob_in (blob_data entry) ≡ Some entry
+blob_back : (entry : Blob) → FitsBlob entry → blob_in (blob_data entry) ≡ Some entry
 blob_back entry h =
     rw (
       as_id-id_data entry.blob.id h.0,
@@ -119,7 +119,7 @@ blob_back entry h =
 
 pack_back : (pack : PackData) → FitsPack pack → pack_in (pack_data pack) ≡ Some pack
 pack_back pack h =
-    let is_back = λ (entry : IndexedBlob). blob_in (blob_data entry) ≡ Some entry in
+    let is_back = λ (entry : Blob). blob_in (blob_data entry) ≡ Some entry in
     let each_back = all_implied FitsBlob is_back blob_back pack.blobs h.1 in
     rw (
       as_id-id_data pack.id h.0,
@@ -136,7 +136,7 @@ index_back packs h =
 
 pub index_of-index_text : (packs : List PackData) → Fits packs → index_of (index_text packs) ≡ Ok packs
 index_of-index_text packs h =
-    let document = doc_of-compact_text (index_data packs) (sound_index packs h) (depth-index_data packs) in
+    let document = doc_of-compact_text (index_data packs) (readable_index packs h) (depth-index_data packs) in
     ap (λ r. shaped Doc (λ d. ok_or (index_in d) BadIndex) r) document
     ∙ ap (λ o. ok_or o BadIndex) (index_back packs h)
 
@@ -146,7 +146,7 @@ pub text_is : (r : Result (Vec ℕ Global) AllocError) (d : Data) (packs : List 
     → Fits packs → IfOk r (λ bytes. has_float d ≡ false → bytes.items ≡ compact_text d)
     → IfOk r (λ bytes. bytes.items ≡ index_text packs)
 text_is (Ok bytes) d packs is fits text =
-    let whole = has_float-IsSound (index_data packs) (sound_index packs fits) in
+    let whole = has_float-IsReadable (index_data packs) (readable_index packs fits) in
     text (ap has_float is ∙ whole) ∙ ap compact_text is
 text_is (Err e) d packs is fits text = tt
 

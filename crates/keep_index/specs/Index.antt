@@ -4,13 +4,13 @@ use Rattle.std.specs.List.{AllByRecursion}
 use Rattle.keep_names.specs.Id.{IsDigest}
 use Rattle.keep_names.specs.declared.id.Id.{Id}
 use Rattle.keep_index.specs.declared.index.Index.{Index}
-use Rattle.keep_index.specs.declared.index.IndexedBlob.{IndexedBlob}
+use Rattle.keep_names.specs.declared.blob.Blob.{Blob}
 use Rattle.keep_index.specs.declared.index.IndexedPack.{IndexedPack}
 
 -- a pack and its blobs, without where they lie in memory
 pub record PackData : Type 0 where
   pub id : Id
-  pub blobs : List IndexedBlob
+  pub blobs : List Blob
 
 -- what is said of a pack
 abbrev pub pack_view : IndexedPack → PackData
@@ -21,7 +21,7 @@ abbrev pub index_view : Index → List PackData
 index_view index = map pack_view index.packs.items
 
 -- what the types of its fields say of a blob: its id has 32 bytes, and its numbers are below these
-abbrev pub FitsBlob : IndexedBlob → Type 0
+abbrev pub FitsBlob : Blob → Type 0
 FitsBlob entry = IsDigest entry.blob.id × (entry.offset < 2 ^ 64) × (entry.length < 2 ^ 32)
 
 -- what the types say of a pack: its id has 32 bytes, and each blob fits

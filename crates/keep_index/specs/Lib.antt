@@ -1,3 +1,4 @@
 pub mod Index
 pub mod Reading
+pub mod Refusal
 pub mod Writing

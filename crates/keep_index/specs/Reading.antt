@@ -10,7 +10,7 @@ use Rattle.keep_docs.specs.Doc.{doc_of, shaped}
 use Rattle.keep_docs.specs.Fields.{◌>>=◌, as_below, as_id, as_whole, field, list_field}
 use Rattle.keep_docs.specs.Lists.{each}
 use Rattle.keep_index.specs.Index.{PackData}
-use Rattle.keep_index.specs.declared.index.IndexedBlob.{IndexedBlob}
+use Rattle.keep_names.specs.declared.blob.Blob.{Blob}
 use Rattle.keep_index.specs.declared.index_error.IndexError.{IndexError}
 use Rattle.keep_index.specs.declared.index_error.IndexError.TheVariants.{Doc, BadIndex}
 
@@ -26,7 +26,7 @@ abbrev pub as_blob_type : Data → Option BlobType
 as_blob_type d = option_and_then type_named (as_str d)
 
 -- a blob: its id and type, how many bytes of the pack stand before it, and its length, which is below 2^32
-abbrev pub blob_in : Data → Option IndexedBlob
+abbrev pub blob_in : Data → Option Blob
 blob_in d = do
   id ← field (codes "id") as_id d
   blob_type ← field (codes "type") as_blob_type d

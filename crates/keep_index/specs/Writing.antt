@@ -7,7 +7,7 @@ use Rattle.keep_names.specs.declared.blob.BlobType.TheVariants.{Content, Tree}
 use Rattle.keep_docs.specs.Fields.{id_data}
 use Rattle.keep_docs.specs.Lists.{list_data}
 use Rattle.keep_index.specs.Index.{PackData}
-use Rattle.keep_index.specs.declared.index.IndexedBlob.{IndexedBlob}
+use Rattle.keep_names.specs.declared.blob.Blob.{Blob}
 
 -- the word that names a type of blobs
 abbrev pub type_word : BlobType → List ℕ
@@ -15,7 +15,7 @@ type_word Content = codes "data"
 type_word Tree = codes "tree"
 
 -- a blob, as a value
-abbrev pub blob_data : IndexedBlob → Data
+abbrev pub blob_data : Blob → Data
 blob_data entry =
     object
     (member (codes "id") (id_data entry.blob.id)

@@ -1,4 +1,4 @@
-use keep_names::{BlobId, Id};
+use keep_names::{Blob, Id};
 
 /// What an index says of packs: which blobs they hold. A pack may stand twice, a blob too.
 #[derive(Debug, PartialEq, Eq, Drop)]
@@ -10,15 +10,5 @@ pub struct Index {
 #[derive(Debug, PartialEq, Eq, Drop)]
 pub struct IndexedPack {
     pub id: Id,
-    pub blobs: Vec<IndexedBlob>,
-}
-
-/// A blob as an index lists it.
-#[derive(Clone, Copy, Debug, PartialEq, Eq)]
-pub struct IndexedBlob {
-    pub blob: BlobId,
-    /// How many bytes of the pack stand before the blob.
-    pub offset: u64,
-    /// How many bytes the blob has.
-    pub length: u32,
+    pub blobs: Vec<Blob>,
 }

@@ -8,7 +8,7 @@ mod reading;
 mod tests;
 mod writing;
 
-pub use index::{Index, IndexedBlob, IndexedPack};
+pub use index::{Index, IndexedPack};
 pub use index_error::IndexError;
 pub use reading::read_index;
 pub use writing::{write_index, written_indexes_read_back};

@@ -8,10 +8,10 @@ ghost use Rattle.keep_index.specs.Reading.{index_of, type_named};
 ghost use Rattle.keep_index.specs.Reading as spec;
 ghost use Rattle.keep_index.specs.declared.index_error.IndexError.TheVariants.{BadIndex, Doc};
 
-use crate::index::{Index, IndexedBlob, IndexedPack};
+use crate::index::{Index, IndexedPack};
 use crate::index_error::IndexError;
 use keep_docs::{id_at, list_or_null_at, read_doc, str_at, u32_at, u64_at};
-use keep_names::{BlobId, BlobType};
+use keep_names::{Blob, BlobId, BlobType};
 use serde_json::Value;
 use std::alloc::Global;
 
@@ -58,7 +58,7 @@ fn pack_in(alloc: Global, value: &Value) -> Result<IndexedPack, IndexError>
 }
 
 // The blobs that a list holds.
-fn blobs_in(alloc: Global, values: &[Value]) -> Result<Vec<IndexedBlob>, IndexError>
+fn blobs_in(alloc: Global, values: &[Value]) -> Result<Vec<Blob>, IndexError>
     ensures { Answers (Doc Memory) (λ blobs. blobs.items)
         (ok_or (each spec.blob_in (map view values.now)) BadIndex) result }
 {
@@ -71,7 +71,7 @@ fn blobs_in(alloc: Global, values: &[Value]) -> Result<Vec<IndexedBlob>, IndexEr
 }
 
 // The blob that an object holds.
-fn blob_in(value: &Value) -> Option<IndexedBlob>
+fn blob_in(value: &Value) -> Option<Blob>
     ensures { result ≡ spec.blob_in (view value.now) }
 {
     let id = id_at(value, "id")?;
@@ -79,7 +79,7 @@ fn blob_in(value: &Value) -> Option<IndexedBlob>
     let offset = u64_at(value, "offset")?;
     let length = u32_at(value, "length")?;
     let blob = BlobId { id, blob_type };
-    Some(IndexedBlob {
+    Some(Blob {
         blob,
         offset,
         length,

@@ -1,6 +1,6 @@
-use crate::{IndexError, IndexedBlob, read_index, write_index};
+use crate::{IndexError, read_index, write_index};
 use keep_docs::DocError;
-use keep_names::{BlobId, BlobType, id_of};
+use keep_names::{Blob, BlobId, BlobType, id_of};
 use std::test::Fail;
 
 // The index of two packs. The first is that of the one data blob `hello`, the second is empty. The ids are
@@ -63,7 +63,7 @@ fn a_tree_is_listed_with_its_place(rt: HostRuntime) -> Result<(), Fail> {
         )?;
         let index = read_index(alloc, text.as_bytes())?;
         assert_eq!(rt; index.packs.len(), 1);
-        let entry = IndexedBlob {
+        let entry = Blob {
             blob,
             offset,
             length,
@@ -134,14 +134,15 @@ fn other_blobs_are_refused(rt: HostRuntime) -> Result<(), Fail> {
 }
 
 #[test]
-fn refusals_print_their_names(rt: HostRuntime) -> Result<(), Fail> {
-    for (error, name) in [
-        (IndexError::Doc(DocError::NotJson), "NotJson"),
-        (IndexError::Doc(DocError::BadNumber), "BadNumber"),
-        (IndexError::BadIndex, "BadIndex"),
-        (IndexError::Doc(DocError::Memory), "Memory"),
+fn refusals_have_words_and_numbers(rt: HostRuntime) -> Result<(), Fail> {
+    for (error, word, number) in [
+        (IndexError::Doc(DocError::NotJson), "NotJson", Some(2)),
+        (IndexError::Doc(DocError::BadNumber), "BadNumber", Some(3)),
+        (IndexError::BadIndex, "BadIndex", Some(9)),
+        (IndexError::Doc(DocError::Memory), "Memory", None),
     ] {
-        assert_eq!(rt; format!(in rt.alloc(); "{error}")?.as_str(), name);
+        assert_eq!(rt; format!(in rt.alloc(); "{error}")?.as_str(), word);
+        assert_eq!(rt; error.number(), number, "{word}");
     }
     Ok(())
 }

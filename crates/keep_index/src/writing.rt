@@ -8,9 +8,9 @@ ghost use Rattle.keep_index.specs.Reading.{index_of};
 ghost use Rattle.keep_index.specs.Writing.{blob_data, index_data, index_text, pack_data};
 ghost use Rattle.keep_index.specs.Writing as spec;
 
-use crate::index::{Index, IndexedBlob, IndexedPack};
+use crate::index::{Index, IndexedPack};
 use keep_docs::{id_value, write_doc};
-use keep_names::{BlobType, Id};
+use keep_names::{Blob, BlobType, Id};
 use serde_json::{Value, json};
 use std::alloc::{AllocError, Global};
 
@@ -45,7 +45,7 @@ fn packs_value(alloc: Global, packs: &[IndexedPack]) -> Result<Value, AllocError
 }
 
 // A pack as a value.
-fn pack_value(alloc: Global, id: Id, blobs: &[IndexedBlob]) -> Result<Value, AllocError>
+fn pack_value(alloc: Global, id: Id, blobs: &[Blob]) -> Result<Value, AllocError>
     ensures value { IfOk result (λ value. view value ≡ pack_data (record { id = id; blobs = blobs.now })) }
     ensures fits { IfOk result (λ _. FitsPack (record { id = id; blobs = blobs.now })) }
 {
@@ -56,7 +56,7 @@ fn pack_value(alloc: Global, id: Id, blobs: &[IndexedBlob]) -> Result<Value, All
 }
 
 // Blobs as a value.
-fn blobs_value(alloc: Global, blobs: &[IndexedBlob]) -> Result<Value, AllocError>
+fn blobs_value(alloc: Global, blobs: &[Blob]) -> Result<Value, AllocError>
     ensures value { IfOk result (λ value. view value ≡ list_data (map blob_data blobs.now)) }
     ensures fits { IfOk result (λ _. AllByRecursion FitsBlob blobs.now) }
 {
@@ -69,7 +69,7 @@ fn blobs_value(alloc: Global, blobs: &[IndexedBlob]) -> Result<Value, AllocError
 }
 
 // A blob as a value.
-fn blob_value(alloc: Global, entry: IndexedBlob) -> Result<Value, AllocError>
+fn blob_value(alloc: Global, entry: Blob) -> Result<Value, AllocError>
     ensures { IfOk result (λ value. view value ≡ blob_data entry) }
 {
     let id = id_value(alloc, entry.blob.id)?;
@@ -83,7 +83,7 @@ fn id_fits(id: Id)
 {}
 
 // What the types of an entry's fields say of them.
-fn blob_fits(entry: IndexedBlob)
+fn blob_fits(entry: Blob)
     ensures { FitsBlob entry }
 {}
 

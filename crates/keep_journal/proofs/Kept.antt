@@ -1,6 +1,6 @@
 -- What one more event makes of the changes that can still be undone.
 use Rattle.std.proofs.Common.{◌≡◌, ℕ, ◌+◌, ◌<◌, ◌≤◌, ◌==◌, nat_lt, Bool, true, false, ◌&&◌, ◌||◌, not, cond, List, [], ◌∷◌, ◌++◌, Some, refl, ap, ◌∙◌, arith}
-use Rattle.std.proofs.lemmas.Bool.{and_right, eq-eqb, le-ltb, lt-ltb, ne_eqb, or_right}
+use Rattle.std.proofs.lemmas.Bool.{and_right, eq-eqb, lt-ltb, ne_eqb, or_right}
 use Rattle.std.proofs.lemmas.Bool.Decides.{nat_tests}
 use Rattle.keep_repo.specs.Repository.{Repository}
 use Rattle.keep_change.specs.Fold.{Numbered, fold_of}

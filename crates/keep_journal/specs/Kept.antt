@@ -1,7 +1,8 @@
 -- Which changes can still be undone.
-use Rattle.std.specs.Prelude.{ℕ, ◌==◌, nat_lt, nat_le, Bool, ◌&&◌, ◌||◌, not, List, filter}
+use Rattle.std.specs.Prelude.{ℕ, ◌==◌, nat_lt, nat_le, Bool, ◌&&◌, ◌||◌, not, if◌then◌else◌, List, filter, Option, None}
 use Rattle.keep_change.specs.Fold.{Numbered}
-use Rattle.keep_journal.specs.History.{committed, is_in_force, final_number}
+use Rattle.keep_change.specs.declared.change.Change.{Change}
+use Rattle.keep_journal.specs.History.{change_of, committed, is_in_force, final_number}
 use Rattle.keep_journal.specs.Journal.{Journal}
 
 -- the changes whose numbers pass the test, by number
@@ -19,6 +20,10 @@ unfinal j = above j (final_number j)
 -- whether the change can still be undone: it is in force and not final
 abbrev pub is_kept : Journal → ℕ → Bool
 is_kept j n = is_in_force j n && nat_lt (final_number j) n
+
+-- change n, where it is in force and not final
+abbrev pub kept_change : Journal → ℕ → Option Change
+kept_change j n = if is_kept j n then change_of j n else None
 
 -- the changes in force that aren't final
 abbrev pub kept : Journal → List Numbered

@@ -2,4 +2,5 @@ pub mod Event
 pub mod History
 pub mod Journal
 pub mod Kept
+pub mod Opening
 pub mod Standings

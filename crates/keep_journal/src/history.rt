@@ -1,4 +1,5 @@
-ghost use Rattle.std.specs.Prelude.{◌≡◌, ◌<◌, ◌≤◌, ◌++◌, ◌∷◌, [], length, IsSome, IsTrue, MatchOption, OnOk, vec_len, vec_capacity, option_copied};
+ghost use Rattle.std.specs.Prelude.{◌≡◌, ◌<◌, ◌≤◌, ◌++◌, ◌∷◌, [], length, IfSome, IsSome, IsTrue, MatchOption, OnOk, vec_len, vec_capacity, option_copied};
+ghost use Rattle.keep_change.specs.Form.{IsWellFormed};
 
 use crate::event::{Entry, Event};
 use keep_change::Change;
@@ -57,6 +58,8 @@ impl Model for History {
 impl History {
     ghost use Rattle.keep_journal.specs.History.{change_of, final_number, is_change, last_change, length_of, status_of, ComesNext, IsNumbered};
     ghost use Rattle.keep_journal.specs.Journal.{Journal, posted};
+    ghost use Rattle.keep_journal.specs.Kept.{kept_change};
+    ghost use Rattle.keep_journal.specs.Opening.{AreWellFormed};
     ghost use Rattle.keep_journal.specs.Standings.{IsStandingOf};
 
     /// The history without events, in which all changes up to this number are final.
@@ -127,6 +130,18 @@ impl History {
         match &self.entries.get(standing.place)?.event {
             Event::Commit(_, change) => Some(change),
             _ => None,
+        }
+    }
+
+    /// Change n, where it is in force and isn't final.
+    pub fn kept_change(&self, n: u64) -> Option<&Change>
+        ensures exact { option_copied result ≡ kept_change self.now.journal n }
+        ensures formed { AreWellFormed self.now.journal → IfSome (option_copied result) IsWellFormed }
+    {
+        let change = self.change(n)?;
+        match self.status(n) {
+            Status::InForce => Some(change),
+            Status::Unknown | Status::Final | Status::Undone => None,
         }
     }
 

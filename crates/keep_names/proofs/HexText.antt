@@ -61,7 +61,7 @@ lower_digits-digit_value c h =
 -- ---- texts
 
 -- a byte in front of bytes
-IsBytes-cons : (b : ℕ) (rest : List ℕ) → b < 256 → IsBytes rest → IsBytes (b ∷ rest)
+pub IsBytes-cons : (b : ℕ) (rest : List ℕ) → b < 256 → IsBytes rest → IsBytes (b ∷ rest)
 IsBytes-cons b rest h hs zero = h
 IsBytes-cons b rest h hs (suc i) = hs i
 

@@ -1,4 +1,6 @@
+pub mod Digests
 pub mod HexText
 pub mod IdText
 pub mod Orders
+pub mod OrdersSaid
 pub mod Paths

@@ -2,7 +2,6 @@
 use Rattle.std.proofs.Common.{ℕ, List, ap, refl}
 use Rattle.std.specs.Cmp.{IsTotalOrder}
 use Rattle.std.specs.FinMap.{IsAntisymmetric, nat_cmp-IsAntisymmetric, slice_cmp-IsAntisymmetric}
-use Rattle.std.specs.declared.cmp.Ordering.{Ordering}
 use Rattle.std.proofs.lemmas.Map.Lookups.{exact_pairs}
 use Rattle.keep_names.specs.Orders.{id_cmp, kind_cmp, name_cmp, blob_cmp, blob_type_cmp}
 use Rattle.keep_names.specs.declared.blob.BlobType.{BlobType}

@@ -1,5 +1,6 @@
 pub mod BlobId
 pub mod FileName
 pub mod Id
+pub mod Laws
 pub mod Orders
 pub use Rattle.sha2.specs.Sha256

@@ -9,15 +9,13 @@ use hex::FromHex;
 use sha2::{Digest, Sha256};
 use std::alloc::{AllocError, Global};
 use std::{fmt, str};
-use thiserror::Error;
 
 /// A SHA-256 digest, by which a file or a blob is named.
 #[derive(Clone, Copy, Debug, PartialEq, Eq, PartialOrd, Ord, Hash)]
 pub struct Id(pub [u8; 32]);
 
 /// The text is not 64 lower case hex digits.
-#[derive(Clone, Copy, Debug, PartialEq, Eq, Error)]
-#[error("BadId")]
+#[derive(Clone, Copy, Debug, PartialEq, Eq)]
 pub struct BadId;
 
 /// The name of these bytes, their SHA-256 (FIPS 180-4).

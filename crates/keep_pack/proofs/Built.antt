@@ -8,14 +8,14 @@ use Rattle.std.proofs.lemmas.List.Elements.{recursion_from_All}
 use Rattle.sha2.proofs.Facts256.{length-sha256}
 use Rattle.keep_names.specs.declared.blob.BlobId.{BlobId}
 use Rattle.keep_names.specs.declared.blob.BlobType.{BlobType}
-use Rattle.keep_pack.specs.Pack.{HasEntry, HasOwnId, IsHonestPackOf, Listed, entry_bytes, listing, stored}
+use Rattle.keep_pack.specs.Pack.{HasEntry, HasOwnId, IsHonestPackOf, Entry, entry_bytes, listing, stored}
 
 -- whose length four bytes hold
 abbrev pub IsShortBlob : {B : Type 0} → (B → List ℕ) → BlobId × B → Type 0
 IsShortBlob bytes blob = length (bytes blob.1) < 2 ^ 32
 
 -- what is written of a blob
-abbrev pub given : {B : Type 0} → (B → List ℕ) → BlobId × B → Listed
+abbrev pub given : {B : Type 0} → (B → List ℕ) → BlobId × B → Entry
 given bytes blob = record { blob = blob.0; length = length (bytes blob.1) }
 
 blobs_joined : {B : Type 0} (bytes : B → List ℕ) (bs : List (BlobId × B))

@@ -13,12 +13,12 @@ use Rattle.std.proofs.lemmas.Nat.{le_bytes_4, from_le_bytes-to_le_bytes_4}
 use Rattle.std.proofs.Math.Seq.{take-add}
 use Rattle.keep_names.specs.declared.blob.BlobType.{BlobType}
 use Rattle.keep_names.specs.declared.blob.BlobType.TheVariants.{Content, Tree}
-use Rattle.keep_pack.specs.Pack.{Listed, type_byte, entry_bytes, HasEntry}
+use Rattle.keep_pack.specs.Pack.{Entry, type_byte, entry_bytes, HasEntry}
 use Rattle.keep_pack.specs.Reading.{IsBytes, type_of, has_bad_type, length_in, listed_in}
 
 -- ---- one entry
 
-pub length-entry_bytes : (l : Listed) → HasEntry l → length (entry_bytes l) ≡ 37
+pub length-entry_bytes : (l : Entry) → HasEntry l → length (entry_bytes l) ≡ 37
 length-entry_bytes l h = omega (arith, h.0)
 
 type_of-type_byte : (t : BlobType) → type_of (type_byte t) ≡ t
@@ -35,13 +35,13 @@ type_known : (t : BlobType) → ltb 1 (type_byte t) ≡ false
 type_known Content = refl
 type_known Tree = refl
 
-pub length_in-entry_bytes : (l : Listed) → HasEntry l → length_in (entry_bytes l) ≡ l.length
+pub length_in-entry_bytes : (l : Entry) → HasEntry l → length_in (entry_bytes l) ≡ l.length
 length_in-entry_bytes l h = from_le_bytes-to_le_bytes_4 l.length h.1
 
-abbrev listed_by : Listed → BlobType → ℕ → Listed
+abbrev listed_by : Entry → BlobType → ℕ → Entry
 listed_by l t n = record { blob = record { id = l.blob.id; blob_type = t }; length = n }
 
-pub listed_in-entry_bytes : (l : Listed) → HasEntry l → listed_in (entry_bytes l) ≡ l
+pub listed_in-entry_bytes : (l : Entry) → HasEntry l → listed_in (entry_bytes l) ≡ l
 listed_in-entry_bytes l h =
     ap (λ (t : BlobType). listed_by l t (length_in (entry_bytes l))) (type_of-type_byte l.blob.blob_type)
     ∙ ap (λ (n : ℕ). listed_by l l.blob.blob_type n) (length_in-entry_bytes l h)
@@ -72,7 +72,7 @@ entry_bytes-listed_in (a ∷ b ∷ c ∷ d ∷ e ∷ id) len fits known =
 
 -- ---- entries one after the other
 
-pub length-entries : (ls : List Listed) → AllByRecursion HasEntry ls
+pub length-entries : (ls : List Entry) → AllByRecursion HasEntry ls
     → length (flat_map entry_bytes ls) ≡ 37 * length ls
 length-entries [] h = refl
 length-entries (l ∷ ls) h =
@@ -89,31 +89,31 @@ first_chunks-cons x xs n k len =
     ap (λ (c : List ℕ). c ∷ first_chunks n k (drop n (x ++ xs))) (take_at x xs n len)
     ∙ ap (λ (ys : List ℕ). x ∷ first_chunks n k ys) (drop_at x xs n len)
 
-pub first_chunks-entries : (ls : List Listed) → AllByRecursion HasEntry ls
+pub first_chunks-entries : (ls : List Entry) → AllByRecursion HasEntry ls
     → first_chunks 37 (length ls) (flat_map entry_bytes ls) ≡ map entry_bytes ls
 first_chunks-entries [] h = refl
 first_chunks-entries (l ∷ ls) h =
     first_chunks-cons (entry_bytes l) (flat_map entry_bytes ls) 37 (length ls) (length-entry_bytes l h.0)
     ∙ ap (λ (cs : List (List ℕ)). entry_bytes l ∷ cs) (first_chunks-entries ls h.1)
 
-pub map-listed_in : (ls : List Listed) → AllByRecursion HasEntry ls → map listed_in (map entry_bytes ls) ≡ ls
+pub map-listed_in : (ls : List Entry) → AllByRecursion HasEntry ls → map listed_in (map entry_bytes ls) ≡ ls
 map-listed_in [] h = refl
 map-listed_in (l ∷ ls) h =
-    ap (λ (x : Listed). x ∷ map listed_in (map entry_bytes ls)) (listed_in-entry_bytes l h.0)
-    ∙ ap (λ (xs : List Listed). l ∷ xs) (map-listed_in ls h.1)
+    ap (λ (x : Entry). x ∷ map listed_in (map entry_bytes ls)) (listed_in-entry_bytes l h.0)
+    ∙ ap (λ (xs : List Entry). l ∷ xs) (map-listed_in ls h.1)
 
-pub types_known : (ls : List Listed) → list_any has_bad_type (map entry_bytes ls) ≡ false
+pub types_known : (ls : List Entry) → list_any has_bad_type (map entry_bytes ls) ≡ false
 types_known [] = refl
 types_known (l ∷ ls) = rw (type_known l.blob.blob_type) (types_known ls)
 
-pub sum-entries : (ls : List Listed) → AllByRecursion HasEntry ls
+pub sum-entries : (ls : List Entry) → AllByRecursion HasEntry ls
     → sum_by length_in (map entry_bytes ls) ≡ sum_by (λ l. l.length) ls
 sum-entries [] h = refl
 sum-entries (l ∷ ls) h =
     omega (
       arith,
       sum_by-cons length_in (entry_bytes l) (map entry_bytes ls),
-      sum_by-cons (λ (l : Listed). l.length) l ls,
+      sum_by-cons (λ (l : Entry). l.length) l ls,
       length_in-entry_bytes l h.0,
       sum-entries ls h.1,
     )

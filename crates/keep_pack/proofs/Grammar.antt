@@ -14,11 +14,11 @@ use Rattle.std.proofs.lemmas.List.{length-append, length-drop, length-map, lengt
 use Rattle.std.proofs.lemmas.List.Elements.{All-from_recursion}
 use Rattle.std.proofs.lemmas.List.Sums.{sum_by-cons}
 use Rattle.std.proofs.lemmas.Nat.{le_bytes_4, from_le_bytes-to_le_bytes_4}
-use Rattle.keep_pack.specs.declared.entry.PackEntry.{PackEntry}
+use Rattle.keep_names.specs.declared.blob.Blob.{Blob}
 use Rattle.keep_pack.specs.declared.pack_error.PackError.{PackError}
 use Rattle.keep_pack.specs.declared.pack_error.PackError.TheVariants.{ShortPack, BadHeaderLength, BadBlobType}
 use Rattle.keep_pack.specs.declared.pack_error.PackError.TheVariants.{LengthsDontFit}
-use Rattle.keep_pack.specs.Pack.{Listed, IsPackOf, IsPack, HasHeader, LiesIn}
+use Rattle.keep_pack.specs.Pack.{Entry, IsPackOf, IsPack, HasHeader, LiesIn}
 use Rattle.keep_pack.specs.Pack.{bytes_at, entry_bytes, entries_from}
 use Rattle.keep_pack.specs.Reading.{Gives, IsBytes, header_of, is_short, has_bad_header_length}
 use Rattle.keep_pack.specs.Reading.{has_bad_blob_type}
@@ -58,8 +58,8 @@ fit-read pack long fine known fit =
 
 -- ---- what the grammar gives is read
 
-total_is : (ls : List Listed) (blobs : List (List ℕ)) → map (λ l. l.length) ls ≡ map length blobs
-    → sum_by (λ (l : Listed). l.length) ls ≡ length (concat blobs)
+total_is : (ls : List Entry) (blobs : List (List ℕ)) → map (λ l. l.length) ls ≡ map length blobs
+    → sum_by (λ (l : Entry). l.length) ls ≡ length (concat blobs)
 total_is [] [] e = refl
 total_is [] (b ∷ bs) e = absurd cc
 total_is (l ∷ ls) [] e = absurd cc
@@ -67,17 +67,17 @@ total_is (l ∷ ls) (b ∷ bs) e =
     let same = heads l.length (length b) (map (λ l. l.length) ls) (map length bs) e in
     omega (
       arith,
-      sum_by-cons (λ (l : Listed). l.length) l ls,
+      sum_by-cons (λ (l : Entry). l.length) l ls,
       length-append b (concat bs),
       total_is ls bs same.1,
     )
 
 -- what is read of a pack: the entries as they stand are those that are listed
-pub record IsRead (pack : List ℕ) (listed : List Listed) : Type 0 where
+pub record IsRead (pack : List ℕ) (listed : List Entry) : Type 0 where
   pub listed_is : map listed_in (raw_entries pack) ≡ listed
   pub header_is : header_of pack ≡ Ok (entries_from 0 listed)
 
-pub is_read : (pack : List ℕ) (listed : List Listed) → IsPack pack listed → IsRead pack listed
+pub is_read : (pack : List ℕ) (listed : List Entry) → IsPack pack listed → IsRead pack listed
 is_read pack listed is_pack =
     let blobs = is_pack.0 in
     let of_blobs = is_pack.1 in
@@ -107,17 +107,17 @@ is_read pack listed is_pack =
     record {
       listed_is = same;
       header_is = fit-read pack frame.long fine known fit
-          ∙ ap (λ (ls : List Listed). Ok (entries_from 0 ls)) same;
+          ∙ ap (λ (ls : List Entry). Ok (entries_from 0 ls)) same;
     }
 
-pub one_list : (pack : List ℕ) (listed others : List Listed) → IsPack pack listed → IsPack pack others
+pub one_list : (pack : List ℕ) (listed others : List Entry) → IsPack pack listed → IsPack pack others
     → listed ≡ others
 one_list pack listed others p q = sym (is_read pack listed p).listed_is ∙ (is_read pack others q).listed_is
 
-pub has_header-read : (pack : List ℕ) (entries : List PackEntry) → HasHeader pack entries
+pub has_header-read : (pack : List ℕ) (entries : List Blob) → HasHeader pack entries
     → header_of pack ≡ Ok entries
 has_header-read pack entries h =
-    (is_read pack h.0 h.1).header_is ∙ ap (λ (es : List PackEntry). Ok es) (sym h.2)
+    (is_read pack h.0 h.1).header_is ∙ ap (λ (es : List Blob). Ok es) (sym h.2)
 
 -- ---- what is read is what the grammar gives
 
@@ -141,14 +141,14 @@ cut (r ∷ rs) bytes e =
       whole = ap (λ (bs : List ℕ). take n bytes ++ bs) rest.whole ∙ take-append-drop n bytes;
     }
 
-pub record Accepts (a b c d : Bool) (read entries : List PackEntry) : Type 0 where
+pub record Accepts (a b c d : Bool) (read entries : List Blob) : Type 0 where
   pub long : a ≡ false
   pub fine : b ≡ false
   pub known : c ≡ false
   pub fit : d ≡ false
   pub same : read ≡ entries
 
-accepts : (a b c d : Bool) (read entries : List PackEntry)
+accepts : (a b c d : Bool) (read entries : List Blob)
     → cond a (Err ShortPack)
     (cond b (Err BadHeaderLength) (cond c (Err BadBlobType) (cond d (Err LengthsDontFit) (Ok read))))
     ≡ Ok entries
@@ -160,7 +160,7 @@ accepts false false false true read entries e = absurd cc
 accepts false false false false read entries e =
     record { long = refl; fine = refl; known = refl; fit = refl; same = cc }
 
-pub read-has_header : (pack : List ℕ) (entries : List PackEntry) → IsBytes pack
+pub read-has_header : (pack : List ℕ) (entries : List Blob) → IsBytes pack
     → header_of pack ≡ Ok entries → HasHeader pack entries
 unfolding header_of
 read-has_header pack entries fits e =
@@ -204,7 +204,7 @@ read-has_header pack entries fits e =
 
 -- ---- where blobs stand
 
-placed : (front rest : List ℕ) (blobs : List (List ℕ)) (ls : List Listed)
+placed : (front rest : List ℕ) (blobs : List (List ℕ)) (ls : List Entry)
     → map (λ l. l.length) ls ≡ map length blobs
     → map (bytes_at (front ++ (concat blobs ++ rest))) (entries_from (length front) ls) ≡ blobs
 placed front rest [] [] e = refl
@@ -229,7 +229,7 @@ placed front rest (b ∷ bs) (l ∷ ls) e =
     ap (λ (x : List ℕ). x ∷ map (bytes_at pack) (entries_from (length front + l.length) ls)) here
     ∙ ap (λ (xs : List (List ℕ)). b ∷ xs) later
 
-pub bytes_at-entries : (pack : List ℕ) (blobs : List (List ℕ)) (listed : List Listed)
+pub bytes_at-entries : (pack : List ℕ) (blobs : List (List ℕ)) (listed : List Entry)
     → IsPackOf pack blobs listed
     → map (bytes_at pack) (entries_from 0 listed) ≡ blobs
 bytes_at-entries pack blobs listed of_blobs =
@@ -237,15 +237,15 @@ bytes_at-entries pack blobs listed of_blobs =
     ap (λ (bytes : List ℕ). map (bytes_at bytes) (entries_from 0 listed)) of_blobs.bytes
     ∙ placed [] rest blobs listed of_blobs.lengths
 
-lie : (pack : List ℕ) (offset : ℕ) (ls : List Listed)
-    → offset + sum_by (λ (l : Listed). l.length) ls ≤ length pack
+lie : (pack : List ℕ) (offset : ℕ) (ls : List Entry)
+    → offset + sum_by (λ (l : Entry). l.length) ls ≤ length pack
     → AllByRecursion (LiesIn pack) (entries_from offset ls)
 lie pack offset [] le = tt
 lie pack offset (l ∷ ls) le =
-    let sum = sum_by-cons (λ (l : Listed). l.length) l ls in
+    let sum = sum_by-cons (λ (l : Entry). l.length) l ls in
     (omega (arith, sum, le), lie pack (offset + l.length) ls (omega (arith, sum, le)))
 
-pub entries_lie : (pack : List ℕ) (entries : List PackEntry) → HasHeader pack entries
+pub entries_lie : (pack : List ℕ) (entries : List Blob) → HasHeader pack entries
     → All (LiesIn pack) entries
 entries_lie pack entries h =
     let blobs = h.1.0 in
@@ -253,25 +253,25 @@ entries_lie pack entries h =
     let rest = flat_map entry_bytes h.0 ++ to_le_bytes w32 (37 * length h.0) in
     let len : length pack ≡ length (concat blobs) + length rest =
     ap length of_blobs.bytes ∙ length-append (concat blobs) rest in
-    let le : 0 + sum_by (λ (l : Listed). l.length) h.0 ≤ length pack =
+    let le : 0 + sum_by (λ (l : Entry). l.length) h.0 ≤ length pack =
     omega (arith, total_is h.0 blobs of_blobs.lengths, len) in
     rw h.2 (All-from_recursion (LiesIn pack) (entries_from 0 h.0) (lie pack 0 h.0 le))
 
 -- ---- what the reader answers
 
-pub is_found : (pack : List ℕ) (result : Result (Vec PackEntry) PackError) → IsBytes pack
+pub is_found : (pack : List ℕ) (result : Result (Vec Blob) PackError) → IsBytes pack
     → Gives result (header_of pack)
     → IfOk result (λ entries. HasHeader pack entries.items)
 is_found pack (Ok entries) fits given = read-has_header pack entries.items fits given
 is_found pack (Err error) fits given = tt
 
-pub is_only : (pack : List ℕ) (result : Result (Vec PackEntry) PackError) → Gives result (header_of pack)
-    → (entries : List PackEntry) → HasHeader pack entries → Gives result (Ok entries)
+pub is_only : (pack : List ℕ) (result : Result (Vec Blob) PackError) → Gives result (header_of pack)
+    → (entries : List Blob) → HasHeader pack entries → Gives result (Ok entries)
 is_only pack result given entries h =
-    subst (λ (header : Result (List PackEntry) PackError). Gives result header)
+    subst (λ (header : Result (List Blob) PackError). Gives result header)
     (has_header-read pack entries h) given
 
-pub is_within : (pack : List ℕ) (result : Result (Vec PackEntry) PackError) → IsBytes pack
+pub is_within : (pack : List ℕ) (result : Result (Vec Blob) PackError) → IsBytes pack
     → Gives result (header_of pack)
     → IfOk result (λ entries. All (LiesIn pack) entries.items)
 is_within pack (Ok entries) fits given =

@@ -8,8 +8,8 @@ use Rattle.std.specs.Simd.{first_chunks}
 use Rattle.keep_names.specs.declared.blob.BlobId.{BlobId}
 use Rattle.keep_names.specs.declared.blob.BlobType.{BlobType}
 use Rattle.keep_names.specs.declared.blob.BlobType.TheVariants.{Content, Tree}
-use Rattle.keep_pack.specs.Pack.{Listed, entries_from}
-use Rattle.keep_pack.specs.declared.entry.PackEntry.{PackEntry}
+use Rattle.keep_pack.specs.Pack.{Entry, entries_from}
+use Rattle.keep_names.specs.declared.blob.Blob.{Blob}
 use Rattle.keep_pack.specs.declared.pack_error.PackError.{PackError}
 use Rattle.keep_pack.specs.declared.pack_error.PackError.TheVariants.{ShortPack, BadHeaderLength, BadBlobType}
 use Rattle.keep_pack.specs.declared.pack_error.PackError.TheVariants.{LengthsDontFit, Memory}
@@ -79,11 +79,11 @@ abbrev pub blob_in : List ℕ → BlobId
 blob_in raw = record { id = record { 0 = drop 5 raw }; blob_type = type_of (slice_index raw 0) }
 
 -- what an entry lists
-abbrev pub listed_in : List ℕ → Listed
+abbrev pub listed_in : List ℕ → Entry
 listed_in raw = record { blob = blob_in raw; length = length_in raw }
 
 -- the entries of the pack's header, or the first refusal whose condition holds
-unfoldable pub header_of : List ℕ → Result (List PackEntry) PackError
+unfoldable pub header_of : List ℕ → Result (List Blob) PackError
 header_of pack =
     if is_short pack then Err ShortPack
     else if has_bad_header_length pack then Err BadHeaderLength
@@ -92,7 +92,7 @@ header_of pack =
     else Ok (entries_from 0 (map listed_in (raw_entries pack)))
 
 -- The error is the header's refusal. Want of memory comes only where there is none.
-abbrev pub Refuses : PackError → Result (List PackEntry) PackError → Type 0
+abbrev pub Refuses : PackError → Result (List Blob) PackError → Type 0
 Refuses Memory header = IsOk header
 Refuses ShortPack header = header ≡ Err ShortPack
 Refuses BadHeaderLength header = header ≡ Err BadHeaderLength
@@ -100,6 +100,6 @@ Refuses BadBlobType header = header ≡ Err BadBlobType
 Refuses LengthsDontFit header = header ≡ Err LengthsDontFit
 
 -- What was answered is this header or this refusal, unless memory ran out.
-abbrev pub Gives : Result (Vec PackEntry) PackError → Result (List PackEntry) PackError → Type 0
+abbrev pub Gives : Result (Vec Blob) PackError → Result (List Blob) PackError → Type 0
 Gives (Ok entries) header = header ≡ Ok entries.items
 Gives (Err error) header = Refuses error header

@@ -1,13 +1,12 @@
 ghost use Rattle.std.specs.Prelude.{◌≡◌, ◌<◌, ◌^◌, List, length, map, IfOk, IfErr, All};
 ghost use Rattle.std.specs.List.{list_any, sum_by};
-ghost use Rattle.keep_pack.specs.declared.entry.PackEntry.{PackEntry};
+ghost use Rattle.keep_names.specs.declared.blob.Blob.{Blob};
 ghost use Rattle.keep_pack.specs.Pack.{HasHeader, LiesIn, entries_from};
 ghost use Rattle.keep_pack.specs.Reading.{Gives, IsSplit, blob_in, header_of, length_in, listed_in, type_of};
 ghost use Rattle.keep_pack.specs.Reading as spec;
 
-use crate::entry::PackEntry;
 use crate::pack_error::PackError;
-use keep_names::{BlobId, BlobType, Id};
+use keep_names::{Blob, BlobId, BlobType, Id};
 use std::alloc::Global;
 
 // An entry as it stands: the type, the length of the blob in four bytes, its id.
@@ -15,10 +14,10 @@ type RawEntry = [u8; 37];
 
 /// The entries of a pack's header, in their order. The blobs themselves aren't looked at: an entry's id may
 /// be another one than its blob's.
-pub fn read_header(alloc: Global, pack: &[u8]) -> Result<Vec<PackEntry>, PackError>
+pub fn read_header(alloc: Global, pack: &[u8]) -> Result<Vec<Blob>, PackError>
     // What is read is what the pack's grammar says, and what it says is read.
     ensures found { IfOk result (λ entries. HasHeader pack.now entries.items) }
-    ensures only { (entries : List PackEntry) → HasHeader pack.now entries → Gives result (Ok entries) }
+    ensures only { (entries : List Blob) → HasHeader pack.now entries → Gives result (Ok entries) }
 
     // Which refusal it is. Want of memory comes after all of them.
     ensures exact { Gives result (header_of pack.now) }
@@ -31,7 +30,7 @@ pub fn read_header(alloc: Global, pack: &[u8]) -> Result<Vec<PackEntry>, PackErr
 
 // The listed entries, or the first refusal. All refusals come before memory is taken.
 #[tactic(auto, unfolding(crate::specs::Reading::header_of))]
-fn entries_in(alloc: Global, pack: &[u8]) -> Result<Vec<PackEntry>, PackError>
+fn entries_in(alloc: Global, pack: &[u8]) -> Result<Vec<Blob>, PackError>
     ensures { Gives result (header_of pack.now) }
 {
     let (blobs, raw) = split_pack(pack)?;
@@ -78,7 +77,7 @@ fn total_length(raw: &[RawEntry]) -> u64
 }
 
 // The entries of blobs that lie one after the other from the first byte on.
-fn list_entries(alloc: Global, raw: &[RawEntry]) -> Result<Vec<PackEntry>, PackError>
+fn list_entries(alloc: Global, raw: &[RawEntry]) -> Result<Vec<Blob>, PackError>
     requires { sum_by length_in raw.now < 2 ^ 64 }
     ensures { Gives result (Ok (entries_from 0 (map listed_in raw.now))) }
 {
@@ -86,7 +85,7 @@ fn list_entries(alloc: Global, raw: &[RawEntry]) -> Result<Vec<PackEntry>, PackE
     let mut offset = 0;
     for entry in raw {
         let length = length_of(entry);
-        entries.push(PackEntry {
+        entries.push(Blob {
             blob: blob_of(entry),
             offset,
             length,

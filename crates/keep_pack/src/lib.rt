@@ -9,8 +9,8 @@ mod pack_error;
 #[cfg(test)]
 mod tests;
 
-pub use entry::{PackEntry, blob_at};
+pub use entry::blob_at;
 pub use header::read_header;
-pub use laws::headers_are_read;
+pub use laws::{built_packs_are_honest, headers_are_read};
 pub use pack::build_pack;
 pub use pack_error::PackError;

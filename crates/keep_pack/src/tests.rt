@@ -1,5 +1,5 @@
-use crate::{PackEntry, PackError, blob_at, build_pack, read_header};
-use keep_names::{BlobId, BlobType, id_of};
+use crate::{PackError, blob_at, build_pack, read_header};
+use keep_names::{Blob, BlobId, BlobType, id_of};
 use std::test::Fail;
 
 // The pack of the one data blob `hello`. Its id is that of sha256sum.
@@ -19,7 +19,7 @@ fn a_blob_is_packed_and_read(rt: HostRuntime) -> Result<(), Fail> {
     let pack = build_pack(alloc, &[(blob, Vec::from_slice(alloc, b"hello")?)])?;
     assert_eq!(rt; pack.as_slice(), HELLO.as_slice());
     let entries = read_header(alloc, &HELLO)?;
-    let entry = PackEntry {
+    let entry = Blob {
         blob,
         offset: 0,
         length: 5,
@@ -86,15 +86,16 @@ fn other_bytes_are_refused(rt: HostRuntime) {
 }
 
 #[test]
-fn refusals_print_their_names(rt: HostRuntime) -> Result<(), Fail> {
-    for (error, name) in [
-        (PackError::ShortPack, "ShortPack"),
-        (PackError::BadHeaderLength, "BadHeaderLength"),
-        (PackError::BadBlobType, "BadBlobType"),
-        (PackError::LengthsDontFit, "LengthsDontFit"),
-        (PackError::Memory, "Memory"),
+fn refusals_have_words_and_numbers(rt: HostRuntime) -> Result<(), Fail> {
+    for (error, word, number) in [
+        (PackError::ShortPack, "ShortPack", Some(4)),
+        (PackError::BadHeaderLength, "BadHeaderLength", Some(5)),
+        (PackError::BadBlobType, "BadBlobType", Some(6)),
+        (PackError::LengthsDontFit, "LengthsDontFit", Some(7)),
+        (PackError::Memory, "Memory", None),
     ] {
-        assert_eq!(rt; format!(in rt.alloc(); "{error}")?.as_str(), name);
+        assert_eq!(rt; format!(in rt.alloc(); "{error}")?.as_str(), word);
+        assert_eq!(rt; error.number(), number, "{word}");
     }
     Ok(())
 }

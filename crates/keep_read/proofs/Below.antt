@@ -2,23 +2,21 @@
 use Rattle.std.proofs.Common.{◌≡◌, ℕ, zero, suc, ◌-◌, ◌<◌, List, [], ◌∷◌, ◌++◌, map, length, get_or, Option, None, Some, Result, Ok, Err, refl, sym, ap, subst, ◌∙◌, inl, inr, arith, IsOkAnd, codes}
 use Rattle.std.proofs.lemmas.List.{append_assoc, map-append}
 use Rattle.std.specs.List.{flat_map}
-use Rattle.std.specs.Option.{option_and_then, option_map, option_map_or, option_or}
+use Rattle.std.specs.Option.{option_map, option_map_or, option_or, unwrap_or}
+use Rattle.std.specs.Result.{result_ok}
 use Rattle.keep_names.specs.declared.blob.BlobId.{BlobId}
 use Rattle.keep_names.specs.declared.id.Id.{Id}
 use Rattle.keep_repo.specs.Repository.{Repository}
 use Rattle.keep_tree.specs.Tree.{KindData, dir, file, other, NodeData}
-use Rattle.keep_tree.specs.Tree as tree_reading
-use Rattle.keep_tree.specs.declared.tree.TreeError.{TreeError}
-use Rattle.keep_catalog.specs.Files.{what_is_read}
-use Rattle.keep_catalog.specs.Naming.{named_at, named_by, named_in, named_of, names_of, piece_of, tree_at, tree_of}
-use Rattle.keep_catalog.specs.Places.{bytes_at, chosen_listing}
-use Rattle.keep_catalog.specs.Reach.{HasBlob, Naming, Reaches, first_of, is_tree, own_or, refusal_at}
+use Rattle.keep_names.specs.BlobId.{piece_of, tree_at}
+use Rattle.keep_catalog.specs.Naming.{blobs_named, named_at, named_by, named_in, named_of, nodes_at_spot, nodes_chosen, nodes_under}
+use Rattle.keep_catalog.specs.Places.{chosen_listing}
+use Rattle.keep_catalog.specs.Reach.{HasBlob, Naming, Reaches, first_of, has_type_tree, own_or, refusal_at}
 use Rattle.keep_catalog.specs.declared.reach_error.ReachError.{ReachError}
-use Rattle.keep_catalog.specs.declared.reach_error.ReachError.TheVariants.{BadTree}
 use Rattle.keep_catalog.specs.Walk.{Walked}
 use Rattle.keep_catalog.specs.declared.spot.Spot.{Spot}
-use Rattle.keep_read.specs.Contents.{ContentData, bytes_of, contents_at, contents_in, contents_of, nodes_in, under}
-use Rattle.keep_read.specs.Found.{AreFound, ArePlaced, IsFound, IsPlaced}
+use Rattle.keep_read.specs.Contents.{ContentData, contents_at, contents_in, contents_of, nodes_in, under}
+use Rattle.keep_read.specs.Found.{AreFound, ArePlaced, IsFound, IsPlaced, spot_in}
 
 -- ---- lists
 
@@ -91,37 +89,46 @@ none_refused refusal f (y ∷ ys) (suc i) x d lt is h =
 -- ---- a tree that isn't refused
 
 module _ (refusal : BlobId → Option ReachError) where
-  by_tree : (t : Result (List NodeData) TreeError) → own_or refusal (names_of t) ≡ None → names_of t ≡ Ok (flat_map named_of (what_is_read (Some t)))
-  by_tree (Ok nodes) h = refl
-  by_tree (Err e) h = cc
+  by_nodes : (n : Result (List NodeData) ReachError) → own_or refusal (blobs_named n) ≡ None → blobs_named n ≡ Ok (flat_map named_of (unwrap_or (result_ok n) []))
+  by_nodes (Ok nodes) h = refl
+  by_nodes (Err e) h = cc
 
-  by_bytes : (o : Option (List ℕ)) → own_or refusal (option_map_or (λ bytes. names_of (tree_of bytes)) o (Err BadTree)) ≡ None → option_map_or (λ bytes. names_of (tree_of bytes)) o (Err BadTree) ≡ Ok (flat_map named_of (what_is_read (option_map tree_of o)))
-  by_bytes None h = cc
-  by_bytes (Some bytes) h = by_tree (tree_of bytes) h
-
-  by_listing : (r : Repository) (tree : Id) (o : Option (Spot × Id)) → own_or refusal (named_at r (tree_at tree) o) ≡ None → named_at r (tree_at tree) o ≡ Ok (flat_map named_of (what_is_read (option_map tree_of (option_and_then (λ e. bytes_at r e.0) o))))
+  by_listing : (r : Repository) (tree : Id) (o : Option (Spot × Id)) → own_or refusal (named_at r (tree_at tree) o) ≡ None → named_at r (tree_at tree) o ≡ Ok (flat_map named_of (unwrap_or (result_ok (nodes_chosen r tree o)) []))
   by_listing r tree None h = cc
-  by_listing r tree (Some e) h = by_bytes (bytes_at r e.0) h
+  by_listing r tree (Some e) h = by_nodes (nodes_at_spot r e.0) h
 
 -- a tree that isn't refused names what its nodes name
 pub names_nodes : (r : Repository) (refusal : BlobId → Option ReachError) (tree : Id) → own_or refusal (named_by r (tree_at tree)) ≡ None → named_by r (tree_at tree) ≡ Ok (flat_map named_of (nodes_in r tree))
-unfolding named_by nodes_in
+unfolding named_by nodes_in nodes_under
 names_nodes r refusal tree h = by_listing refusal r tree (chosen_listing r (tree_at tree)) h
 
 -- ---- reading a tree
 
-pub no_nodes : (r : Repository) (tree : Id) → bytes_of r (tree_at tree) ≡ None → nodes_in r tree ≡ []
-unfolding nodes_in
-no_nodes r tree none = ap (λ o. what_is_read (option_map tree_of o)) none
+chosen_nodes : (r : Repository) (tree : Id) (o : Option (Spot × Id)) (spot : Option Spot) → spot ≡ option_map (λ (e : Spot × Id). e.0) o → unwrap_or (result_ok (nodes_chosen r tree o)) [] ≡ option_map_or (λ s. unwrap_or (result_ok (nodes_at_spot r s)) []) spot []
+chosen_nodes r tree None None h = refl
+chosen_nodes r tree None (Some s) h = cc
+chosen_nodes r tree (Some e) None h = cc
+chosen_nodes r tree (Some e) (Some s) h =
+    let same : s ≡ e.0 = cc in
+    ap (λ x. unwrap_or (result_ok (nodes_at_spot r x)) []) (sym same)
 
-module _ (r : Repository) (tree : Id) (bytes : List ℕ) (found : bytes_of r (tree_at tree) ≡ Some bytes) where
-  pub good_nodes : (nodes : List NodeData) → tree_reading.tree_of bytes ≡ Ok nodes → nodes_in r tree ≡ nodes
-  unfolding nodes_in tree_of
-  good_nodes nodes is = ap (λ o. what_is_read (option_map tree_of o)) found ∙ ap (λ t. what_is_read (Some t)) is
+module _ (r : Repository) (reached : Walked) (tree : Id) (placed : IsPlaced r reached (tree_at tree)) where
+  nodes_placed : nodes_in r tree ≡ option_map_or (λ s. unwrap_or (result_ok (nodes_at_spot r s)) []) (spot_in reached (tree_at tree)) []
+  unfolding nodes_in nodes_under
+  nodes_placed = chosen_nodes r tree (chosen_listing r (tree_at tree)) (spot_in reached (tree_at tree)) placed.spot
 
-  pub bad_nodes : (why : TreeError) → tree_reading.tree_of bytes ≡ Err why → nodes_in r tree ≡ []
-  unfolding nodes_in tree_of
-  bad_nodes why is = ap (λ o. what_is_read (option_map tree_of o)) found ∙ ap (λ t. what_is_read (Some t)) is
+  pub no_nodes : spot_in reached (tree_at tree) ≡ None → nodes_in r tree ≡ []
+  no_nodes none = nodes_placed ∙ ap (λ o. option_map_or (λ s. unwrap_or (result_ok (nodes_at_spot r s)) []) o []) none
+
+  module _ (spot : Spot) (found : spot_in reached (tree_at tree) ≡ Some spot) where
+    nodes_there : nodes_in r tree ≡ unwrap_or (result_ok (nodes_at_spot r spot)) []
+    nodes_there = nodes_placed ∙ ap (λ o. option_map_or (λ s. unwrap_or (result_ok (nodes_at_spot r s)) []) o []) found
+
+    pub good_nodes : (nodes : List NodeData) → nodes_at_spot r spot ≡ Ok nodes → nodes_in r tree ≡ nodes
+    good_nodes nodes is = nodes_there ∙ ap (λ n. unwrap_or (result_ok n) []) is
+
+    pub bad_nodes : (why : ReachError) → nodes_at_spot r spot ≡ Err why → nodes_in r tree ≡ []
+    bad_nodes why is = nodes_there ∙ ap (λ n. unwrap_or (result_ok n) []) is
 
 -- there is a level for it
 pub has_level : (named : Naming) (levels : ℕ) (tree : Id) → refusal_at named levels (tree_at tree) ≡ None → 0 < levels
@@ -164,7 +171,7 @@ module _ (r : Repository) where
   pub pieces_placed : (reached : Walked) (levels : ℕ) (content : List Id) → AreFound r reached levels (map piece_of content) → ArePlaced r reached (map piece_of content)
   pieces_placed reached levels content found = record { each = λ b among. one (is_piece content b among) levels ((found.each b among).placed b) } where
     one : {b : BlobId} → (id : Id) × (piece_of id ≡ b) → (n : ℕ) → (Reaches (named_by r) n b b → IsPlaced r reached b) → IsPlaced r reached b
-    one p zero placed = placed (ap (λ b. is_tree b.blob_type) (sym p.1), refl)
+    one p zero placed = placed (ap (λ b. has_type_tree b.blob_type) (sym p.1), refl)
     one p (suc n) placed = placed (inl refl)
 
   -- ---- what stands below

@@ -18,7 +18,7 @@ use Rattle.std.specs.declared.alloc.Global.{Global}
 use Rattle.keep_repo.proofs.Maps.{one_put}
 use Rattle.keep_read.specs.Contents.{ContentData, content_view}
 use Rattle.keep_read.specs.declared.content.Content.{Content}
-use Rattle.keep_read.specs.Restored.{file_of, path_cmp}
+use Rattle.keep_read.specs.Restored.{file_with, path_cmp}
 
 abbrev pub Files : Type 0
 Files = BTreeMap (String Global) (Vec ℕ Global)
@@ -65,30 +65,30 @@ put_all-append [] ys m = refl
 put_all-append (x ∷ xs) ys m = ap (λ n. finite.insert n x.0 x.1) (put_all-append xs ys m)
 
 -- what pops off the end, put into the map where it is a file
-pub popped : (rest : List ContentData) (last : ContentData) (m n : finite.FinMap path_cmp (List ℕ)) → put_all (filter_map file_of (last ∷ [])) m ≡ n → put_all (filter_map file_of (rest ++ last ∷ [])) m ≡ put_all (filter_map file_of rest) n
+pub popped : (rest : List ContentData) (last : ContentData) (m n : finite.FinMap path_cmp (List ℕ)) → put_all (filter_map file_with (last ∷ [])) m ≡ n → put_all (filter_map file_with (rest ++ last ∷ [])) m ≡ put_all (filter_map file_with rest) n
 popped rest last m n step =
-    ap (λ es. put_all es m) (filter_map-append file_of rest (last ∷ []))
-    ∙ put_all-append (filter_map file_of rest) (filter_map file_of (last ∷ [])) m
-    ∙ ap (put_all (filter_map file_of rest)) step
+    ap (λ es. put_all es m) (filter_map-append file_with rest (last ∷ []))
+    ∙ put_all-append (filter_map file_with rest) (filter_map file_with (last ∷ [])) m
+    ∙ ap (put_all (filter_map file_with rest)) step
 
-module _ (all rest : List Content) (last : Content) (m : Files) (target : finite.FinMap path_cmp (List ℕ)) (split : all ≡ rest ++ last ∷ []) (so : put_all (filter_map file_of (map content_view all)) (files_of m) ≡ target) where
-  views : filter_map file_of (map content_view all) ≡ filter_map file_of (map content_view rest ++ content_view last ∷ [])
-  views = ap (λ cs. filter_map file_of (map content_view cs)) split ∙ ap (filter_map file_of) (map-append content_view rest (last ∷ []))
+module _ (all rest : List Content) (last : Content) (m : Files) (target : finite.FinMap path_cmp (List ℕ)) (split : all ≡ rest ++ last ∷ []) (so : put_all (filter_map file_with (map content_view all)) (files_of m) ≡ target) where
+  views : filter_map file_with (map content_view all) ≡ filter_map file_with (map content_view rest ++ content_view last ∷ [])
+  views = ap (λ cs. filter_map file_with (map content_view cs)) split ∙ ap (filter_map file_with) (map-append content_view rest (last ∷ []))
 
   -- after a file
-  pub kept_file : (n : Files) (bytes : Vec ℕ Global) → last.bytes ≡ Some bytes → Updates string_cmp m n last.path (Some bytes) → put_all (filter_map file_of (map content_view rest)) (files_of n) ≡ target
+  pub kept_file : (n : Files) (bytes : Vec ℕ Global) → last.bytes ≡ Some bytes → Updates string_cmp m n last.path (Some bytes) → put_all (filter_map file_with (map content_view rest)) (files_of n) ≡ target
   kept_file n bytes has put =
       sym (popped (map content_view rest) (content_view last) (files_of m) (files_of n) step) ∙ sym (ap (λ es. put_all es (files_of m)) views) ∙ so where
-        step : put_all (filter_map file_of (content_view last ∷ [])) (files_of m) ≡ files_of n
-        step = ap (λ o. put_all (filter_map file_of ((string_bytes last.path, option_map items o) ∷ [])) (files_of m)) has
+        step : put_all (filter_map file_with (content_view last ∷ [])) (files_of m) ≡ files_of n
+        step = ap (λ o. put_all (filter_map file_with ((string_bytes last.path, option_map items o) ∷ [])) (files_of m)) has
             ∙ sym (one_more m n last.path bytes put)
 
   -- after a node that is skipped
-  pub kept_none : last.bytes ≡ None → put_all (filter_map file_of (map content_view rest)) (files_of m) ≡ target
+  pub kept_none : last.bytes ≡ None → put_all (filter_map file_with (map content_view rest)) (files_of m) ≡ target
   kept_none none =
       sym (popped (map content_view rest) (content_view last) (files_of m) (files_of m) step) ∙ sym (ap (λ es. put_all es (files_of m)) views) ∙ so where
-        step : put_all (filter_map file_of (content_view last ∷ [])) (files_of m) ≡ files_of m
-        step = ap (λ o. put_all (filter_map file_of ((string_bytes last.path, option_map items o) ∷ [])) (files_of m)) none
+        step : put_all (filter_map file_with (content_view last ∷ [])) (files_of m) ≡ files_of m
+        step = ap (λ o. put_all (filter_map file_with ((string_bytes last.path, option_map items o) ∷ [])) (files_of m)) none
 
 -- how many pass, counted from the front
 abbrev pub passing : {A : Type 0} → (A → Bool) → List A → ℕ

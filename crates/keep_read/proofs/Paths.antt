@@ -10,6 +10,7 @@ use Rattle.std.proofs.lemmas.Option.{option_and_then_some}
 use Rattle.std.proofs.lemmas.Slice.Eq.{bytes_eq-Decides}
 use Rattle.std.specs.Cmp.Lexicographic.{nat_list_eq_equiv}
 use Rattle.std.specs.List.{AllByRecursion, IsDistinct, flat_map, list_any}
+use Rattle.std.specs.Option.{option_map_or}
 use Rattle.std.specs.Set.{distinct_count}
 use Rattle.std.specs.Str.{bytes_eq}
 use Rattle.serde_json.specs.Data.{Data}
@@ -24,8 +25,16 @@ use Rattle.keep_tree.specs.Names.{are_distinct, is_name, is_never_in_names}
 use Rattle.keep_tree.specs.Tree.{KindData, dir, file, other, NodeData, kind_in, names_of, node_in, own_keys, tree_in}
 use Rattle.keep_tree.specs.declared.tree.TreeError.TheVariants.{BadTree, Doc}
 use Rattle.keep_catalog.specs.Files.{what_is_read}
-use Rattle.keep_catalog.specs.Naming.{tree_at, tree_of}
-use Rattle.keep_read.specs.Contents.{ContentData, bytes_of, contents_at, contents_in, contents_of, nodes_in, under}
+use Rattle.keep_names.specs.BlobId.{tree_at}
+use Rattle.keep_tree.specs.Tree as tree_reading
+use Rattle.keep_tree.specs.declared.tree.TreeError.{TreeError}
+use Rattle.keep_catalog.specs.Naming.{nodes_chosen, nodes_read, nodes_under, read_tree_of}
+use Rattle.keep_catalog.specs.Places.{bytes_at, chosen_listing}
+use Rattle.keep_catalog.specs.declared.reach_error.ReachError.TheVariants as reach
+use Rattle.keep_catalog.specs.declared.spot.Spot.{Spot}
+use Rattle.std.specs.Option.{unwrap_or}
+use Rattle.std.specs.Result.{result_ok}
+use Rattle.keep_read.specs.Contents.{ContentData, contents_at, contents_in, contents_of, nodes_in, under}
 
 -- ---- the nodes of a tree have names of their own, without `/`
 
@@ -79,12 +88,21 @@ read_named (Ok d) = cases (tree_in d) refl where
   cases None is = no_nodes
   cases (Some nodes) is = tree_named d nodes is
 
+-- the nodes of what was read
+nodes_kept : (t : Result (List NodeData) TreeError) → AreNamed (what_is_read (Some t)) → AreNamed (unwrap_or (result_ok (nodes_read t)) [])
+nodes_kept (Ok nodes) named = named
+nodes_kept (Err e) named = named
+
 nodes_named : (r : Repository) (tree : Id) → AreNamed (nodes_in r tree)
-unfolding nodes_in tree_of
-nodes_named r tree = cases (bytes_of r (tree_at tree)) where
-  cases : (o : Option (List ℕ)) → AreNamed (what_is_read (option_map tree_of o))
+unfolding nodes_in nodes_under read_tree_of
+nodes_named r tree = cases (chosen_listing r (tree_at tree)) where
+  by_bytes : (o : Option (List ℕ)) → AreNamed (unwrap_or (result_ok (option_map_or (λ bytes. nodes_read (read_tree_of bytes)) o (Err reach.BadTree))) [])
+  by_bytes None = no_nodes
+  by_bytes (Some bytes) = nodes_kept (tree_reading.tree_of bytes) (read_named (doc_of bytes))
+
+  cases : (o : Option (Spot × Id)) → AreNamed (unwrap_or (result_ok (nodes_chosen r tree o)) [])
   cases None = no_nodes
-  cases (Some bytes) = read_named (doc_of bytes)
+  cases (Some e) = by_bytes (bytes_at r e.0)
 
 -- ---- the first name of a path
 

@@ -1,18 +1,21 @@
 -- What a restore of a snapshot that can be read has to give.
-use Rattle.std.proofs.Common.{◌≡◌, ◌↔◌, List, ℕ, Option, None, Some, Ok, Err, IsSomeAnd, true, is_some, refl, sym, ap, subst, ◌∙◌}
+use Rattle.std.proofs.Common.{◌≡◌, ◌↔◌, List, ℕ, Option, None, Some, Result, Ok, Err, IsSomeAnd, true, false, is_some, refl, sym, ap, subst, ◌∙◌}
 use Rattle.std.specs.BTreeMap as tree
+use Rattle.std.specs.FinMap as finite
 use Rattle.std.specs.Option.{option_and_then, option_map}
 use Rattle.std.specs.Result.{result_ok}
 use Rattle.keep_names.specs.Orders.{blob_cmp}
 use Rattle.keep_names.specs.declared.blob.BlobId.{BlobId}
 use Rattle.keep_names.specs.declared.file_name.Kind.TheVariants.{Snapshot}
 use Rattle.keep_names.specs.declared.id.Id.{Id}
-use Rattle.keep_repo.specs.Repository.{Repository}
+use Rattle.keep_repo.specs.Facet.{Stored}
+use Rattle.keep_repo.specs.Repository.{Repository, is_filled}
 use Rattle.keep_snap.specs.Snap.{SnapData}
 use Rattle.keep_snap.specs.Snap as snap_reading
 use Rattle.keep_snap.specs.declared.snap.SnapError.{SnapError}
 use Rattle.keep_catalog.specs.Files.{file_in, snap_in, snap_of, snapshot_in, unread}
-use Rattle.keep_catalog.specs.Naming.{named_by, tree_at}
+use Rattle.keep_names.specs.BlobId.{tree_at}
+use Rattle.keep_catalog.specs.Naming.{named_by}
 use Rattle.keep_catalog.specs.Places.{chosen_listing}
 use Rattle.keep_catalog.specs.Reach.{Reaches, most_levels}
 use Rattle.keep_catalog.specs.Snapshots.{Owes, refusal_from, refusal_of, root_of}
@@ -23,7 +26,7 @@ use Rattle.keep_catalog.specs.declared.spot.Spot.{Spot}
 use Rattle.keep_catalog.specs.declared.unread.FileError.TheVariants.{Snap}
 use Rattle.keep_read.specs.Contents.{contents_at}
 use Rattle.keep_read.specs.Found.{IsFound}
-use Rattle.keep_read.specs.Restored.{restored, restored_by, restored_from, restored_of}
+use Rattle.keep_read.specs.Restored.{restored, restored_by, restored_from, restored_of, snapshot_facet}
 use Rattle.keep_read.specs.declared.restore_error.RestoreError.TheVariants.{NoSnapshot, Reach, Unread}
 
 -- ---- a snapshot that isn't there, and one that is
@@ -40,6 +43,14 @@ module _ (r : Repository) (snapshot : Id) where
     pub bad_file : (why : SnapError) → snap_reading.snap_of bytes ≡ Err why → restored r snapshot ≡ Err (Unread (unread Snapshot snapshot (Snap why)))
     unfolding snap_of
     bad_file why is = ap (λ o. restored_by r snapshot (option_map snap_of o)) there ∙ ap (λ s. restored_by r snapshot (Some s)) is
+
+none_there : (o : Option (List ℕ)) → is_some (option_map Stored o) ≡ false → o ≡ None
+none_there None h = refl
+none_there (Some bytes) h = cc
+
+pub not_there : (r : Repository) (snapshot : Id) → is_filled r (snapshot_facet snapshot) ≡ false → restored r snapshot ≡ Err NoSnapshot
+unfolding file_in
+not_there r snapshot h = no_file r snapshot (none_there (finite.get r.files (record { kind = Snapshot; id = snapshot })) h)
 
 -- ---- what is reached from its tree
 
@@ -79,3 +90,40 @@ module _ (r : Repository) (snapshot : Id) (snap : SnapData) (read : snapshot_in 
         let known : Knows reached blob = (knows blob).1 (subst O (sym snap_there) reaches) in
         record { spot = placed_by r reached blob (tree.get blob_cmp reached blob) refl known.known (chosen blob) };
   }
+
+-- ---- by the tree of its root
+
+read_of : (o : Option (Result SnapData SnapError)) (tree : Id) → option_map (λ (s : SnapData). s.tree) (option_and_then result_ok o) ≡ Some tree → (snap : SnapData) × (o ≡ Some (Ok snap)) × (snap.tree ≡ tree)
+read_of None tree h = absurd (cc)
+read_of (Some (Err why)) tree h = absurd (cc)
+read_of (Some (Ok snap)) tree h = (snap, refl, cc)
+
+module _ (r : Repository) (snapshot tree : Id) (root : option_map (λ (s : SnapData). s.tree) (snap_in r snapshot) ≡ Some tree) where
+  read_with : (snap : SnapData) × (snapshot_in r snapshot ≡ Some (Ok snap)) × (snap.tree ≡ tree)
+  unfolding snap_in
+  read_with = read_of (snapshot_in r snapshot) tree root
+
+  pub found_at : (reached : Walked) → ((blob : BlobId) → Knows reached blob ↔ Owes r snapshot blob) → AreChosen (chosen_listing r) reached → IsFound r reached most_levels (tree_at tree)
+  found_at reached knows chosen =
+      let F : Id → Type 0 = λ t. IsFound r reached most_levels (tree_at t) in
+      subst F read_with.2 (found_there r snapshot read_with.0 read_with.1 reached knows chosen)
+
+  pub had_at : refusal_of r snapshot ≡ None → refusal_from r (tree_at tree) ≡ None
+  had_at none =
+      let F : Id → Type 0 = λ t. refusal_from r (tree_at t) ≡ None in
+      subst F read_with.2 (had_there r snapshot read_with.0 read_with.1 none)
+
+  pub restored_at : refusal_of r snapshot ≡ None → restored r snapshot ≡ Ok (restored_of (contents_at r most_levels tree))
+  restored_at none = restored_there r snapshot read_with.0 read_with.1 none ∙ ap (λ t. Ok (restored_of (contents_at r most_levels t))) read_with.2
+
+  pub refused_at : (why : ReachError) → refusal_of r snapshot ≡ Some why → restored r snapshot ≡ Err (Reach why)
+  refused_at why is = refused_alike r snapshot read_with.0 read_with.1 r refl why is
+
+-- ---- a file that can't be read
+
+module _ (r : Repository) (snapshot : Id) (bytes : List ℕ) (there : file_in r Snapshot snapshot ≡ Some bytes) (unread : snap_in r snapshot ≡ None) where
+  pub not_read : (snap : SnapData) → snap_reading.snap_of bytes ≡ Ok snap → ⊥
+  unfolding snap_in
+  not_read snap is =
+      let read : option_and_then result_ok (snapshot_in r snapshot) ≡ Some snap = ap (option_and_then result_ok) (good_file r snapshot bytes there snap is) in
+      cc

@@ -2,12 +2,13 @@
 use Rattle.std.specs.Prelude.{ℕ, zero, suc, List, [], ◌∷◌, ◌++◌, map, Option, None, Some, unwrap_or, string_bytes, codes}
 use Rattle.std.specs.List.{flat_map}
 use Rattle.std.specs.Option.{option_and_then, option_map}
+use Rattle.std.specs.Result.{result_ok}
 use Rattle.keep_names.specs.declared.blob.BlobId.{BlobId}
 use Rattle.keep_names.specs.declared.id.Id.{Id}
 use Rattle.keep_repo.specs.Repository.{Repository}
 use Rattle.keep_tree.specs.Tree.{KindData, dir, file, other, NodeData}
-use Rattle.keep_catalog.specs.Files.{what_is_read}
-use Rattle.keep_catalog.specs.Naming.{piece_of, tree_at, tree_of}
+use Rattle.keep_names.specs.BlobId.{piece_of}
+use Rattle.keep_catalog.specs.Naming.{nodes_under}
 use Rattle.keep_catalog.specs.Places.{bytes_at, chosen_listing}
 use Rattle.keep_read.specs.declared.content.Content.{Content}
 
@@ -35,9 +36,9 @@ piece_bytes r piece = unwrap_or (bytes_of r (piece_of piece)) []
 unfoldable pub joined : Repository → List Id → List ℕ
 joined r content = flat_map (piece_bytes r) content
 
--- the nodes of a tree; none where it has no chosen place, or can't be read there
+-- the nodes of a tree; none where it can't be had
 unfoldable pub nodes_in : Repository → Id → List NodeData
-nodes_in r tree = what_is_read (option_map tree_of (bytes_of r (tree_at tree)))
+nodes_in r tree = unwrap_or (result_ok (nodes_under r tree)) []
 
 -- what a node has at and below itself: a file its bytes, a folder what is below its tree; and a node of any
 -- other type is skipped

@@ -1,16 +1,10 @@
--- The numbers and the words by which operators know a refused restore, and what a finding carries.
-use Rattle.std.specs.Prelude.{ℕ, List, codes, Option, Some, None}
+-- The words by which operators know a refused restore, and the numbers that findings carry.
+use Rattle.std.specs.Prelude.{ℕ, List, codes, Option, None}
 use Rattle.keep_catalog.specs.Words.{file_number, reach_number, reach_text, unread_text}
 use Rattle.keep_read.specs.declared.finding.Finding.{Finding}
 use Rattle.keep_read.specs.declared.finding.Finding.TheVariants.{Broken, Unreadable, WrongBlob, WrongName}
 use Rattle.keep_read.specs.declared.restore_error.RestoreError.{RestoreError}
 use Rattle.keep_read.specs.declared.restore_error.RestoreError.TheVariants.{NoSnapshot, Reach, Unread}
-
--- the number of a refusal; want of memory has none
-abbrev pub restore_number : RestoreError → Option ℕ
-restore_number NoSnapshot = Some 38
-restore_number (Unread unread) = file_number unread.refusal
-restore_number (Reach why) = reach_number why
 
 -- how a refusal prints
 abbrev pub restore_text : RestoreError → List ℕ

@@ -9,6 +9,8 @@ use Rattle.std.specs.declared.cmp.Ordering.{Ordering}
 use Rattle.keep_names.specs.declared.file_name.Kind.TheVariants.{Snapshot}
 use Rattle.keep_names.specs.declared.id.Id.{Id}
 use Rattle.keep_repo.specs.Repository.{Repository}
+use Rattle.keep_repo.specs.declared.facet.Facet.{Facet}
+use Rattle.keep_repo.specs.declared.facet.Facet.TheVariants.{File}
 use Rattle.keep_snap.specs.Snap.{SnapData}
 use Rattle.keep_snap.specs.declared.snap.SnapError.{SnapError}
 use Rattle.keep_catalog.specs.Files.{snapshot_in, unread}
@@ -38,13 +40,13 @@ restored_view restored = record {
 }
 
 -- a file's path and its bytes
-abbrev pub file_of : ContentData → Option (List ℕ × List ℕ)
-file_of content = option_map (λ bytes. (content.0, bytes)) content.1
+abbrev pub file_with : ContentData → Option (List ℕ × List ℕ)
+file_with content = option_map (λ bytes. (content.0, bytes)) content.1
 
 -- the files among the contents of a tree, and how many of them are none
 unfoldable pub restored_of : List ContentData → RestoredData
 restored_of contents = record {
-  files = finite.from_entries (filter_map file_of contents);
+  files = finite.from_entries (filter_map file_with contents);
   skipped = count_by (λ content. is_none content.1) contents;
 }
 
@@ -59,6 +61,10 @@ abbrev pub restored_by : Repository → Id → Option (Result SnapData SnapError
 restored_by r snapshot None = Err NoSnapshot
 restored_by r snapshot (Some (Err why)) = Err (Unread (unread Snapshot snapshot (Snap why)))
 restored_by r snapshot (Some (Ok snap)) = restored_from r snap.tree (refusal_from r (root_of snap))
+
+-- the file of the snapshot of this name
+abbrev pub snapshot_facet : Id → Facet
+snapshot_facet snapshot = File (record { kind = Snapshot; id = snapshot })
 
 -- what a restore of the snapshot of this name has to give: its contents, or the first refusal
 abbrev pub restored : Repository → Id → Result RestoredData RestoreError

@@ -4,20 +4,21 @@ ghost use Rattle.keep_read.specs.Findings.{findings_in, misnamed_in};
 ghost use Rattle.keep_read.specs.declared.finding.Finding.TheVariants.{Broken, Unreadable, WrongBlob, WrongName};
 
 use crate::finding::Finding;
-use keep_catalog::{Catalog, ReachError, Unread};
+use keep_catalog::{ReachError, Unread};
 use keep_names::{BlobId, FileName, Id, id_of};
 use keep_repo::Repo;
+use keep_view::View;
 use std::alloc::{AllocError, Global};
 
-/// All that is wrong with the files of a repository: wrong names, files that can't be read, wrong blobs, and
+/// All that is wrong with the files of the view's repository: wrong names, files that can't be read, wrong blobs, and
 /// broken snapshots, each by name. A snapshot that can't be read isn't broken too.
 ///
 /// Each file and each blob is hashed once.
-pub fn audit(alloc: Global, repo: &Repo) -> Result<Vec<Finding>, AllocError>
-    ensures { IfOk result (λ findings. findings.items ≡ findings_in repo.now) }
+pub fn audit(alloc: Global, view: &View) -> Result<Vec<Finding>, AllocError>
+    ensures { IfOk result (λ findings. findings.items ≡ findings_in view.now.repo) }
 {
-    let mut findings = wrong_names(alloc, repo)?;
-    let (mut catalog, unread) = Catalog::read_past(alloc, repo)?;
+    let mut findings = wrong_names(alloc, view.repo())?;
+    let (mut catalog, unread) = view.read_past(alloc)?;
     add_unread(&mut findings, &unread)?;
     let wrong = catalog.hash_all(alloc)?;
     add_wrong(&mut findings, &wrong)?;

@@ -1,15 +1,13 @@
 ghost use Rattle.std.specs.Prelude.{◌≡◌, ◌↔◌, IfOk, IsTrue, map, option_map};
-ghost use Rattle.keep_docs.specs.declared.doc.DocError.TheVariants.{Memory};
-ghost use Rattle.keep_catalog.specs.Naming.{piece_of, tree_at};
+ghost use Rattle.keep_catalog.specs.declared.reach_error.ReachError.TheVariants.{Memory};
+ghost use Rattle.keep_names.specs.BlobId.{piece_of, tree_at};
 ghost use Rattle.keep_tree.specs.Tree.{node_view};
-ghost use Rattle.keep_tree.specs.declared.tree.TreeError.TheVariants.{Doc};
 ghost use Rattle.keep_read.specs.Contents as spec;
 ghost use Rattle.keep_read.specs.Found.{ArePlaced, IsPlaced};
 
-use keep_catalog::{Catalog, Reached};
-use keep_docs::DocError;
-use keep_names::{BlobId, BlobType, Id};
-use keep_tree::{Node, TreeError, read_tree};
+use keep_catalog::{Catalog, ReachError, Reached};
+use keep_names::{BlobId, Id};
+use keep_tree::Node;
 use std::alloc::{AllocError, Global};
 
 // The nodes of a tree that was found.
@@ -22,17 +20,13 @@ pub(crate) fn nodes_in(
     requires { IsPlaced catalog.now reached.now (tree_at tree) }
     ensures { IfOk result (λ nodes. map node_view nodes.items ≡ spec.nodes_in catalog.now tree) }
 {
-    let blob = BlobId {
-        id: tree,
-        blob_type: BlobType::Tree,
-    };
-    let Some(bytes) = bytes_of(catalog, reached, blob) else {
+    let Some(found) = reached.get(&BlobId::tree(tree)) else {
         return Ok(Vec::new(alloc));
     };
-    match read_tree(alloc, bytes) {
-        Ok(tree) => Ok(tree.nodes),
-        Err(refusal) => {
-            if is_memory(refusal) {
+    match catalog.nodes_at(alloc, found.spot) {
+        Ok(nodes) => Ok(nodes),
+        Err(why) => {
+            if is_memory(why) {
                 return Err(AllocError);
             }
             Ok(Vec::new(alloc))
@@ -40,10 +34,10 @@ pub(crate) fn nodes_in(
     }
 }
 
-fn is_memory(refusal: TreeError) -> bool
-    ensures { IsTrue result ↔ (refusal ≡ Doc Memory) }
+fn is_memory(why: ReachError) -> bool
+    ensures { IsTrue result ↔ (why ≡ Memory) }
 {
-    matches!(refusal, TreeError::Doc(DocError::Memory))
+    matches!(why, ReachError::Memory)
 }
 
 // The pieces of a file, joined in their order.
@@ -69,11 +63,7 @@ fn piece_bytes<'a>(catalog: &'a Catalog, reached: &Reached, piece: Id) -> &'a [u
     requires { IsPlaced catalog.now reached.now (piece_of piece) }
     ensures { result.now ≡ spec.piece_bytes catalog.entry.now piece }
 {
-    let blob = BlobId {
-        id: piece,
-        blob_type: BlobType::Content,
-    };
-    bytes_of(catalog, reached, blob).unwrap_or(&[])
+    bytes_of(catalog, reached, BlobId::content(piece)).unwrap_or(&[])
 }
 
 // The bytes of a blob that was found.

@@ -1,59 +1,71 @@
-ghost use Rattle.std.specs.Prelude.{◌≡◌, ◌≢◌, ◌↔◌, None, Some, Ok, Err, IfErr, IfOk, IsTrue, map};
+ghost use Rattle.std.specs.Prelude.{◌≡◌, ◌≢◌, ◌↔◌, false, None, Err, IsTrue, option_map};
 ghost use Rattle.keep_docs.specs.Doc.{Answers};
 ghost use Rattle.keep_docs.specs.declared.doc.DocError.TheVariants as the_doc_error;
-ghost use Rattle.keep_snap.specs.Snap.{snap_view};
+ghost use Rattle.keep_repo.specs.Repository.{is_filled};
 ghost use Rattle.keep_snap.specs.declared.snap.SnapError.TheVariants.{Doc};
-ghost use Rattle.keep_catalog.specs.Files.{snapshot_in};
+ghost use Rattle.keep_catalog.specs.Files.{snap_in};
 ghost use Rattle.keep_catalog.specs.declared.reach_error.ReachError.TheVariants.{Memory};
-ghost use Rattle.keep_read.specs.Restored.{restored, restored_view};
-ghost use Rattle.keep_read.specs.declared.restore_error.RestoreError.TheVariants.{Reach};
+ghost use Rattle.keep_read.specs.Restored.{restored, restored_view, snapshot_facet};
+ghost use Rattle.keep_read.specs.declared.restore_error.RestoreError.TheVariants.{NoSnapshot, Reach};
 
 use crate::restore_error::RestoreError;
 use crate::restored::{Restored, restored_of};
 use crate::walk::contents_of;
 use keep_catalog::{Catalog, FileError, ReachError, Unread};
 use keep_docs::DocError;
-use keep_names::{FileName, Id, Kind};
-use keep_repo::Repo;
-use keep_snap::{Snap, SnapError, read_snap};
+use keep_names::{FileName, Id};
+use keep_repo::{Facet, Repo};
+use keep_snap::{SnapError, read_snap};
+use keep_view::View;
 use std::alloc::Global;
 
-/// The files of the snapshot of this name. Other files that can't be read have and list nothing.
+/// The files of the snapshot of this name, in the repository of the view. Other files that can't be read have and list nothing.
 ///
-/// Each blob that is reached is hashed once. A tree is read once for each path that leads to it, as long as a
-/// file or a skipped node is below it.
-pub fn restore(alloc: Global, repo: &Repo, snapshot: Id) -> Result<Restored, RestoreError>
-    ensures { Answers (Reach Memory) restored_view (restored repo.now snapshot) result }
+/// The snapshot is read once, and each blob that is reached is hashed once. A tree is read once for each path
+/// that leads to it, as long as a file or a skipped node is below it.
+pub fn restore(alloc: Global, view: &View, snapshot: Id) -> Result<Restored, RestoreError>
+    ensures none { is_filled view.now.repo (snapshot_facet snapshot) ≡ false → result ≡ Err NoSnapshot }
+    ensures restored { Answers (Reach Memory) restored_view (restored view.now.repo snapshot) result }
 {
-    let snap = snap_of(alloc, repo, snapshot)?;
-    let (catalog, _unread) = Catalog::read_past(alloc, repo)?;
+    let repo = view.repo();
+    if !repo.facet_filled(Facet::File(FileName::snapshot(snapshot))) {
+        return Err(RestoreError::NoSnapshot);
+    }
+    let (catalog, _unread) = view.read_past(alloc)?;
+    let Some(tree) = root_in(&catalog, snapshot) else {
+        return Err(why_unread(alloc, repo, snapshot));
+    };
     let reached = catalog.reach(alloc, snapshot)?;
-    let contents = contents_of(alloc, &catalog, &reached, snap.tree)?;
+    let contents = contents_of(alloc, &catalog, &reached, tree)?;
     let restored = restored_of(alloc, contents)?;
     Ok(restored)
 }
 
-// What the snapshot says.
-fn snap_of(alloc: Global, repo: &Repo, snapshot: Id) -> Result<Snap, RestoreError>
-    ensures read { IfOk result (λ snap. snapshot_in repo.now snapshot ≡ Some (Ok (snap_view snap))) }
-    ensures refused { IfErr result (λ error. error ≢ Reach Memory
-        → restored repo.now snapshot ≡ Err error) }
+// The tree of the snapshot's root, if the snapshot can be read.
+fn root_in(catalog: &Catalog, snapshot: Id) -> Option<Id>
+    ensures { result ≡ option_map (λ snap. snap.tree) (snap_in catalog.now snapshot) }
 {
-    let name = FileName {
-        kind: Kind::Snapshot,
-        id: snapshot,
-    };
+    let snap = catalog.snaps().get(&snapshot)?;
+    Some(snap.tree)
+}
+
+// Why the snapshot can't be read.
+fn why_unread(alloc: Global, repo: &Repo, snapshot: Id) -> RestoreError
+    requires { snap_in repo.now snapshot ≡ None }
+    ensures { result ≢ Reach Memory → restored repo.now snapshot ≡ Err result }
+{
+    let name = FileName::snapshot(snapshot);
     let Some(bytes) = repo.get(name) else {
-        return Err(RestoreError::NoSnapshot);
+        return RestoreError::NoSnapshot;
     };
     match read_snap(alloc, bytes.as_slice()) {
-        Ok(snap) => Ok(snap),
+        Ok(_) => unreachable!(),
         Err(refusal) => {
             if is_memory(refusal) {
-                return Err(RestoreError::Reach(ReachError::Memory));
+                return RestoreError::Reach(ReachError::Memory);
             }
             let refusal = FileError::Snap(refusal);
-            Err(RestoreError::Unread(Unread { name, refusal }))
+            RestoreError::Unread(Unread { name, refusal })
         }
     }
 }

@@ -15,22 +15,6 @@ pub enum RestoreError {
     Reach(ReachError),
 }
 
-impl RestoreError {
-    ghost use Rattle.std.specs.Prelude.{◌≡◌};
-    ghost use Rattle.keep_read.specs.Refusals.{restore_number};
-
-    /// The refusal's number, for those that have one.
-    pub fn number(&self) -> Option<u8>
-        ensures { result ≡ restore_number self.now }
-    {
-        match self {
-            RestoreError::NoSnapshot => Some(38),
-            RestoreError::Unread(file) => file.refusal.number(),
-            RestoreError::Reach(refusal) => refusal.number(),
-        }
-    }
-}
-
 impl fmt::Display for RestoreError {
     ghost use Rattle.std.specs.Prelude.{Some};
     ghost use Rattle.keep_read.specs.Refusals.{restore_text};

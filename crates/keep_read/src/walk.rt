@@ -1,5 +1,6 @@
 ghost use Rattle.std.specs.Prelude.{◌≡◌, ◌++◌, [], ◌∷◌, None, map, string_bytes, codes, IfOk, OnOk};
-ghost use Rattle.keep_catalog.specs.Naming.{named_by, named_of, tree_at};
+ghost use Rattle.keep_names.specs.BlobId.{tree_at};
+ghost use Rattle.keep_catalog.specs.Naming.{named_by, named_of};
 ghost use Rattle.keep_catalog.specs.Reach as spec;
 ghost use Rattle.keep_catalog.specs.Reach.{first_of, refusal_at};
 ghost use Rattle.keep_catalog.specs.Snapshots.{refusal_from};

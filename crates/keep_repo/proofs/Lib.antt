@@ -1,5 +1,6 @@
 pub mod Held
 pub mod Maps
+pub mod OfKind
 pub mod Orders
 pub mod Parts
 pub mod Same

@@ -1,9 +1,13 @@
 -- The order of facets, their text, and what a facet can hold.
-use Rattle.std.specs.Prelude.{ℕ, Bool, List, ◌++◌, codes}
+use Rattle.std.specs.Prelude.{◌≡◌, ℕ, Bool, List, ◌++◌, codes}
 use Rattle.std.specs.Ordering.{eq_by_cmp}
 use Rattle.std.specs.declared.cmp.Ordering.{Ordering}
+use Rattle.std.specs.declared.cmp.Ordering.TheVariants.{Less}
 use Rattle.keep_names.specs.FileName.{file_name_text}
 use Rattle.keep_names.specs.Id.{id_text}
+use Rattle.keep_names.specs.Orders.{id_cmp, name_cmp}
+use Rattle.keep_names.specs.declared.file_name.FileName.{FileName}
+use Rattle.keep_names.specs.declared.id.Id.{Id}
 use Rattle.keep_repo.specs.declared.facet.Facet.{Facet}
 use Rattle.keep_repo.specs.declared.facet.Facet.TheVariants.{File, Mark}
 use Rattle.keep_repo.specs.declared.facet.Mark as the_mark
@@ -12,6 +16,12 @@ use Rattle.keep_repo.specs.contracts.facet.FacetOrd.TheImpl as the_facet_order
 -- files before marks, files by name and marks by pack
 abbrev pub facet_cmp : Facet → Facet → Ordering
 facet_cmp = (the_facet_order.ghosts).cmp
+
+-- the same in plain words
+pub record FacetsAreOrdered : Type 0 where
+  pub files_first : (name : FileName) (pack : Id) → facet_cmp (File name) (Mark pack) ≡ Less
+  pub files_by_name : (a b : FileName) → facet_cmp (File a) (File b) ≡ name_cmp a b
+  pub marks_by_pack : (a b : Id) → facet_cmp (Mark a) (Mark b) ≡ id_cmp a b
 
 -- whether the two are one facet
 abbrev pub facet_eq : Facet → Facet → Bool

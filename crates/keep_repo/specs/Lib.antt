@@ -1,2 +1,3 @@
 pub mod Facet
+pub mod Kinds
 pub mod Repository

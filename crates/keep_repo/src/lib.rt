@@ -3,10 +3,13 @@
 
 mod bytes;
 mod facet;
+mod kinds;
+mod laws;
 mod repo;
 #[cfg(test)]
 mod tests;
 
 pub use bytes::Bytes;
 pub use facet::{Facet, Mark};
+pub use laws::facets_are_ordered;
 pub use repo::Repo;

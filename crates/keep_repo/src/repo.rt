@@ -1,11 +1,13 @@
 ghost use Rattle.std.specs.Prelude.{◌≡◌, ◌↔◌, IsTrue, IfOk, OnOk, OnErr, is_some, option_copied, length};
 ghost use Rattle.std.specs.FinMap as map;
 ghost use Rattle.std.specs.Option.{option_map};
+ghost use Rattle.keep_repo.specs.Kinds.{ids_among};
 ghost use Rattle.keep_repo.specs.Repository.{held, is_filled, empty_repository};
 
 use crate::bytes::Bytes;
 use crate::facet::{Facet, Mark};
-use keep_names::{FileName, Id};
+use crate::kinds::{bounds_of, id_fits};
+use keep_names::{FileName, Id, Kind};
 use std::alloc::{AllocError, Global};
 use std::collections::BTreeMap;
 use std::marker::Model;
@@ -20,6 +22,7 @@ pub struct Repo {
 
 impl Model for Repo {
     ghost use Rattle.std.specs.FinMap as map;
+    ghost use Rattle.keep_repo.specs.Kinds.{HaveDigests};
     ghost use Rattle.keep_repo.specs.Repository.{Repository, coded_repository};
 
     ghost Value = { Repository };
@@ -30,6 +33,8 @@ impl Model for Repo {
       files = map.from_entries r.files.entries;
       marks = map.from_entries r.marks.entries;
     } };
+
+    ghost invariant = { λ r. HaveDigests r.files };
 }
 
 impl Repo {
@@ -96,6 +101,16 @@ impl Repo {
         Ok((names, packs))
     }
 
+    /// The ids of the files of this kind, in order. It goes over no others.
+    pub fn ids(&self, kind: Kind) -> Result<Vec<Id>, AllocError>
+        ensures { IfOk result (λ ids. ids.items ≡ ids_among kind (map.keys self.now.files)) }
+    {
+        self.files
+            .range(bounds_of(kind))
+            .map(|(name, _)| name.id)
+            .collect(self.alloc)
+    }
+
     /// A repository of its own with the same files and marks. The bytes are shared.
     pub fn copy(&self) -> Result<Repo, AllocError>
         ensures { IfOk result (λ made. made ≡ self.now) }
@@ -134,6 +149,7 @@ impl Repo {
             OnOk result (self.new ≡ record self.old { files = files }) }
         ensures err { OnErr result (self.new ≡ self.old) }
     {
+        id_fits(name.id);
         self.files.insert(name, bytes)?;
         Ok(())
     }

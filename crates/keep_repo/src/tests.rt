@@ -55,6 +55,13 @@ fn files_and_marks_are_listed_in_order(rt: HostRuntime) -> Result<(), Fail> {
         [LOW_PACK, HIGH_PACK, INDEX, SNAPSHOT].as_slice()
     );
     assert_eq!(rt; packs.as_slice(), [LOW, HIGH].as_slice());
+    for (kind, want) in [
+        (Kind::Pack, [LOW, HIGH].as_slice()),
+        (Kind::Index, [LOW].as_slice()),
+        (Kind::Snapshot, [LOW].as_slice()),
+    ] {
+        assert_eq!(rt; repository.ids(kind)?.as_slice(), want);
+    }
     assert_eq!(rt; (repository.file_count(), repository.mark_count()), (4, 2));
     Ok(())
 }

@@ -5,8 +5,8 @@ use Rattle.keep_book.specs.BookState.{BookState}
 use Rattle.keep_book.specs.Reply.{Replies, state_after}
 use Rattle.keep_book.specs.declared.reply.Refusal.{Refusal}
 use Rattle.keep_book.specs.declared.reply.Told.{Told}
-use Rattle.keep_backup.specs.declared.backup_error.BackupError.{BackupError}
-use Rattle.keep_backup.specs.declared.backup_error.BackupError.TheVariants as backup_error
+use Rattle.keep_plan.specs.declared.plan_error.PlanError.{PlanError}
+use Rattle.keep_plan.specs.declared.plan_error.PlanError.TheVariants as plan_error
 use Rattle.keep_book.specs.Request as request
 use Rattle.keep_change.specs.declared.change.Change.{Change}
 use Rattle.keep_change.specs.declared.change.Planned.{Planned}
@@ -16,7 +16,7 @@ use Rattle.keep_script.specs.Plan.{backed_up, commit_of, file_meant}
 use Rattle.keep_script.specs.Text.{backup_reply_text, commit_text, reply_text, sizes_of}
 use Rattle.keep_script.specs.declared.answer.Sizes.{Sizes}
 use Rattle.std.specs.Option.{ok_or}
-use Rattle.keep_script.specs.Answer.{Answers, Committed, NoCommand, NoLine, IsBad, NamesNothing, Shows, Done, NoName}
+use Rattle.keep_script.specs.Answer.{AnswersTo, Committed, NoCommand, NoLine, IsBad, NamesNothing, Shows, Done, NoName}
 use Rattle.keep_script.specs.Command.{Asks, IsNoCommand}
 use Rattle.keep_script.specs.Known.{Puts, Writes}
 use Rattle.keep_script.specs.Line.{IsLine, IsPassedOver, IsText}
@@ -37,12 +37,12 @@ Shows-nothing state = record { text = refl; same = refl }
 
 -- its answer is written, or a first part of it
 pub AnswersCommand-puts : (a b : Option (List ℕ)) (state after : State) (command : Command) (text : List ℕ) (r : Result (Unit {0}) Stop)
-    → Puts a b text r → Answers state command text after → Writes a b (λ t. AnswersCommand state command t r after)
+    → Puts a b text r → AnswersTo state command text after → Writes a b (λ t. AnswersCommand state command t r after)
 AnswersCommand-puts a b state after command text (Ok u) h answer = (text, h, answer)
 AnswersCommand-puts a b state after command text (Err BadLine) h answer = absurd h
 AnswersCommand-puts a b state after command text (Err ReadFailed) h answer = absurd h
-AnswersCommand-puts a b state after command text (Err WriteFailed) h answer = (h.part, h.appended, inr (h.rest, subst (λ t. Answers state command t after) h.split answer))
-AnswersCommand-puts a b state after command text (Err NoMemory) h answer = (h.part, h.appended, inr (h.rest, subst (λ t. Answers state command t after) h.split answer))
+AnswersCommand-puts a b state after command text (Err WriteFailed) h answer = (h.part, h.appended, inr (h.rest, subst (λ t. AnswersTo state command t after) h.split answer))
+AnswersCommand-puts a b state after command text (Err NoMemory) h answer = (h.part, h.appended, inr (h.rest, subst (λ t. AnswersTo state command t after) h.split answer))
 
 -- nothing was done for want of memory
 pub AnswersCommand-none : (a : Option (List ℕ)) (state after : State) (command : Command) (r : Result (Unit {0}) Stop)
@@ -110,27 +110,31 @@ commit-planned book planned now = ap (λ (seen : ℕ). request.Commit (record { 
 BackedUp-made : (cut : ℕ) (book book' : BookState) (notes : List ℕ → Option Repository) (command : Command) (backup : Backup) (made : Result Told Refusal × Sizes) (change : Change)
     → command ≡ the_command.Backup backup → backed_up book.live cut backup ≡ Ok change → Replies book (commit_of book change) made.0
     → book' ≡ state_after book (commit_of book change) made.0 → made.1 ≡ sizes_of change
-    → Answers (record { cut = cut; book = book; notes = notes }) command (backup_reply_text (Ok made)) (record { cut = cut; book = book'; notes = notes })
+    → AnswersTo (record { cut = cut; book = book; notes = notes }) command (backup_reply_text (Ok made)) (record { cut = cut; book = book'; notes = notes })
 BackedUp-made cut book book' notes command backup made change is due replies left counted =
     rw (is, due) (inl (Committed-by cut book book' notes change change made.1 made.0 refl replies left counted))
 
-BackedUp-refused : (state after : State) (command : Command) (backup : Backup) (refusal : BackupError)
-    → command ≡ the_command.Backup backup → (refusal ≢ backup_error.Memory → backed_up state.book.live state.cut backup ≡ Err refusal)
-    → after ≡ state → Answers state command (backup_reply_text (Err refusal)) after
-BackedUp-refused state after command backup backup_error.BadPath is due same = rw (is, due (λ e. cc e)) (inl (record { text = refl; same = same }))
-BackedUp-refused state after command backup backup_error.SamePathTwice is due same = rw (is, due (λ e. cc e)) (inl (record { text = refl; same = same }))
-BackedUp-refused state after command backup backup_error.BadTime is due same = rw (is, due (λ e. cc e)) (inl (record { text = refl; same = same }))
-BackedUp-refused state after command backup (backup_error.Unread file) is due same = rw (is, due (λ e. cc e)) (inl (record { text = refl; same = same }))
-BackedUp-refused state after command backup backup_error.TooDeep is due same = rw (is, due (λ e. cc e)) (inl (record { text = refl; same = same }))
-BackedUp-refused state after command backup backup_error.Full is due same = rw (is, due (λ e. cc e)) (inl (record { text = refl; same = same }))
-BackedUp-refused state after command backup backup_error.SnapshotThere is due same = rw (is, due (λ e. cc e)) (inl (record { text = refl; same = same }))
-BackedUp-refused state after command backup backup_error.Memory is due same = rw is (inr (record { text = refl; same = same }))
+BackedUp-refused : (state after : State) (command : Command) (backup : Backup) (refusal : PlanError)
+    → command ≡ the_command.Backup backup → (refusal ≢ plan_error.Memory → backed_up state.book.live state.cut backup ≡ Err refusal)
+    → after ≡ state → AnswersTo state command (backup_reply_text (Err refusal)) after
+BackedUp-refused state after command backup plan_error.BadPath is due same = rw (is, due (λ e. cc e)) (inl (record { text = refl; same = same }))
+BackedUp-refused state after command backup plan_error.SamePathTwice is due same = rw (is, due (λ e. cc e)) (inl (record { text = refl; same = same }))
+BackedUp-refused state after command backup plan_error.BadTime is due same = rw (is, due (λ e. cc e)) (inl (record { text = refl; same = same }))
+BackedUp-refused state after command backup plan_error.BadEdit is due same = rw (is, due (λ e. cc e)) (inl (record { text = refl; same = same }))
+BackedUp-refused state after command backup plan_error.BadPattern is due same = rw (is, due (λ e. cc e)) (inl (record { text = refl; same = same }))
+BackedUp-refused state after command backup (plan_error.Unread file) is due same = rw (is, due (λ e. cc e)) (inl (record { text = refl; same = same }))
+BackedUp-refused state after command backup (plan_error.Reach why) is due same = rw (is, due (λ e. cc e)) (inl (record { text = refl; same = same }))
+BackedUp-refused state after command backup plan_error.TooDeep is due same = rw (is, due (λ e. cc e)) (inl (record { text = refl; same = same }))
+BackedUp-refused state after command backup plan_error.Full is due same = rw (is, due (λ e. cc e)) (inl (record { text = refl; same = same }))
+BackedUp-refused state after command backup plan_error.SnapshotThere is due same = rw (is, due (λ e. cc e)) (inl (record { text = refl; same = same }))
+BackedUp-refused state after command backup plan_error.NothingToDo is due same = rw (is, due (λ e. cc e)) (inl (record { text = refl; same = same }))
+BackedUp-refused state after command backup plan_error.Memory is due same = rw is (inr (record { text = refl; same = same }))
 
-pub BackedUp-answer : (cut : ℕ) (book book' : BookState) (notes : List ℕ → Option Repository) (command : Command) (backup : Backup) (outcome : Result (Result Told Refusal × Sizes) BackupError)
+pub BackedUp-answer : (cut : ℕ) (book book' : BookState) (notes : List ℕ → Option Repository) (command : Command) (backup : Backup) (outcome : Result (Result Told Refusal × Sizes) PlanError)
     → command ≡ the_command.Backup backup
     → IfOk outcome (λ made. (change : Change) × (backed_up book.live cut backup ≡ Ok change) × Replies book (commit_of book change) made.0 × (book' ≡ state_after book (commit_of book change) made.0) × (made.1 ≡ sizes_of change))
-    → IfErr outcome (λ refusal. refusal ≢ backup_error.Memory → backed_up book.live cut backup ≡ Err refusal) → IfErr outcome (λ refusal. book' ≡ book)
-    → Answers (record { cut = cut; book = book; notes = notes }) command (backup_reply_text outcome) (record { cut = cut; book = book'; notes = notes })
+    → IfErr outcome (λ refusal. refusal ≢ plan_error.Memory → backed_up book.live cut backup ≡ Err refusal) → IfErr outcome (λ refusal. book' ≡ book)
+    → AnswersTo (record { cut = cut; book = book; notes = notes }) command (backup_reply_text outcome) (record { cut = cut; book = book'; notes = notes })
 BackedUp-answer cut book book' notes command backup (Ok made) is h refused same = BackedUp-made cut book book' notes command backup made h.0 is h.1 h.2 h.3 h.4
 BackedUp-answer cut book book' notes command backup (Err refusal) is made due same =
     BackedUp-refused (record { cut = cut; book = book; notes = notes }) (record { cut = cut; book = book'; notes = notes }) command backup refusal is due

@@ -101,7 +101,7 @@ Reads-told state shown told (inr e) = inr (record { text = e; same = refl })
 -- a restore of a snapshot that is named was answered
 pub Restored-answer : (state : State) (command : Command) (target : Target) (name : FileName) (outcome : Result Restored RestoreError) → command ≡ Restore target
     → file_meant state.book.events Snapshot target ≡ Some name → Answers (Reach Memory) restored_view (restored state.book.live name.id) outcome
-    → script.Answers state command (restore_reply_text (result_map_both restored_view (λ e. e) outcome)) state
+    → script.AnswersTo state command (restore_reply_text (result_map_both restored_view (λ e. e) outcome)) state
 Restored-answer state command target name outcome is meant told =
     rw is (name, meant, Reads-told state _ _ (restore_told (restored state.book.live name.id) outcome told))
 
@@ -111,6 +111,6 @@ NamesNothing-snapshot state command target e h = rw e h
 -- what an audit told is what it has to tell, or that memory ran out
 pub Audited-answer : {E : Type 0} (state : State) (command : Command) (outcome : Result (Vec Finding Global) E) → command ≡ Audit
     → IfOk outcome (λ findings. findings.items ≡ findings_in state.book.live)
-    → script.Answers state command (audit_reply_text (result_map_both (λ findings. findings.items) (λ e. e) outcome)) state
+    → script.AnswersTo state command (audit_reply_text (result_map_both (λ findings. findings.items) (λ e. e) outcome)) state
 Audited-answer state command (Ok findings) is found = rw is (inl (record { text = ap audit_text found; same = refl }))
 Audited-answer state command (Err e) is found = rw is (inr (record { text = refl; same = refl }))

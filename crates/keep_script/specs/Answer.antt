@@ -9,7 +9,7 @@ use Rattle.keep_book.specs.declared.reply.Refusal.{Refusal}
 use Rattle.keep_book.specs.Request.{Request}
 use Rattle.keep_book.specs.Request as request
 use Rattle.keep_book.specs.declared.reply.Told.{Told}
-use Rattle.keep_backup.specs.declared.backup_error.BackupError.{BackupError}
+use Rattle.keep_plan.specs.declared.plan_error.PlanError.{PlanError}
 use Rattle.keep_read.specs.Findings.{findings_in}
 use Rattle.keep_read.specs.Restored.{restored}
 use Rattle.keep_script.specs.Command.{Asks, IsNoCommand}
@@ -43,34 +43,34 @@ Committed state change text after =
     Asked state (commit_of state.book change) (commit_text (sizes_of change)) text after
 
 -- a planned change is committed, or its planner's refusal is written and nothing changes
-abbrev pub CommittedOrRefused : State → Result Change BackupError → List ℕ → State → Type 0
+abbrev pub CommittedOrRefused : State → Result Change PlanError → List ℕ → State → Type 0
 CommittedOrRefused state (Ok change) text after = Committed state change text after
 CommittedOrRefused state (Err refusal) text after = Shows state (unplanned_text refusal) text after
 
 -- the answer to a command, and the state that it leaves
-abbrev pub Answers : State → Command → List ℕ → State → Type 0
-Answers state (Add kind bytes) text after = Committed state (added_file kind bytes.items) text after
-Answers state (Drop kind target) text after =
+abbrev pub AnswersTo : State → Command → List ℕ → State → Type 0
+AnswersTo state (Add kind bytes) text after = Committed state (added_file kind bytes.items) text after
+AnswersTo state (Drop kind target) text after =
     (name : FileName) × (file_meant state.book.events kind target ≡ Some name)
     × Committed state (dropped_file state.book.live name) text after
-Answers state (Undo n) text after = Asked state (request.Undo n) told_text text after
-Answers state (Redo n) text after = Asked state (request.Redo n) told_text text after
-Answers state (Empty n) text after = Asked state (request.Empty n) told_text text after
-Answers state ListFiles text after = Shows state (list_text state.book.live) text after
-Answers state Count text after = Shows state (count_text state.book.live) text after
-Answers state (Note name) text after =
+AnswersTo state (Undo n) text after = Asked state (request.Undo n) told_text text after
+AnswersTo state (Redo n) text after = Asked state (request.Redo n) told_text text after
+AnswersTo state (Empty n) text after = Asked state (request.Empty n) told_text text after
+AnswersTo state ListFiles text after = Shows state (list_text state.book.live) text after
+AnswersTo state Count text after = Shows state (count_text state.book.live) text after
+AnswersTo state (Note name) text after =
     (text ≡ noted_text name.now)
     × (after ≡ record state { notes = noted_under name.now state.book.live state.notes })
-Answers state (Same name) text after =
+AnswersTo state (Same name) text after =
     (noted : Repository) × (state.notes name.now ≡ Some noted)
     × (same : Bool) × (IsTrue same ↔ (state.book.live ≡ noted))
     × Shows state (same_text name.now same) text after
-Answers state History text after = Shows state (history_text state.book.events) text after
-Answers state (Restore target) text after =
+AnswersTo state History text after = Shows state (history_text state.book.events) text after
+AnswersTo state (Restore target) text after =
     (name : FileName) × (file_meant state.book.events Snapshot target ≡ Some name)
     × Reads state (restore_reply_text (restored state.book.live name.id)) text after
-Answers state Audit text after = Reads state (audit_text (findings_in state.book.live)) text after
-Answers state (Backup backup) text after =
+AnswersTo state Audit text after = Reads state (audit_text (findings_in state.book.live)) text after
+AnswersTo state (Backup backup) text after =
     CommittedOrRefused state (backed_up state.book.live state.cut backup) text after
     ⊎ Shows state no_memory_text text after
 
@@ -93,7 +93,7 @@ NamesNothing state (Backup backup) = ⊥
 -- the answer to a line: none where it is passed over, and else that to its command
 pub data Answered (state : State) (line text : List ℕ) (after : State) : Type 0 where
   PassedOver : IsLine line → IsPassedOver line → Shows state [] text after → Answered state line text after
-  Done : IsLine line → (command : Command) → Asks line command → Answers state command text after
+  Done : IsLine line → (command : Command) → Asks line command → AnswersTo state command text after
       → Answered state line text after
 
 -- a line isn't one of the language: it is too long or no text, it asks for no command, or its command names what isn't there

@@ -14,10 +14,10 @@ use Rattle.keep_names.specs.declared.file_name.Kind.{Kind}
 use Rattle.keep_names.specs.contracts.file_name.KindPartialEq.TheImpl as the_kind_eq
 use Rattle.keep_repo.specs.Repository.{Repository}
 use Rattle.keep_change.specs.declared.change.Change.{Change}
-use Rattle.keep_change.specs.declared.change.StoredFile.{StoredFile}
+use Rattle.keep_change.specs.NamedBytes.{NamedBytes}
 use Rattle.keep_backup.specs.Backup.{FactsData, backup_change}
 use Rattle.keep_backup.specs.Files.{given_view}
-use Rattle.keep_backup.specs.declared.backup_error.BackupError.{BackupError}
+use Rattle.keep_plan.specs.declared.plan_error.PlanError.{PlanError}
 use Rattle.keep_journal.specs.History.{change_of, length_of}
 use Rattle.keep_journal.specs.Journal.{Journal}
 use Rattle.keep_book.specs.BookState.{BookState}
@@ -25,7 +25,7 @@ use Rattle.keep_book.specs.Request.{Request}
 use Rattle.keep_book.specs.Request as request
 
 -- the change that only adds these files and drops those
-abbrev pub change_with : List StoredFile → List StoredFile → Change
+abbrev pub change_with : List NamedBytes → List NamedBytes → Change
 change_with adds drops = record {
   adds = adds;
   drops = drops;
@@ -62,13 +62,13 @@ facts_of backup = record {
 }
 
 -- the change that backs up the files of a line, which are cut every so many bytes, or why there is none
-abbrev pub backed_up : Repository → ℕ → Backup → Result Change BackupError
+abbrev pub backed_up : Repository → ℕ → Backup → Result Change PlanError
 backed_up repository cut backup =
     backup_change repository (facts_of backup) cut (map given_view backup.files.items)
 
 -- the names of these files that have the kind
-abbrev pub names_of : Kind → List StoredFile → List FileName
-names_of kind files = filter (λ name. (the_kind_eq.ghosts).eq name.kind kind) (map (λ f. f.name) files)
+abbrev pub names_among : Kind → List NamedBytes → List FileName
+names_among kind files = filter (λ name. (the_kind_eq.ghosts).eq name.kind kind) (map (λ f. f.name) files)
 
 -- the lesser of two names, in the order in which files are listed
 abbrev pub lesser : FileName → FileName → FileName
@@ -80,7 +80,7 @@ least names = reduce lesser names
 
 -- the least file of this kind among those that change n added
 abbrev pub added_in : Journal → ℕ → Kind → Option FileName
-added_in j n kind = option_and_then (λ c. least (names_of kind c.adds)) (change_of j n)
+added_in j n kind = option_and_then (λ c. least (names_among kind c.adds)) (change_of j n)
 
 -- the file that a target means, if there is one: that of an id, or the least of its kind that a change added
 abbrev pub file_meant : Journal → Kind → Target → Option FileName

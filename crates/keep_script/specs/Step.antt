@@ -1,7 +1,7 @@
 -- What one line of a script gets done, by whether and why it failed.
 use Rattle.std.specs.Prelude.{◌≡◌, ℕ, ◌⊎◌, List, [], ◌∷◌, ◌++◌, Option, IfSome, Bool, true, false, Result, Ok, Err, codes}
 use Rattle.std.specs.Io.KnownBytes.{Consumes, IsAtEnd}
-use Rattle.keep_script.specs.Answer.{Answered, Answers, IsBad, NamesNothing, Shows}
+use Rattle.keep_script.specs.Answer.{Answered, AnswersTo, IsBad, NamesNothing, Shows}
 use Rattle.keep_script.specs.Line.{HasLineEnd, lines_of}
 use Rattle.keep_script.specs.State.{State}
 use Rattle.keep_script.specs.declared.command.Command.{Command}
@@ -11,11 +11,11 @@ use Rattle.keep_script.specs.declared.status.Stop.TheVariants.{BadLine, ReadFail
 -- nothing was done for the command, or the text is a first part of its answer
 abbrev pub BeginsCommand : State → Command → List ℕ → State → Type 0
 BeginsCommand state command text after =
-    Shows state [] text after ⊎ ((rest : List ℕ) × Answers state command (text ++ rest) after)
+    Shows state [] text after ⊎ ((rest : List ℕ) × AnswersTo state command (text ++ rest) after)
 
 -- what is written for a command, and the state after it
 abbrev pub AnswersCommand : State → Command → List ℕ → Result (Unit {0}) Stop → State → Type 0
-AnswersCommand state command text (Ok _) after = Answers state command text after
+AnswersCommand state command text (Ok _) after = AnswersTo state command text after
 AnswersCommand state command text (Err BadLine) after = NamesNothing state command × Shows state [] text after
 AnswersCommand state command text (Err ReadFailed) after = ⊥
 AnswersCommand state command text (Err WriteFailed) after = BeginsCommand state command text after

@@ -19,8 +19,8 @@ use Rattle.keep_book.specs.Refusal.{refusal_text}
 use Rattle.keep_book.specs.declared.reply.Refusal.{Refusal}
 use Rattle.keep_book.specs.declared.reply.Refusal.TheVariants.{Memory}
 use Rattle.keep_book.specs.declared.reply.Told.{Told}
-use Rattle.keep_backup.specs.Refusal.{backup_text}
-use Rattle.keep_backup.specs.declared.backup_error.BackupError.{BackupError}
+use Rattle.keep_plan.specs.Refusal.{plan_text}
+use Rattle.keep_plan.specs.declared.plan_error.PlanError.{PlanError}
 use Rattle.keep_read.specs.Refusals.{finding_number, restore_text}
 use Rattle.keep_read.specs.Restored.{RestoredData}
 use Rattle.keep_read.specs.declared.finding.Finding.{Finding}
@@ -63,8 +63,8 @@ no_text refusal = codes "no " ++ (refusal ++ codes "\n")
 abbrev pub refused_text : Refusal → List ℕ
 refused_text refusal = no_text (refusal_text refusal)
 
-abbrev pub unplanned_text : BackupError → List ℕ
-unplanned_text refusal = no_text (backup_text refusal)
+abbrev pub unplanned_text : PlanError → List ℕ
+unplanned_text refusal = no_text (plan_text refusal)
 
 -- the answer by a book's reply
 abbrev pub reply_text : (Told → List ℕ) → Result Told Refusal → List ℕ
@@ -72,7 +72,7 @@ reply_text accepted (Ok told) = accepted told
 reply_text accepted (Err refusal) = refused_text refusal
 
 -- the answer to `backup`: its commit's, or why nothing was planned
-abbrev pub backup_reply_text : Result (Result Told Refusal × Sizes) BackupError → List ℕ
+abbrev pub backup_reply_text : Result (Result Told Refusal × Sizes) PlanError → List ℕ
 backup_reply_text (Ok made) = reply_text (commit_text made.1) made.0
 backup_reply_text (Err refusal) = unplanned_text refusal
 

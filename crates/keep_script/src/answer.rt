@@ -3,11 +3,11 @@ ghost use Rattle.keep_script.specs.Plan.{bytes_in};
 ghost use Rattle.keep_script.specs.Text as texts;
 
 use crate::word::print_hex;
-use keep_backup::BackupError;
 use keep_book::{Refusal, Told};
 use keep_change::{Change, What};
 use keep_journal::Entry;
 use keep_names::{FileName, Kind};
+use keep_plan::PlanError;
 use keep_read::{Finding, RestoreError};
 use keep_repo::Repo;
 use std::alloc::{AllocError, Global};
@@ -82,7 +82,7 @@ pub(crate) fn refused_text(alloc: Global, refusal: Refusal) -> Result<String, Al
 }
 
 /// The answer to `backup`, where it isn't planned.
-pub(crate) fn unplanned_text(alloc: Global, refusal: BackupError) -> Result<String, AllocError>
+pub(crate) fn unplanned_text(alloc: Global, refusal: PlanError) -> Result<String, AllocError>
     ensures { IfOk result (λ text. string_bytes text ≡ texts.unplanned_text refusal) }
 {
     format!(in alloc; "no {refusal}\n")

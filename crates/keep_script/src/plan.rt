@@ -1,17 +1,18 @@
 ghost use Rattle.std.specs.Prelude.{◌≡◌, ◌≤◌, ◌<◌, [], ◌∷◌, IfOk};
 ghost use Rattle.keep_backup.specs.Backup.{facts_view};
-ghost use Rattle.keep_backup.specs.declared.backup_error.BackupError.TheVariants as backup_error;
+ghost use Rattle.keep_plan.specs.declared.plan_error.PlanError.TheVariants as plan_error;
 ghost use Rattle.keep_docs.specs.Doc.{Answers};
 ghost use Rattle.keep_journal.specs.History.{length_of};
 ghost use Rattle.keep_script.specs.Plan as spec;
-ghost use Rattle.keep_script.specs.Plan.{added_file, added_in, backed_up, bytes_in, dropped_file, least, names_of};
+ghost use Rattle.keep_script.specs.Plan.{added_file, added_in, backed_up, bytes_in, dropped_file, least, names_among};
 
 use crate::backup_line::Backup;
-use keep_backup::{BackupError, BackupFacts};
+use keep_backup::BackupFacts;
 use keep_book::Book;
 use keep_change::{Change, Listed, Planned, StoredFile};
 use keep_journal::History;
-use keep_names::{FileName, Kind, id_of};
+use keep_names::{FileName, Kind};
+use keep_plan::PlanError;
 use keep_repo::{Bytes, Repo};
 use std::alloc::{AllocError, Global};
 
@@ -19,11 +20,9 @@ use std::alloc::{AllocError, Global};
 pub(crate) fn plan_add(alloc: Global, kind: Kind, bytes: Vec<u8>) -> Result<Change, AllocError>
     ensures { IfOk result (λ change. change ≡ added_file kind bytes.items) }
 {
-    let id = id_of(bytes.as_slice());
-    let name = FileName { kind, id };
-    let bytes = Bytes::new(alloc, bytes)?;
+    let file = StoredFile::of(alloc, kind, bytes)?;
     let mut change = Change::new(alloc);
-    change.adds = one_file(alloc, StoredFile { name, bytes })?;
+    change.adds = one_file(alloc, file)?;
     Ok(change)
 }
 
@@ -34,7 +33,7 @@ pub(crate) fn plan_drop(alloc: Global, repo: &Repo, name: FileName) -> Result<Ch
 {
     let bytes = bytes_of(alloc, repo, name)?;
     let mut change = Change::new(alloc);
-    change.drops = one_file(alloc, StoredFile { name, bytes })?;
+    change.drops = one_file(alloc, StoredFile::under(name, bytes))?;
     Ok(change)
 }
 
@@ -45,16 +44,15 @@ pub(crate) fn plan_backup(
     book: &Book,
     backup: &Backup<'_>,
     cut: u32,
-) -> Result<Planned, BackupError>
+) -> Result<Planned, PlanError>
     requires some { 0 < cut }
     requires most { cut ≤ 8_388_608 }
-    ensures change { Answers backup_error.Memory (λ planned. planned.change)
+    ensures change { Answers plan_error.Memory (λ planned. planned.change)
         (backed_up book.now.live cut backup.now) result }
     ensures seen { IfOk result (λ planned. planned.seen ≡ length_of book.now.events) }
 {
-    let view = book.view(alloc)?;
     let facts = facts_of(alloc, backup)?;
-    keep_backup::plan_backup(alloc, &view, backup.files.as_slice(), &facts, cut)
+    keep_backup::plan_backup(alloc, &book.view(), backup.files.as_slice(), &facts, cut)
 }
 
 /// Who backs up, and when.
@@ -90,9 +88,9 @@ pub(crate) fn added_by(history: &History, n: u64, kind: Kind) -> Option<FileName
 
 /// The least name among these files that have the kind.
 fn least_of(files: &[StoredFile], kind: Kind) -> Option<FileName>
-    ensures { result ≡ least (names_of kind files.now) }
+    ensures { result ≡ least (names_among kind files.now) }
 {
-    let names = files.iter().map(|file| file.name);
+    let names = files.iter().map(|file| file.name());
     names.filter(|name| name.kind == kind).min()
 }
 

@@ -10,8 +10,8 @@ use crate::answer::{
 use crate::listing::{write_findings, write_restored};
 use crate::output::put_text;
 use crate::status::Stop;
-use keep_backup::BackupError;
 use keep_book::{Refusal, Told};
+use keep_plan::PlanError;
 use keep_read::{Finding, RestoreError, Restored};
 use std::alloc::{AllocError, Global};
 use std::io::Write;
@@ -33,7 +33,7 @@ pub(crate) fn write_committed<W: Write>(
 /// Writes the answer to a backup that was to be planned and committed.
 pub(crate) fn write_backup<W: Write>(
     alloc: Global,
-    outcome: Result<Outcome, BackupError>,
+    outcome: Result<Outcome, PlanError>,
     writer: &mut W,
 ) -> Result<(), Stop>
     ensures { Puts (W.contents writer.old) (W.contents writer.new)

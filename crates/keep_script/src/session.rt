@@ -1,5 +1,5 @@
 ghost use Rattle.std.specs.Prelude.{◌≡◌, ◌≢◌, ◌≤◌, ◌<◌, Err, IfErr, IfOk, Ok, length};
-ghost use Rattle.keep_backup.specs.declared.backup_error.BackupError.TheVariants as backup_error;
+ghost use Rattle.keep_plan.specs.declared.plan_error.PlanError.TheVariants as plan_error;
 ghost use Rattle.keep_book.specs.Reply.{Replies, state_after};
 ghost use Rattle.keep_book.specs.Request as request;
 ghost use Rattle.keep_change.specs.declared.change.Change.{Change};
@@ -21,11 +21,11 @@ use crate::reply::{
 };
 use crate::status::Stop;
 use crate::word::Target;
-use keep_backup::BackupError;
 use keep_book::Book;
 use keep_change::{Change, Planned};
 use keep_journal::History;
 use keep_names::{FileName, Kind};
+use keep_plan::PlanError;
 use keep_read::{audit, restore};
 use std::alloc::Global;
 use std::io::Write;
@@ -94,10 +94,10 @@ fn answer<W: Write>(
         Command::History => write_history(alloc, book.history(), writer),
         Command::Restore(target) => {
             let name = find(book.history(), Kind::Snapshot, target).ok_or(Stop::BadLine)?;
-            let outcome = restore(alloc, book.live(), name.id);
+            let outcome = restore(alloc, &book.view(), name.id);
             write_restore(alloc, outcome, writer)
         }
-        Command::Audit => write_audit(alloc, audit(alloc, book.live()), writer),
+        Command::Audit => write_audit(alloc, audit(alloc, &book.view()), writer),
         Command::Backup(backup) => {
             write_backup(alloc, back_up(alloc, &backup, cut, book), writer)
         }
@@ -110,7 +110,7 @@ fn back_up(
     backup: &Backup<'_>,
     cut: u32,
     book: &mut Book,
-) -> Result<Outcome, BackupError>
+) -> Result<Outcome, PlanError>
     requires some { 0 < cut }
     requires most { cut ≤ 8_388_608 }
     ensures made { IfOk result (λ made. (change : Change)
@@ -119,7 +119,7 @@ fn back_up(
         × (book.new ≡ state_after book.old (commit_of book.old change) made.0)
         × (made.1 ≡ sizes_of change)) }
     ensures refused { IfErr result (λ refusal.
-        refusal ≢ backup_error.Memory → backed_up book.old.live cut backup.now ≡ Err refusal) }
+        refusal ≢ plan_error.Memory → backed_up book.old.live cut backup.now ≡ Err refusal) }
     ensures same { IfErr result (λ refusal. book.new ≡ book.old) }
 {
     let planned = plan_backup(alloc, book, backup, cut)?;

@@ -1,4 +1,4 @@
-pub mod Carried
+pub mod Inverse
 pub mod RoundTrip
 pub mod Standing
 pub mod Times

@@ -1,13 +1,15 @@
 -- The document of a snapshot, read back.
-use Rattle.std.proofs.Common.{◌≡◌, ℕ, ◌≤◌, Bool, true, false, cond, List, [], ◌∷◌, map, Option, None, Some, option_map, option_and_then, IfSome, Ok, Err, ok_or, Ordering, Less, Equal, Greater, codes, refl, sym, ap, ◌∙◌, subst}
+use Rattle.std.proofs.Common.{◌≡◌, ℕ, ◌<◌, ◌≤◌, All, IsUtf8, Bool, true, false, cond, List, [], ◌∷◌, map, Option, None, Some, option_map, option_and_then, IfSome, Ok, Err, ok_or, Ordering, Less, Equal, Greater, codes, refl, sym, ap, ◌∙◌, subst}
 use Rattle.std.proofs.lemmas.Bool.{and_parts}
+use Rattle.std.proofs.lemmas.List.Elements.{recursion_from_All}
 use Rattle.std.proofs.lemmas.Map.Text.{is_eq-slice_cmp}
 use Rattle.std.proofs.lemmas.Slice.Eq.{bytes_eq-Decides}
 use Rattle.std.specs.Cmp.Lexicographic.{slice_cmp}
-use Rattle.std.specs.List.{list_all, list_any}
+use Rattle.std.specs.List.{AllByRecursion, list_all, list_any}
 use Rattle.std.specs.Option.{option_or}
 use Rattle.std.specs.Ordering.{nat_cmp, match_ordering, is_eq}
 use Rattle.std.specs.Str.{bytes_eq}
+use Rattle.json.proofs.Printed.Utf8.{IsUtf8-are_ascii}
 use Rattle.serde_json.specs.Data.{Data, string, Members, no_members, member, depth}
 use Rattle.serde_json.specs.Find.{as_str, get, get_member}
 use Rattle.serde_json.specs.Read.{max_depth}
@@ -17,10 +19,13 @@ use Rattle.keep_names.specs.declared.id.Id.{Id}
 use Rattle.keep_docs.specs.Doc.{doc_of, shaped}
 use Rattle.keep_docs.specs.Fields.{as_id, as_list_or_null, field, id_data, if_there, optional, or_null, other_members, others}
 use Rattle.keep_docs.specs.Lists.{texts_data, texts_in}
-use Rattle.keep_docs.proofs.Built.{as_id-id_data, get_member-put_at, others-put, values_of-items_of}
-use Rattle.keep_snap.proofs.Standing.{shallow_from_carried, whole_from_carried}
+use Rattle.keep_docs.specs.Readable.{HasReadable, IsReadable}
+use Rattle.keep_docs.proofs.Built.{HasReadable-put, IsReadable-id_data, IsReadable-list_data, as_id-id_data, get_member-put_at, others-put, values_of-items_of}
+use Rattle.keep_docs.proofs.ReadBack.{doc_of-compact_text}
+use Rattle.keep_snap.proofs.Standing.{IsCarried-IsSnap, shallow_from_carried, whole_from_carried}
+use Rattle.keep_snap.specs.Shape.{IsSnap}
 use Rattle.keep_snap.specs.Snap.{SnapData, named, paths_in, snap_in, snap_of, tags_in, timed}
-use Rattle.keep_snap.specs.Written.{IsCarried, IsWritable, fields, put_if, snap_data, tags_data, text_data, with_fields}
+use Rattle.keep_snap.specs.Written.{IsCarried, fields, put_if, snap_data, tags_data, text_data, with_fields}
 use Rattle.keep_snap.specs.declared.snap.SnapError.TheVariants.{BadSnapshot, BadTime, Doc}
 
 -- ---- the other members have no key of a field
@@ -119,14 +124,85 @@ snap_back s tree_is original_is apart =
     (ap (λ o. option_and_then texts_in (as_list_or_null (or_null o))) tags ∙ tags_back s.tags) (ap (if_there as_id) original ∙ original_back s.original original_is) dir
     (others-with_fields (fields s) s.others refl ∙ apart)
 
--- a text that is a snapshot's document is read as the snapshot
-pub written_back : (bytes : List ℕ) (d : Data) (s : SnapData) → d ≡ snap_data s → (has_float d ≡ false → depth d ≤ max_depth → doc_of bytes ≡ Ok d) → IsWritable s → snap_of bytes ≡ Ok s
-written_back bytes d s is back writable =
-    let P : Data → Type 0 = λ e. has_float e ≡ false → depth e ≤ max_depth → doc_of bytes ≡ Ok e in
-    let document : doc_of bytes ≡ Ok (snap_data s) = subst P is back (whole_from_carried s writable.carried) (shallow_from_carried s writable.carried) in
+-- ---- what is written is readable
+
+readable-put_if : (k : List ℕ) (o : Option Data) (ms : Members) → IsUtf8 k → IfSome o IsReadable → HasReadable ms → HasReadable (put_if k o ms)
+readable-put_if k None ms text one all = all
+readable-put_if k (Some d) ms text one all = HasReadable-put k d ms text one all
+
+-- a field that can be read
+abbrev IsField : List ℕ × Option Data → Type 0
+IsField f = IsUtf8 f.0 × IfSome f.1 IsReadable
+
+readable-with_fields : (fs : List (List ℕ × Option Data)) (ms : Members) → AllByRecursion IsField fs → HasReadable ms → HasReadable (with_fields fs ms)
+readable-with_fields [] ms each all = all
+readable-with_fields (f ∷ fs) ms each all = readable-with_fields fs (put_if f.0 f.1 ms) each.1 (readable-put_if f.0 f.1 ms each.0.0 each.0.1 all)
+
+strings_readable : (texts : List (List ℕ)) → AllByRecursion IsUtf8 texts → AllByRecursion IsReadable (map (λ text. string text) texts)
+strings_readable [] h = tt
+strings_readable (text ∷ texts) h = (h.0, strings_readable texts h.1)
+
+texts_readable : (texts : List (List ℕ)) → All IsUtf8 texts → IsReadable (texts_data texts)
+texts_readable texts h = IsReadable-list_data (map (λ text. string text) texts) (strings_readable texts (recursion_from_All IsUtf8 texts h))
+
+tags_readable : (tags : List (List ℕ)) → All IsUtf8 tags → IfSome (tags_data tags) IsReadable
+tags_readable [] h = tt
+tags_readable (tag ∷ tags) h = texts_readable (tag ∷ tags) h
+
+text_readable : (text : Option (List ℕ)) → IfSome text IsUtf8 → IfSome (text_data text) IsReadable
+text_readable None h = tt
+text_readable (Some text) h = h
+
+id_readable : (id : Option Id) → IfSome (option_map id_data id) IsReadable
+id_readable None = tt
+id_readable (Some id) = IsReadable-id_data id
+
+dir_readable : (o : Option Data) → IfSome o (λ d. IsReadable d × (depth d < max_depth)) → IfSome o IsReadable
+dir_readable None h = tt
+dir_readable (Some d) h = h.0
+
+IsReadable-snap_data : (s : SnapData) → IsSnap s → IsReadable (snap_data s)
+IsReadable-snap_data s h =
+    readable-with_fields (fields s) s.others (
+      (IsUtf8-are_ascii _ refl, dir_readable s.dir h.dir),
+      (
+        (IsUtf8-are_ascii _ refl, text_readable s.hostname h.hostname),
+        (
+          (IsUtf8-are_ascii _ refl, id_readable s.original),
+          (
+            (IsUtf8-are_ascii _ refl, texts_readable s.paths h.paths),
+            (
+              (IsUtf8-are_ascii _ refl, tags_readable s.tags h.tags),
+              (
+                (IsUtf8-are_ascii _ refl, h.time),
+                ((IsUtf8-are_ascii _ refl, IsReadable-id_data s.tree), ((IsUtf8-are_ascii _ refl, text_readable s.username h.username), tt)),
+              ),
+            ),
+          ),
+        ),
+      ),
+    )
+    h.carried
+
+-- ---- and is read back
+
+of_document : (bytes : List ℕ) (s : SnapData) → doc_of bytes ≡ Ok (snap_data s) → IsSnap s → snap_of bytes ≡ Ok s
+of_document bytes s document h =
     ap (λ r. timed (shaped Doc (λ e. ok_or (snap_in e) BadSnapshot) r)) document
-    ∙ ap (λ o. timed (ok_or o BadSnapshot)) (snap_back s writable.tree_is writable.original_is writable.carried.apart)
-    ∙ ap (λ b. cond b (Ok s) (Err BadTime)) writable.time_is
+    ∙ ap (λ o. timed (ok_or o BadSnapshot)) (snap_back s h.tree h.original h.apart)
+    ∙ ap (λ b. cond b (Ok s) (Err BadTime)) h.timed
+
+pub snap_of-compact_text : (s : SnapData) → IsSnap s → snap_of (compact_text (snap_data s)) ≡ Ok s
+snap_of-compact_text s h =
+    of_document (compact_text (snap_data s)) s
+    (doc_of-compact_text (snap_data s) (IsReadable-snap_data s h) (shallow_from_carried s (IsCarried-IsSnap s h))) h
+
+-- a text that is a snapshot's document is read as the snapshot
+pub written_back : (bytes : List ℕ) (d : Data) (s : SnapData) → d ≡ snap_data s → (has_float d ≡ false → depth d ≤ max_depth → doc_of bytes ≡ Ok d) → IsSnap s → snap_of bytes ≡ Ok s
+written_back bytes d s is back h =
+    let P : Data → Type 0 = λ e. has_float e ≡ false → depth e ≤ max_depth → doc_of bytes ≡ Ok e in
+    let carried = IsCarried-IsSnap s h in
+    of_document bytes s (subst P is back (whole_from_carried s carried) (shallow_from_carried s carried)) h
 
 -- and it is just that document
 pub written_text : (bytes : List ℕ) (d : Data) (s : SnapData) → d ≡ snap_data s → (has_float d ≡ false → bytes ≡ compact_text d) → IsCarried s → bytes ≡ compact_text (snap_data s)

@@ -9,13 +9,12 @@ use Rattle.serde_json.specs.Find.{get, get_member}
 use Rattle.serde_json.specs.Read.{max_depth, read}
 use Rattle.serde_json.specs.View.{items_of}
 use Rattle.serde_json.specs.Written.{has_float, items_have_float, members_have_float}
-use Rattle.serde_json.proofs.Nesting.{depth-read}
 use Rattle.keep_names.specs.declared.id.Id.{Id}
-use Rattle.keep_docs.specs.Doc.{doc_of, whole_value}
 use Rattle.keep_docs.specs.Fields.{id_data, other_members, others}
 use Rattle.keep_docs.specs.Lists.{texts_data}
-use Rattle.keep_docs.specs.declared.doc.DocError.TheVariants.{BadNumber, NotJson}
-use Rattle.keep_docs.proofs.Built.{others-others}
+use Rattle.keep_docs.specs.Readable.{IsReadable}
+use Rattle.keep_docs.proofs.ReadBack.{has_float-IsReadable}
+use Rattle.keep_snap.specs.Shape.{IsSnap}
 use Rattle.keep_snap.specs.Snap.{SnapData, named}
 use Rattle.keep_snap.specs.Written.{CanStand, CanStandAmong, IsCarried, fields, put_if, snap_data, tags_data, text_data, with_fields}
 
@@ -104,85 +103,14 @@ whole_from_carried s carried = (members_stand s carried).0
 pub shallow_from_carried : (s : SnapData) → IsCarried s → depth (snap_data s) ≤ max_depth
 shallow_from_carried s carried = let shallow = (members_stand s carried).1 in omega arith
 
--- ---- what is read
+-- what a snapshot carries that a document can hold
+dir_stands : (o : Option Data) → IfSome o (λ d. IsReadable d × (depth d < max_depth)) → IfSome o CanStand
+dir_stands None h = tt
+dir_stands (Some d) h = (has_float-IsReadable d h.0, h.1)
 
-others_either : (b : Bool) (k : List ℕ) (d : Data) (rest : Members) → CanStand d → CanStandAmong rest → CanStandAmong (cond b rest (member k d rest))
-others_either true k d rest one all = all
-others_either false k d rest one all = joined k d rest one all
-
-stand-others : (keys : List (List ℕ)) (ms : Members) → CanStandAmong ms → CanStandAmong (others keys ms)
-stand-others keys no_members all = all
-stand-others keys (member k d ms) all =
-    let parts = parted k d ms all in
-    others_either (list_any (λ name. bytes_eq name k) keys) k d (others keys ms) parts.0 (stand-others keys ms parts.1)
-
-get_at : (o : Ordering) (d : Data) (rest : Option Data) → CanStand d → IfSome rest CanStand → IfSome (match_ordering o rest (Some d) rest) CanStand
-get_at Less d rest one later = later
-get_at Equal d rest one later = one
-get_at Greater d rest one later = later
-
-stand-get_member : (q : List ℕ) (ms : Members) → CanStandAmong ms → IfSome (get_member q ms) CanStand
-stand-get_member q no_members all = tt
-stand-get_member q (member k d ms) all =
-    let parts = parted k d ms all in
-    get_at (slice_cmp nat_cmp q k) d (get_member q ms) parts.0 (stand-get_member q ms parts.1)
-
-of_object : (ms : Members) → has_float (object ms) ≡ false → depth (object ms) ≤ max_depth → CanStandAmong ms
-of_object ms whole shallow = (whole, omega arith)
-
-get_stands : (q : List ℕ) (d : Data) → has_float d ≡ false → depth d ≤ max_depth → IfSome (get q d) CanStand
-get_stands q null whole shallow = tt
-get_stands q (boolean b) whole shallow = tt
-get_stands q (number n) whole shallow = tt
-get_stands q (string s) whole shallow = tt
-get_stands q (array ds) whole shallow = tt
-get_stands q (object ms) whole shallow = stand-get_member q ms (of_object ms whole shallow)
-
-others_stand : (keys : List (List ℕ)) (d : Data) → has_float d ≡ false → depth d ≤ max_depth → CanStandAmong (other_members keys d)
-others_stand keys null whole shallow = (refl, omega arith)
-others_stand keys (boolean b) whole shallow = (refl, omega arith)
-others_stand keys (number n) whole shallow = (refl, omega arith)
-others_stand keys (string s) whole shallow = (refl, omega arith)
-others_stand keys (array ds) whole shallow = (refl, omega arith)
-others_stand keys (object ms) whole shallow = stand-others keys ms (of_object ms whole shallow)
-
-others_apart : (keys : List (List ℕ)) (d : Data) → others keys (other_members keys d) ≡ other_members keys d
-others_apart keys null = refl
-others_apart keys (boolean b) = refl
-others_apart keys (number n) = refl
-others_apart keys (string s) = refl
-others_apart keys (array ds) = refl
-others_apart keys (object ms) = others-others keys ms
-
--- what is carried of a document
-pub carried_read : (d : Data) (s : SnapData) (q : List ℕ) → has_float d ≡ false → depth d ≤ max_depth → s.dir ≡ get q d → s.others ≡ other_members named d → IsCarried s
-carried_read d s q whole shallow dir rest =
-    let P : Option Data → Type 0 = λ o. IfSome o CanStand in
-    let Q : Members → Type 0 = CanStandAmong in
-    let R : Members → Type 0 = λ ms. others named ms ≡ ms in
-    record {
-      apart = subst R (sym rest) (others_apart named d);
-      dir_stands = subst P (sym dir) (get_stands q d whole shallow);
-      others_stand = subst Q (sym rest) (others_stand named d whole shallow);
-    }
-
--- ---- documents
-
-no_error : {A E : Type 0} (x : E) (y : A) → Err x ≡ Ok y → ⊥
-no_error x y e = cc
-
-by_float : (bytes : List ℕ) (e d : Data) (b : Bool) → read bytes ≡ Some e → has_float e ≡ b → cond b (Err BadNumber) (Ok e) ≡ Ok d → (has_float d ≡ false) × (depth d ≤ max_depth)
-by_float bytes e d true is float h = absurd (no_error BadNumber d h)
-by_float bytes e d false is float h =
-    let same : e ≡ d = cc in
-    let P : Data → Type 0 = λ x. (has_float x ≡ false) × (depth x ≤ max_depth) in
-    subst P same (float, depth-read bytes e is)
-
-by_parts : (bytes : List ℕ) (d : Data) (b : Bool) (r : Option Data) → read bytes ≡ r → cond b (whole_value r) (Err NotJson) ≡ Ok d → (has_float d ≡ false) × (depth d ≤ max_depth)
-by_parts bytes d false r is h = absurd (no_error NotJson d h)
-by_parts bytes d true None is h = absurd (no_error NotJson d h)
-by_parts bytes d true (Some e) is h = by_float bytes e d (has_float e) is refl h
-
--- what a document's value is like
-pub document_plain : (bytes : List ℕ) (d : Data) → doc_of bytes ≡ Ok d → (has_float d ≡ false) × (depth d ≤ max_depth)
-document_plain bytes d h = by_parts bytes d (is_utf8 bytes) (read bytes) refl h
+pub IsCarried-IsSnap : (s : SnapData) → IsSnap s → IsCarried s
+IsCarried-IsSnap s h = record {
+  apart = h.apart;
+  dir_stands = dir_stands s.dir h.dir;
+  others_stand = (has_float-IsReadable (object s.others) h.carried, h.nests);
+}

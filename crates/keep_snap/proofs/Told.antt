@@ -7,7 +7,8 @@ use Rattle.keep_snap.specs.Time.{time_in}
 use Rattle.keep_snap.specs.declared.snap.SnapError.TheVariants.{BadTime}
 use Rattle.keep_snap.specs.declared.time.Time.{Time}
 
-found_from_ok : {A E : Type 0} (o : Option A) (e : E) (x : A) → ok_or o e ≡ Ok x → o ≡ Some x
+-- a value that was read
+pub found_from_ok : {A E : Type 0} (o : Option A) (e : E) (x : A) → ok_or o e ≡ Ok x → o ≡ Some x
 found_from_ok None e x h = cc
 found_from_ok (Some y) e x h = cc
 

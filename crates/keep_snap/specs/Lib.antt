@@ -1,4 +1,6 @@
 pub mod Facts
+pub mod Refusal
+pub mod Shape
 pub mod Snap
 pub mod Time
 pub mod Written

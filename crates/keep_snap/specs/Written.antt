@@ -1,13 +1,11 @@
 -- A snapshot as a document.
-use Rattle.std.specs.Prelude.{◌≡◌, ◌<◌, ℕ, false, List, [], ◌∷◌, fold, Option, None, Some, option_map, IfSome, IsSome, codes}
+use Rattle.std.specs.Prelude.{◌≡◌, ◌<◌, ℕ, false, List, [], ◌∷◌, fold, Option, None, Some, option_map, IfSome, codes}
 use Rattle.serde_json.specs.Data.{Data, string, object, Members, put, depth, members_depth}
 use Rattle.serde_json.specs.Read.{max_depth}
 use Rattle.serde_json.specs.Written.{has_float, members_have_float}
-use Rattle.keep_names.specs.Id.{IsDigest}
 use Rattle.keep_docs.specs.Fields.{id_data, others}
 use Rattle.keep_docs.specs.Lists.{texts_data}
 use Rattle.keep_snap.specs.Snap.{SnapData, named}
-use Rattle.keep_snap.specs.Time.{time_in}
 
 -- with a member at a key, if there is one to write
 abbrev pub put_if : List ℕ → Option Data → Members → Members
@@ -54,10 +52,3 @@ pub record IsCarried (s : SnapData) : Type 0 where
   pub apart : others named s.others ≡ s.others
   pub dir_stands : IfSome s.dir CanStand
   pub others_stand : CanStandAmong s.others
-
--- a snapshot that reads back as itself: its time is one, its ids are digests, what it carries can be written
-pub record IsWritable (s : SnapData) : Type 0 where
-  pub time_is : IsSome (time_in s.time)
-  pub tree_is : IsDigest s.tree
-  pub original_is : IfSome s.original IsDigest
-  pub carried : IsCarried s

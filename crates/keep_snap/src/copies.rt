@@ -1,7 +1,7 @@
 ghost use Rattle.std.specs.Prelude.{◌≡◌, [], IfOk, map, option_map, string_bytes, unwrap_or};
-ghost use Rattle.serde_json.specs.View.{members_view, view};
+ghost use Rattle.serde_json.specs.View.{view};
 
-use serde_json::{Map, Value};
+use serde_json::Value;
 use std::alloc::{AllocError, Global};
 
 pub(crate) fn text_copy(alloc: Global, text: Option<&str>) -> Result<Option<String>, AllocError>
@@ -39,10 +39,4 @@ pub(crate) fn value_copy(value: Option<&Value>) -> Result<Option<Value>, AllocEr
         Some(value) => Ok(Some(value.clone()?)),
         None => Ok(None),
     }
-}
-
-pub(crate) fn member_copies(members: &Map<String, Value>) -> Result<Map<String, Value>, AllocError>
-    ensures { IfOk result (λ copies. members_view copies.entries ≡ members_view members.now.entries) }
-{
-    members.clone()
 }

@@ -1,5 +1,5 @@
 ghost use Rattle.std.specs.Prelude.{◌≡◌};
-ghost use Rattle.keep_docs.specs.Doc.{Answers};
+ghost use Rattle.keep_docs.specs.Doc.{Gives};
 ghost use Rattle.keep_docs.specs.declared.doc.DocError.TheVariants.{Memory};
 ghost use Rattle.keep_snap.specs.Facts.{facts_of, facts_view};
 ghost use Rattle.keep_snap.specs.Snap.{snap_view};
@@ -35,7 +35,7 @@ pub struct SnapFacts {
 /// The facts of a snapshot of this name. A `Snap` that was read has a time; one that was made may have
 /// another text there, and is `BadTime`.
 pub fn facts(alloc: Global, snap: &Snap, name: Id) -> Result<SnapFacts, SnapError>
-    ensures { Answers (Doc Memory) facts_view (facts_of name (snap_view snap.now)) result }
+    ensures { Gives (Doc Memory) facts_view (facts_of name (snap_view snap.now)) result }
 {
     let time = parse_time(snap.time.as_str()).ok_or(SnapError::BadTime)?;
     let host = text_or_empty(alloc, &snap.hostname)?;

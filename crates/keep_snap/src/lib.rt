@@ -12,4 +12,4 @@ mod written;
 pub use fact::{SnapFacts, facts};
 pub use snap::{Snap, SnapError, read_snap};
 pub use time::{Month, Time, parse_time};
-pub use written::write_snap;
+pub use written::{snapshots_read_back, write_snap};

@@ -1,14 +1,11 @@
-ghost use Rattle.std.specs.Prelude.{◌≡◌, ◌≤◌, IfOk, Ok, Some, false, map, ok_or, option_map, string_bytes};
-ghost use Rattle.serde_json.specs.Data.{depth};
-ghost use Rattle.serde_json.specs.Read.{max_depth};
+ghost use Rattle.std.specs.Prelude.{◌≡◌, IfOk, Ok, Some, map, ok_or, option_map, string_bytes};
 ghost use Rattle.serde_json.specs.View.{members_view, view};
-ghost use Rattle.serde_json.specs.Written.{has_float};
 ghost use Rattle.keep_docs.specs.Fields.{other_members};
 ghost use Rattle.keep_docs.specs.Doc.{Answers};
 ghost use Rattle.keep_docs.specs.declared.doc.DocError.TheVariants.{Memory};
+ghost use Rattle.keep_snap.specs.Shape.{IsSnap};
 ghost use Rattle.keep_snap.specs.Snap.{shape_of, snap_of, snap_view};
 ghost use Rattle.keep_snap.specs.Snap as spec;
-ghost use Rattle.keep_snap.specs.Written.{IsCarried};
 ghost use Rattle.keep_snap.specs.declared.snap.SnapError.TheVariants.{BadSnapshot, Doc};
 
 use crate::copies::{text_copy, value_copy};
@@ -20,6 +17,7 @@ use keep_docs::{
 use keep_names::Id;
 use serde_json::{Map, Value};
 use std::alloc::{AllocError, Global};
+use std::fmt;
 use thiserror::Error;
 
 /// What a snapshot says.
@@ -46,13 +44,10 @@ pub struct Snap {
 #[derive(Clone, Copy, Debug, PartialEq, Eq, Error)]
 pub enum SnapError {
     /// It isn't a document.
-    #[error(transparent)]
     Doc(DocError),
     /// A field is missing that has to be there, or is of another shape.
-    #[error("BadSnapshot")]
     BadSnapshot,
     /// The time isn't one.
-    #[error("BadTime")]
     BadTime,
 }
 
@@ -79,10 +74,48 @@ impl From<AllocError> for SnapError {
     }
 }
 
+impl SnapError {
+    ghost use Rattle.std.specs.Prelude.{◌≡◌};
+    ghost use Rattle.keep_snap.specs.Refusal.{snap_number};
+
+    /// The number by which operators know the refusal. Want of memory has none.
+    pub fn number(&self) -> Option<u8>
+        ensures { result ≡ snap_number self.now }
+    {
+        match self {
+            SnapError::Doc(why) => why.number(),
+            SnapError::BadSnapshot => Some(10),
+            SnapError::BadTime => Some(11),
+        }
+    }
+}
+
+impl fmt::Display for SnapError {
+    ghost use Rattle.std.specs.Prelude.{Some};
+    ghost use Rattle.keep_snap.specs.Refusal.{snap_word};
+
+    ghost output = { λ refusal. Some (snap_word refusal) };
+
+    fn fmt<W: fmt::Write>(&self, f: &mut fmt::Formatter<W>) -> fmt::Result {
+        match self {
+            SnapError::Doc(why) => write!(f, "{why}"),
+            SnapError::BadSnapshot => f.write_str("BadSnapshot"),
+            SnapError::BadTime => f.write_str("BadTime"),
+        }
+    }
+}
+
 /// Reads a snapshot (restic's design document, "Snapshots"). Null stands for no tags, and for nothing else.
 pub fn read_snap(alloc: Global, bytes: &[u8]) -> Result<Snap, SnapError>
     ensures read { Answers (Doc Memory) snap_view (snap_of bytes.now) result }
-    ensures carried { IfOk result (λ snap. IsCarried (snap_view snap)) }
+    ensures whole { IfOk result (λ snap. IsSnap (snap_view snap)) }
+{
+    timed_snap(alloc, bytes)
+}
+
+// The snapshot that the bytes hold, if its time is one.
+fn timed_snap(alloc: Global, bytes: &[u8]) -> Result<Snap, SnapError>
+    ensures { Answers (Doc Memory) snap_view (snap_of bytes.now) result }
 {
     let snap = read_shape(alloc, bytes)?;
     if parse_time(snap.time.as_str()).is_none() {
@@ -93,8 +126,7 @@ pub fn read_snap(alloc: Global, bytes: &[u8]) -> Result<Snap, SnapError>
 
 // The snapshot that the bytes hold, whatever its time is.
 fn read_shape(alloc: Global, bytes: &[u8]) -> Result<Snap, SnapError>
-    ensures read { Answers (Doc Memory) snap_view (shape_of bytes.now) result }
-    ensures carried { IfOk result (λ snap. IsCarried (snap_view snap)) }
+    ensures { Answers (Doc Memory) snap_view (shape_of bytes.now) result }
 {
     let value = read_doc(alloc, bytes)?;
     snap_in(alloc, &value)
@@ -102,9 +134,7 @@ fn read_shape(alloc: Global, bytes: &[u8]) -> Result<Snap, SnapError>
 
 // The snapshot that a document holds.
 fn snap_in(alloc: Global, value: &Value) -> Result<Snap, SnapError>
-    ensures read { Answers (Doc Memory) snap_view (ok_or (spec.snap_in (view value.now)) BadSnapshot) result }
-    ensures carried { IfOk result (λ snap. has_float (view value.now) ≡ false
-        → depth (view value.now) ≤ max_depth → IsCarried (snap_view snap)) }
+    ensures { Answers (Doc Memory) snap_view (ok_or (spec.snap_in (view value.now)) BadSnapshot) result }
 {
     let time = str_at(value, "time").ok_or(SnapError::BadSnapshot)?;
     let tree = id_at(value, "tree").ok_or(SnapError::BadSnapshot)?;

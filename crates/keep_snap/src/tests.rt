@@ -230,13 +230,15 @@ fn facts_are_told(rt: HostRuntime) -> Result<(), Fail> {
 }
 
 #[test]
-fn refusals_print_their_words(rt: HostRuntime) -> Result<(), Fail> {
-    for (refusal, word) in [
-        (SnapError::Doc(DocError::NotJson), "NotJson"),
-        (SnapError::BadSnapshot, "BadSnapshot"),
-        (SnapError::BadTime, "BadTime"),
+fn refusals_have_words_and_numbers(rt: HostRuntime) -> Result<(), Fail> {
+    for (refusal, word, number) in [
+        (SnapError::Doc(DocError::NotJson), "NotJson", Some(2)),
+        (SnapError::BadSnapshot, "BadSnapshot", Some(10)),
+        (SnapError::BadTime, "BadTime", Some(11)),
+        (SnapError::Doc(DocError::Memory), "Memory", None),
     ] {
         assert_eq!(rt; format!(in rt.alloc(); "{refusal}")?.as_str(), word);
+        assert_eq!(rt; refusal.number(), number, "{word}");
     }
     Ok(())
 }

@@ -1,14 +1,14 @@
-ghost use Rattle.std.specs.Prelude.{◌≡◌, IfOk, Ok, OnOk, map, option_map, string_bytes};
+ghost use Rattle.std.specs.Prelude.{◌≡◌, ℕ, IfOk, List, Ok, OnOk, map, option_map, string_bytes};
 ghost use Rattle.serde_json.specs.View.{members_view, view};
 ghost use Rattle.serde_json.specs.Written.{compact_text};
 ghost use Rattle.keep_docs.specs.Fields.{id_data};
-ghost use Rattle.keep_snap.specs.Snap.{snap_of, snap_view};
-ghost use Rattle.keep_snap.specs.Written.{IsCarried, IsWritable, snap_data, tags_data, text_data};
+ghost use Rattle.keep_snap.specs.Shape.{IsSnap};
+ghost use Rattle.keep_snap.specs.Snap.{SnapData, snap_of, snap_view};
+ghost use Rattle.keep_snap.specs.Written.{IsCarried, snap_data, tags_data, text_data};
 ghost use Rattle.keep_snap.specs.Written as spec;
 
-use crate::copies::member_copies;
 use crate::snap::Snap;
-use keep_docs::{id_value, put, texts_value, write_doc};
+use keep_docs::{id_value, members_copy, put, texts_value, write_doc};
 use keep_names::Id;
 use serde_json::{Map, Value};
 use std::alloc::{AllocError, Global};
@@ -18,18 +18,25 @@ use std::alloc::{AllocError, Global};
 pub fn write_snap(alloc: Global, snap: &Snap) -> Result<Vec<u8>, AllocError>
     ensures text { IfOk result (λ bytes. IsCarried (snap_view snap.now)
         → bytes.items ≡ compact_text (snap_data (snap_view snap.now))) }
-    ensures reads_back { IfOk result (λ bytes. IsWritable (snap_view snap.now)
+    ensures reads_back { IfOk result (λ bytes. IsSnap (snap_view snap.now)
         → snap_of bytes.items ≡ Ok (snap_view snap.now)) }
 {
     let value = snap_value(alloc, snap)?;
     write_doc(alloc, &value)
 }
 
+/// Which snapshots read back from their text as themselves: those that a document can hold. What is read of any
+/// bytes is one of these.
+pub fn snapshots_read_back()
+    ensures written { (s : SnapData) → IsSnap s → snap_of (compact_text (snap_data s)) ≡ Ok s }
+    ensures read { (bytes : List ℕ) (s : SnapData) → snap_of bytes ≡ Ok s → IsSnap s }
+{}
+
 // A snapshot as an object.
 fn snap_value(alloc: Global, snap: &Snap) -> Result<Value, AllocError>
     ensures { IfOk result (λ value. view value ≡ snap_data (snap_view snap.now)) }
 {
-    let mut members = member_copies(&snap.others)?;
+    let mut members = members_copy(&snap.others)?;
     let dir = dir_value(&snap.dir)?;
     put_if(alloc, &mut members, "dir", dir)?;
     let hostname = text_value(alloc, &snap.hostname)?;

@@ -1,5 +1,4 @@
 pub mod Answered
-pub mod Carried
 pub mod Depth
 pub mod Distinct
 pub mod Inverse

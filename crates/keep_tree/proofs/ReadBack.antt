@@ -16,47 +16,47 @@ use Rattle.keep_names.specs.declared.id.Id.{Id}
 use Rattle.keep_docs.specs.Doc.{doc_of}
 use Rattle.keep_docs.specs.Fields.{as_id, id_data, others}
 use Rattle.keep_docs.specs.Lists.{ids_data, ids_in}
-use Rattle.keep_docs.specs.Sound.{IsSound, HasSound}
-use Rattle.keep_docs.proofs.Built.{as_id-id_data, each-map, get_member-put_at, others-put, values_of-items_of, HasSound-put, IsSound-id_data, IsSound-list_data}
-use Rattle.keep_docs.proofs.ReadBack.{doc_of-compact_text, has_float-IsSound}
+use Rattle.keep_docs.specs.Readable.{IsReadable, HasReadable}
+use Rattle.keep_docs.proofs.Built.{as_id-id_data, each-map, get_member-put_at, others-put, values_of-items_of, HasReadable-put, IsReadable-id_data, IsReadable-list_data}
+use Rattle.keep_docs.proofs.ReadBack.{doc_of-compact_text, has_float-IsReadable}
 use Rattle.keep_tree.specs.Tree.{KindData, dir, file, other, NodeData, kind_in, node_in, own_keys, tree_in, tree_of}
 use Rattle.keep_tree.specs.Shape.{IsKind, IsNode, IsTree}
 use Rattle.keep_tree.proofs.Depth.{depth-tree_data}
 use Rattle.keep_tree.specs.Written.{node_data, put_kind, tree_data, type_of}
 
--- ---- what is written is sound
+-- ---- what is written is readable
 
-ids_sound : (ids : List Id) → AllByRecursion IsSound (map id_data ids)
-ids_sound [] = tt
-ids_sound (id ∷ ids) = (IsSound-id_data id, ids_sound ids)
+ids_readable : (ids : List Id) → AllByRecursion IsReadable (map id_data ids)
+ids_readable [] = tt
+ids_readable (id ∷ ids) = (IsReadable-id_data id, ids_readable ids)
 
-kind_sound : (kind : KindData) (ms : Members) → HasSound ms → HasSound (put_kind kind ms)
-kind_sound (dir id) ms h = HasSound-put (codes "subtree") (id_data id) ms (IsUtf8-are_ascii _ refl) (IsSound-id_data id) h
-kind_sound (file ids) ms h = HasSound-put (codes "content") (ids_data ids) ms (IsUtf8-are_ascii _ refl) (IsSound-list_data (map id_data ids) (ids_sound ids)) h
-kind_sound (other type_name) ms h = h
+kind_readable : (kind : KindData) (ms : Members) → HasReadable ms → HasReadable (put_kind kind ms)
+kind_readable (dir id) ms h = HasReadable-put (codes "subtree") (id_data id) ms (IsUtf8-are_ascii _ refl) (IsReadable-id_data id) h
+kind_readable (file ids) ms h = HasReadable-put (codes "content") (ids_data ids) ms (IsUtf8-are_ascii _ refl) (IsReadable-list_data (map id_data ids) (ids_readable ids)) h
+kind_readable (other type_name) ms h = h
 
 type_text : (kind : KindData) → IsKind kind → IsUtf8 (type_of kind)
 type_text (dir id) h = IsUtf8-are_ascii _ refl
 type_text (file ids) h = IsUtf8-are_ascii _ refl
 type_text (other type_name) h = h.0
 
-IsSound-node_data : (node : NodeData) → IsNode node → IsSound (node_data node)
-IsSound-node_data node h =
+IsReadable-node_data : (node : NodeData) → IsNode node → IsReadable (node_data node)
+IsReadable-node_data node h =
     let below = put_kind node.kind node.others in
     let type_name = string (type_of node.kind) in
-    HasSound-put (codes "name") (string node.name) (put (codes "type") type_name below) (IsUtf8-are_ascii _ refl) h.text
-    (HasSound-put (codes "type") type_name below (IsUtf8-are_ascii _ refl) (type_text node.kind h.kind) (kind_sound node.kind node.others h.carried))
+    HasReadable-put (codes "name") (string node.name) (put (codes "type") type_name below) (IsUtf8-are_ascii _ refl) h.text
+    (HasReadable-put (codes "type") type_name below (IsUtf8-are_ascii _ refl) (type_text node.kind h.kind) (kind_readable node.kind node.others h.carried))
 
-nodes_sound : (nodes : List NodeData) → AllByRecursion IsNode nodes → AllByRecursion IsSound (map node_data nodes)
-nodes_sound [] h = tt
-nodes_sound (node ∷ nodes) h = (IsSound-node_data node h.0, nodes_sound nodes h.1)
+nodes_readable : (nodes : List NodeData) → AllByRecursion IsNode nodes → AllByRecursion IsReadable (map node_data nodes)
+nodes_readable [] h = tt
+nodes_readable (node ∷ nodes) h = (IsReadable-node_data node h.0, nodes_readable nodes h.1)
 
-pub IsSound-tree_data : (nodes : List NodeData) → IsTree nodes → IsSound (tree_data nodes)
-IsSound-tree_data nodes h = (IsUtf8-are_ascii _ refl, IsSound-list_data (map node_data nodes) (nodes_sound nodes (recursion_from_All IsNode nodes h.each)), tt, tt)
+pub IsReadable-tree_data : (nodes : List NodeData) → IsTree nodes → IsReadable (tree_data nodes)
+IsReadable-tree_data nodes h = (IsUtf8-are_ascii _ refl, IsReadable-list_data (map node_data nodes) (nodes_readable nodes (recursion_from_All IsNode nodes h.each)), tt, tt)
 
 -- so its text is the compact one
 pub has_float-tree_data : (nodes : List NodeData) → IsTree nodes → has_float (tree_data nodes) ≡ false
-has_float-tree_data nodes h = has_float-IsSound (tree_data nodes) (IsSound-tree_data nodes h)
+has_float-tree_data nodes h = has_float-IsReadable (tree_data nodes) (IsReadable-tree_data nodes h)
 
 -- ---- and is read back
 
@@ -131,7 +131,7 @@ shallow nodes h = depth-tree_data nodes (recursion_from_All IsNode nodes h.each)
 
 pub tree_of-compact_text : (nodes : List NodeData) → IsTree nodes → tree_of (compact_text (tree_data nodes)) ≡ Ok nodes
 tree_of-compact_text nodes h =
-    rw (doc_of-compact_text (tree_data nodes) (IsSound-tree_data nodes h) (shallow nodes h), tree_in-tree_data nodes h)
+    rw (doc_of-compact_text (tree_data nodes) (IsReadable-tree_data nodes h) (shallow nodes h), tree_in-tree_data nodes h)
 
 -- and so do the bytes that a writer of documents gave for it
 pub bytes_read_back : (r : Result (Vec ℕ Global) AllocError) (d : Data) (nodes : List NodeData) → d ≡ tree_data nodes

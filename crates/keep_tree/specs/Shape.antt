@@ -3,7 +3,7 @@ use Rattle.std.specs.Prelude.{◌≡◌, ◌≢◌, ◌≤◌, List, IsTrue, IsU
 use Rattle.serde_json.specs.Data.{members_depth}
 use Rattle.keep_names.specs.Id.{IsDigest}
 use Rattle.keep_docs.specs.Fields.{others}
-use Rattle.keep_docs.specs.Sound.{HasSound}
+use Rattle.keep_docs.specs.Readable.{HasReadable}
 use Rattle.keep_tree.specs.Names.{is_name, are_distinct}
 use Rattle.keep_tree.specs.Tree.{KindData, dir, file, other, NodeData, names_of, own_keys}
 
@@ -19,7 +19,7 @@ pub record IsNode (node : NodeData) : Type 0 where
   pub named : IsTrue (is_name node.name)
   pub text : IsUtf8 node.name
   pub kind : IsKind node.kind
-  pub carried : HasSound node.others
+  pub carried : HasReadable node.others
   pub nests : members_depth node.others ≤ 124
   pub apart : others (own_keys node.kind) node.others ≡ node.others
 

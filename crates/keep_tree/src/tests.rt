@@ -146,16 +146,3 @@ fn names_have_no_slash(rt: HostRuntime) {
         assert_eq!(rt; is_name(name), is_good, "{name:?}");
     }
 }
-
-#[test]
-fn refusals_print_their_words(rt: HostRuntime) -> Result<(), Fail> {
-    for (refusal, word) in [
-        (TreeError::Doc(DocError::NotJson), "NotJson"),
-        (TreeError::Doc(DocError::BadNumber), "BadNumber"),
-        (TreeError::Doc(DocError::Memory), "Memory"),
-        (TreeError::BadTree, "BadTree"),
-    ] {
-        assert_eq!(rt; format!(in rt.alloc(); "{refusal}")?.as_str(), word);
-    }
-    Ok(())
-}

@@ -13,7 +13,6 @@ use crate::node::{Node, nodes_in};
 use keep_docs::{DocError, list_or_null_at, read_doc};
 use serde_json::Value;
 use std::alloc::{AllocError, Global};
-use thiserror::Error;
 
 /// What a folder holds, in the order of its document.
 #[derive(Drop)]
@@ -22,13 +21,11 @@ pub struct Tree {
 }
 
 /// Why bytes weren't read as a tree.
-#[derive(Clone, Copy, Debug, PartialEq, Eq, Error)]
+#[derive(Clone, Copy, Debug, PartialEq, Eq)]
 pub enum TreeError {
     /// It isn't a document.
-    #[error(transparent)]
     Doc(DocError),
     /// The document isn't of a tree's shape, a node can't have its name, or two nodes have one.
-    #[error("BadTree")]
     BadTree,
 }
 

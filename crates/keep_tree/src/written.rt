@@ -1,4 +1,4 @@
-ghost use Rattle.std.specs.Prelude.{◌≡◌, IfOk, List, Ok, OnOk, false, map};
+ghost use Rattle.std.specs.Prelude.{◌≡◌, ℕ, IfOk, List, Ok, OnOk, false, map};
 ghost use Rattle.serde_json.specs.View.{members_view, view};
 ghost use Rattle.serde_json.specs.Written.{compact_text, has_float};
 ghost use Rattle.keep_docs.specs.Lists.{list_data};
@@ -9,7 +9,7 @@ ghost use Rattle.keep_tree.specs.Written as spec;
 
 use crate::node::{Node, NodeKind};
 use crate::tree::Tree;
-use keep_docs::{id_value, ids_value, put, write_doc};
+use keep_docs::{id_value, ids_value, members_copy, put, write_doc};
 use serde_json::{Map, Value};
 use std::alloc::{AllocError, Global};
 
@@ -24,9 +24,12 @@ pub fn write_tree(alloc: Global, tree: &Tree) -> Result<Vec<u8>, AllocError>
     write_doc(alloc, &value)
 }
 
-/// Which trees read back from their text as themselves: those that a document can hold.
+/// Which trees read back from their text as themselves: those that a document can hold. What is read of any
+/// bytes is one of these.
 pub fn trees_read_back()
-    ensures { (nodes : List NodeData) → IsTree nodes → tree_of (compact_text (tree_data nodes)) ≡ Ok nodes }
+    ensures written { (nodes : List NodeData) → IsTree nodes
+        → tree_of (compact_text (tree_data nodes)) ≡ Ok nodes }
+    ensures read { (bytes : List ℕ) (nodes : List NodeData) → tree_of bytes ≡ Ok nodes → IsTree nodes }
 {}
 
 // A tree as a document.
@@ -55,20 +58,13 @@ fn node_values(alloc: Global, nodes: &[Node]) -> Result<Value, AllocError>
 fn node_value(alloc: Global, node: &Node) -> Result<Value, AllocError>
     ensures { IfOk result (λ value. view value ≡ node_data (node_view node.now)) }
 {
-    let mut members = copy_of(&node.others)?;
+    let mut members = members_copy(&node.others)?;
     put_kind(alloc, &mut members, &node.kind)?;
     let type_name = Value::try_from_str(alloc, type_name(&node.kind))?;
     put(alloc, &mut members, "type", type_name)?;
     let name = Value::try_from_str(alloc, node.name.as_str())?;
     put(alloc, &mut members, "name", name)?;
     Ok(Value::Object(members))
-}
-
-// Members, once more.
-fn copy_of(members: &Map<String, Value>) -> Result<Map<String, Value>, AllocError>
-    ensures { IfOk result (λ copy. members_view copy.entries ≡ members_view members.now.entries) }
-{
-    members.clone()
 }
 
 // Writes the member that only a node of this kind has for itself.

@@ -2,7 +2,7 @@ use super::{only, planned};
 use crate::{Book, Refusal, Told};
 use keep_change::{Change, Planned, StoredFile};
 use keep_names::{FileName, Kind, id_of};
-use keep_repo::{Bytes, Repo};
+use keep_repo::Repo;
 use std::alloc::{AllocError, Global};
 use std::test::Fail;
 
@@ -130,10 +130,9 @@ fn shown(reply: Result<Told, Refusal>) -> (&'static str, u64) {
 
 /// The step as a change of the book.
 fn change_of(alloc: Global, step: Step) -> Result<Planned, AllocError> {
-    let bytes = Bytes::new(alloc, vec![in alloc; step.letter]?)?;
-    let name = name_of(step.letter);
+    let file = StoredFile::of(alloc, Kind::Index, vec![in alloc; step.letter]?)?;
+    let file = only(alloc, file)?;
     let mut change = Change::new(alloc);
-    let file = only(alloc, StoredFile { name, bytes })?;
     if step.puts {
         change.adds = file;
     } else {

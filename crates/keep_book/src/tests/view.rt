@@ -1,19 +1,14 @@
 use super::{only, planned};
 use crate::Book;
 use keep_change::{Change, Planned, StoredFile};
-use keep_names::{FileName, Id, Kind, id_of};
-use keep_repo::{Bytes, Repo};
+use keep_names::{Id, Kind, id_of};
+use keep_repo::Repo;
 use std::alloc::{AllocError, Global};
 use std::test::Fail;
 
 /// The snapshot of one byte.
 fn snapshot(alloc: Global) -> Result<StoredFile, AllocError> {
-    let name = FileName {
-        kind: Kind::Snapshot,
-        id: id_of(b"a"),
-    };
-    let bytes = Bytes::new(alloc, vec![in alloc; b'a']?)?;
-    Ok(StoredFile { name, bytes })
+    StoredFile::of(alloc, Kind::Snapshot, vec![in alloc; b'a']?)
 }
 
 fn addition(alloc: Global) -> Result<Planned, AllocError> {
@@ -31,13 +26,14 @@ fn removal(alloc: Global) -> Result<Planned, AllocError> {
 /// How many snapshots the view knows, whether that one is among them, how many files are there, and
 /// the number of the last event.
 fn seen(alloc: Global, book: &Book) -> Result<(usize, bool, usize, u64), AllocError> {
-    let view = book.view(alloc)?;
+    let view = book.view();
+    let known = view.known(alloc)?;
     let id: Id = id_of(b"a");
     Ok((
-        view.known.len(),
-        view.known.contains(&id),
-        view.repo.file_count(),
-        view.length,
+        known.len(),
+        known.contains(&id),
+        view.repo().file_count(),
+        view.length(),
     ))
 }
 

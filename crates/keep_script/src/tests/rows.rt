@@ -164,7 +164,20 @@ pub const EXAMPLES: [Row; 6] = [
     ),
 ];
 
-pub const ROWS: [Row; 7] = [
+pub const ROWS: [Row; 8] = [
+    (
+        "add snapshot 61\nadd pack 00000000\nadd index 62\nlist\n\
+         restore 0000000000000000000000000000000000000000000000000000000000000000\n",
+        "ok 1 at 1 +1 -0 *0 ~0\n\
+         ok 2 at 2 +1 -0 *0 ~0\n\
+         ok 3 at 3 +1 -0 *0 ~0\n\
+         pack df3f619804a92fdb4057192dc43dd748ea778adc52bc498ce80524c014b81119 4\n\
+         index 3e23e8160039594a33894f6564e1b1348bbd7a0088d42c4acb73eeaed59c009d 1\n\
+         snapshot ca978112ca1bbdcafac231b39a23dc4da786eff8147c4e72b9807785afee48bb 1\n\
+         files 3 marks 0\n\
+         no NoSnapshot\n",
+        Status::Done,
+    ),
     ("", "", Status::Done),
     ("# nothing\tto do", "bad line 1\n", Status::BadLine(1)),
     ("\n# a comment\ncount", "files 0 marks 0\n", Status::Done),

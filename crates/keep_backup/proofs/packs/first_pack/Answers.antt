@@ -1,10 +1,14 @@
-use Rattle.std.proofs.Common.{◌≡◌, ℕ, ◌+◌, ◌-◌, ◌<◌, ◌≤◌, length, map, take, get_or, ap, ◌∙◌, arith}
-use Rattle.std.specs.Global.{Vec}
+use Rattle.std.proofs.Common.{◌≡◌, ◌+◌, ◌-◌, ◌<◌, ◌≤◌, ◌^◌, length, map, take, get_or, ap, subst, sym, ◌∙◌, arith}
 use Rattle.keep_names.specs.declared.blob.BlobId.{BlobId}
 use Rattle.keep_backup.specs.Packs.{bytes_in, full_pack}
-use Rattle.keep_backup.specs.Storing.{blob_view}
-use Rattle.keep_backup.proofs.Building.{all_taken, bytes_more, first_full, front_low, vec_length}
+use Rattle.keep_backup.specs.Storing.{Text, blob_view, text_bytes}
+use Rattle.keep_backup.proofs.Building.{all_taken, bytes_more, first_full, front_low, short_at}
 use Rattle.keep_backup.proofs.packs.first_pack.Goals as goal
+
+pub blob_length-requires : goal.blob_length-requires
+blob_length-requires c =
+    let S = λ (b : BlobId × Text). length (text_bytes b.1) < 2 ^ 32 in
+    subst S (sym c.index-blobs-place.is) (short_at c.args.blobs.now c.loop-place.place c.index-blobs-place.result c.loop-place-test.true c.requires.fits)
 
 pub returns-then-size-ge-FULL_PACK-clause-first : goal.returns-then-size-ge-FULL_PACK-clause-first
 returns-then-size-ge-FULL_PACK-clause-first c =
@@ -13,10 +17,10 @@ returns-then-size-ge-FULL_PACK-clause-first c =
     let here = c.index-blobs-place.result in
     let sum : c.loop-place.size ≡ bytes_in (map blob_view (take k kept)) = c.loop-place.invariant.sum in
     let low : c.loop-place.size < full_pack = c.loop-place.invariant.low in
-    let more : bytes_in (map blob_view (take (k + 1) kept)) ≡ bytes_in (map blob_view (take k kept)) + length (get_or kept k here).1.items = bytes_more kept k here c.loop-place-test.true in
-    let count : c.len-size.result ≡ length (get_or kept k here).1.items =
-    c.len-size.ensures ∙ vec_length here.1 ∙ ap (λ (blob : BlobId × Vec ℕ). length blob.1.items) c.index-blobs-place.is in
-    let full : 16777216 ≤ c.loop-place.size + c.len-size.result = c.if-size-ge-FULL_PACK.true in
+    let more : bytes_in (map blob_view (take (k + 1) kept)) ≡ bytes_in (map blob_view (take k kept)) + length (text_bytes (get_or kept k here).1) = bytes_more kept k here c.loop-place-test.true in
+    let count : c.blob_length.result ≡ length (text_bytes (get_or kept k here).1) =
+    c.blob_length.ensures ∙ ap (λ (blob : BlobId × Text). length (text_bytes blob.1)) c.index-blobs-place.is in
+    let full : 16777216 ≤ c.loop-place.size + c.blob_length.result = c.if-size-ge-FULL_PACK.true in
     first_full kept k c.loop-place-test.true (omega (arith, sum, low)) (omega (arith, sum, more, count, full))
 
 pub returns-clause-first : goal.returns-clause-first

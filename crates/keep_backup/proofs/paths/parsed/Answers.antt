@@ -4,8 +4,8 @@ use Rattle.std.proofs.lemmas.Result.{err_from_is_err_and}
 use Rattle.keep_docs.proofs.Each.{each_end, each_next, each_refused}
 use Rattle.keep_tree.proofs.Answered.{found_from_ok, none_from_err}
 use Rattle.keep_backup.specs.Files.{file_view, given_view}
-use Rattle.keep_backup.specs.Paths.{file_of}
-use Rattle.keep_backup.specs.declared.backup_error.BackupError.TheVariants.{BadPath}
+use Rattle.keep_backup.specs.Paths.{given_file}
+use Rattle.keep_plan.specs.declared.plan_error.PlanError.TheVariants.{BadPath}
 use Rattle.keep_backup.proofs.paths.parsed.Goals as goal
 
 pub returns-in_err-file : goal.returns-in_err-file
@@ -16,7 +16,7 @@ returns-in_err-file c =
     rw (due.1, due.2) (λ other.
     let refused = none_from_err _ _ _ (c.in_err-file.ensures other) in
     ap (λ found. ok_or found BadPath)
-    (each_refused given_view file_of c.args.given.now turn.path-index (map file_view turn.files.items) c.loop-path-item.result turn.invariant c.loop-path-test.true c.loop-path-item.is (ap file_of (sym same) ∙ refused.0))
+    (each_refused given_view given_file c.args.given.now turn.path-index (map file_view turn.files.items) c.loop-path-item.result turn.invariant c.loop-path-test.true c.loop-path-item.is (ap given_file (sym same) ∙ refused.0))
     ∙ ap Err refused.1)
 
 pub loop-path-preserved : goal.loop-path-preserved
@@ -25,9 +25,9 @@ loop-path-preserved c =
     let file = c.in_ok-file.file in
     let same : (c.as_str.result.now, c.as_slice.result.now) ≡ given_view c.loop-path-item.result = ap₂ (λ path bytes. (path, bytes)) c.as_str.ensures.value c.as_slice.ensures.value in
     rw (c.in_ok-push.ensures.items, map-append file_view turn.files.items (file ∷ []))
-    (each_next given_view file_of c.args.given.now turn.path-index (map file_view turn.files.items) c.loop-path-item.result (file_view file) turn.invariant c.loop-path-test.true c.loop-path-item.is (ap file_of (sym same) ∙ found_from_ok _ _ _ c.in_ok-file.ensures))
+    (each_next given_view given_file c.args.given.now turn.path-index (map file_view turn.files.items) c.loop-path-item.result (file_view file) turn.invariant c.loop-path-test.true c.loop-path-item.is (ap given_file (sym same) ∙ found_from_ok _ _ _ c.in_ok-file.ensures))
 
 pub returns : goal.returns
 returns c =
     ap (λ found. ok_or found BadPath)
-    (each_end given_view file_of c.args.given.now c.loop-path.path-index (map file_view c.loop-path.files.items) c.loop-path.invariant c.loop-path-test.false)
+    (each_end given_view given_file c.args.given.now c.loop-path.path-index (map file_view c.loop-path.files.items) c.loop-path.invariant c.loop-path-test.false)

@@ -5,8 +5,10 @@ use Rattle.keep_repo.specs.Facet.{Stored}
 use Rattle.keep_backup.specs.Backup.{facts_view}
 use Rattle.keep_backup.specs.Files.{file_view, given_view}
 use Rattle.keep_backup.specs.declared.paths.PathFile.{PathFile}
+use Rattle.keep_backup.proofs.Committed.{backup_met, backup_well_formed}
 use Rattle.keep_backup.proofs.Planning.{bad_files, change_made, late, none_stored, snapshot_there}
-use Rattle.keep_backup.proofs.Settled.{filled_there}
+use Rattle.keep_plan.specs.Settling.{is_there}
+use Rattle.keep_plan.proofs.Settled.{filled_there}
 use Rattle.keep_backup.proofs.plan.plan_backup.Goals as goal
 
 pub returns-in_err-files-clause-change : goal.returns-in_err-files-clause-change
@@ -33,7 +35,7 @@ returns-then-facet_filled-clause-change c _ =
     snapshot_there c.args.view.now.repo (facts_view c.args.facts.now) c.args.cut (map given_view c.args.files.now) (map file_view c.deref.result.now) files _ _ c.in_ok-snapshot.snapshot
     (sym c.has_bad_time.ensures ∙ c.if-has_bad_time.false)
     c.in_ok-tree.ensures c.in_ok-snapshot.ensures
-    (sym (filled_there Stored (get c.args.view.now.repo.files c.in_ok-snapshot.snapshot.name)) ∙ sym c.facet_filled.ensures ∙ c.if-facet_filled.true)
+    (ap (is_there c.args.view.now.repo) (sym c.name.ensures) ∙ sym (filled_there Stored (get c.args.view.now.repo.files c.name.result)) ∙ sym (rw c.repo.ensures at c.facet_filled.ensures) ∙ c.if-facet_filled.true)
 
 pub returns-clause-change : goal.returns-clause-change
 returns-clause-change c =
@@ -41,5 +43,13 @@ returns-clause-change c =
     change_made c.args.view.now.repo (facts_view c.args.facts.now) c.args.cut (map given_view c.args.files.now) (map file_view c.deref.result.now) files _ _ c.in_ok-snapshot.snapshot
     (sym c.has_bad_time.ensures ∙ c.if-has_bad_time.false)
     c.in_ok-tree.ensures c.in_ok-snapshot.ensures c.in_ok-change.change
-    (sym (filled_there Stored (get c.args.view.now.repo.files c.in_ok-snapshot.snapshot.name)) ∙ sym c.facet_filled.ensures ∙ c.if-facet_filled.false)
+    (ap (is_there c.args.view.now.repo) (sym c.name.ensures) ∙ sym (filled_there Stored (get c.args.view.now.repo.files c.name.result)) ∙ sym (rw c.repo.ensures at c.facet_filled.ensures) ∙ c.if-facet_filled.false)
     c.in_ok-change.ensures
+
+pub returns-clause-well_formed : goal.returns-clause-well_formed
+returns-clause-well_formed c =
+    backup_well_formed c.args.view.now.repo (facts_view c.args.facts.now) c.args.cut (map given_view c.args.files.now) c.in_ok-change.change (returns-clause-change c)
+
+pub returns-clause-met : goal.returns-clause-met
+returns-clause-met c =
+    backup_met c.args.view.now.repo (facts_view c.args.facts.now) c.args.cut (map given_view c.args.files.now) c.in_ok-change.change (returns-clause-change c)

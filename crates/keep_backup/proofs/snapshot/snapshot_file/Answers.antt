@@ -1,14 +1,12 @@
-use Rattle.std.proofs.Common.{ap, ◌∙◌}
-use Rattle.keep_names.specs.Sha256.{sha256}
 use Rattle.keep_snap.specs.Snap.{snap_view}
+use Rattle.keep_plan.proofs.Outcomes.{if_ok}
 use Rattle.keep_backup.specs.Backup.{facts_view}
-use Rattle.keep_backup.proofs.Building.{if_ok}
 use Rattle.keep_backup.proofs.Planning.{file_made}
 use Rattle.keep_backup.proofs.snapshot.snapshot_file.Goals as goal
 
 pub returns : goal.returns
 returns c =
-    if_ok _ _ c.new_file.result
-    (λ file is. file_made (facts_view c.args.facts.now) c.args.tree (snap_view c.in_ok-snap.snap) c.in_ok-text.text.items c.id_of-id.result file c.in_ok-snap.ensures
-    c.in_ok-text.ensures.text (c.id_of-id.ensures ∙ ap sha256 c.deref.ensures.value) is)
-    c.new_file.ensures
+    if_ok _ _ c.of.result
+    (λ file is. file_made (facts_view c.args.facts.now) c.args.tree (snap_view c.in_ok-snap.snap) c.in_ok-text.text.items file c.in_ok-snap.ensures
+    c.in_ok-text.ensures.text is)
+    c.of.ensures

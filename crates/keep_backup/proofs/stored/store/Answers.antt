@@ -4,7 +4,7 @@ use Rattle.std.proofs.lemmas.List.{map_more, take_all}
 use Rattle.std.proofs.lemmas.Result.{err_from_is_err_and}
 use Rattle.keep_names.specs.declared.blob.BlobType.{BlobType}
 use Rattle.keep_backup.specs.Blobs.{is_full}
-use Rattle.keep_backup.specs.Refusal.{of_catalog}
+use Rattle.keep_plan.specs.Refusal.{of_catalog}
 use Rattle.keep_backup.specs.Storing.{given}
 use Rattle.keep_backup.proofs.Answering.{full_is, keeps_same, some_full, stored_is, unread_is}
 use Rattle.keep_backup.proofs.stored.store.Goals as goal
@@ -39,9 +39,15 @@ loop-blob_type-preserved c =
     ∙ ap (λ (bytes : List ℕ). map given (take i blobs) ++ (item.0, bytes) ∷ []) (sym c.deref.ensures.value) in
     keeps_same r _ _ c.put.new.self (sym next) (c.in_ok-put.ensures.kept r (map given (take i blobs)) c.loop-blob_type.invariant)
 
+pub finish-requires : goal.finish-requires
+finish-requires c =
+    let r = c.args.view.now.repo in
+    let blobs = c.args.blobs.now in
+    rw c.repo.ensures (map given blobs, keeps_same r _ _ c.loop-blob_type.storing (ap (map given) (take_all c.loop-blob_type.blob_type-index blobs c.loop-blob_type-test.false)) c.loop-blob_type.invariant)
+
 pub returns : goal.returns
 returns c =
     let r = c.args.view.now.repo in
     let blobs = c.args.blobs.now in
     let keeps = keeps_same r _ _ c.loop-blob_type.storing (ap (map given) (take_all c.loop-blob_type.blob_type-index blobs c.loop-blob_type-test.false)) c.loop-blob_type.invariant in
-    stored_is r (map given blobs) c.in_ok-finish.field-0 c.in_ok-catalog.ensures.all_read keeps.fits (c.in_ok-finish.ensures (map given blobs) keeps)
+    stored_is r (map given blobs) c.in_ok-finish.field-0 c.in_ok-catalog.ensures.all_read keeps.fits ((rw c.repo.ensures at c.in_ok-finish.ensures) (map given blobs) keeps)

@@ -11,8 +11,8 @@ use Rattle.keep_tree.specs.Written.{tree_data}
 use Rattle.keep_backup.specs.Blobs.{BlobData, is_full}
 use Rattle.keep_backup.specs.Files.{seen}
 use Rattle.keep_backup.specs.Folders.{folder_at}
-use Rattle.keep_backup.specs.Walk.{Took, blobs_below, id_of, nodes_of, root_tree, tree_of}
-use Rattle.keep_backup.specs.declared.backup_error.BackupError.TheVariants.{Full, Memory}
+use Rattle.keep_backup.specs.Walk.{Took, blobs_below, id_of, nodes_of, root_tree, tree_blob}
+use Rattle.keep_plan.specs.declared.plan_error.PlanError.TheVariants.{Full, Memory}
 use Rattle.keep_backup.specs.declared.paths.PathFile.{PathFile}
 use Rattle.keep_backup.proofs.Offering.{all_taken, both_took, full_first, full_left, more_taken, refused_after}
 use Rattle.keep_backup.proofs.Seen.{names_parts, order_parts}
@@ -89,20 +89,20 @@ walk_folder-returns-clause-took t c =
     let folder = below c.args.depth 0 files in
     let same = all_nodes c.args.cut c.args.depth c.loop-start.start files (map node_view c.loop-start.nodes.items) c.loop-start.invariant.nodes c.loop-start-test.false in
     let done = all_taken (blobs_below c.args.cut folder) (blobs_below c.args.cut (below c.args.depth c.loop-start.start files)) c.args.storing.now c.loop-start.storing (ap (blobs_below c.args.cut) (none_left (most_levels - c.args.depth) c.args.depth c.loop-start.start files c.loop-start-test.false)) c.loop-start.invariant.taken in
-    let T : List NodeData → Type 0 = λ ns. OnOk c.put_tree.result (Took (tree_of ns ∷ []) c.loop-start.storing c.put_tree.new.storing) in
+    let T : List NodeData → Type 0 = λ ns. OnOk c.put_tree.result (Took (tree_blob ns ∷ []) c.loop-start.storing c.put_tree.new.storing) in
     on_ok_weaker c.put_tree.result (both_took (blobs_below c.args.cut folder) (root_tree c.args.cut folder ∷ []) c.args.storing.now c.loop-start.storing c.put_tree.new.storing done) (subst T same c.put_tree.ensures.took)
 
 pub walk_folder-returns-clause-id : goal.walk_folder-returns-clause-id
 walk_folder-returns-clause-id t c =
     let same = all_nodes c.args.cut c.args.depth c.loop-start.start c.args.files.now (map node_view c.loop-start.nodes.items) c.loop-start.invariant.nodes c.loop-start-test.false in
-    let I : List NodeData → Type 0 = λ ns. IfOk c.put_tree.result (λ id. id ≡ id_of (tree_of ns)) in
+    let I : List NodeData → Type 0 = λ ns. IfOk c.put_tree.result (λ id. id ≡ id_of (tree_blob ns)) in
     subst I same c.put_tree.ensures.id
 
 pub walk_folder-returns-clause-refused : goal.walk_folder-returns-clause-refused
 walk_folder-returns-clause-refused t c =
     let folder = below c.args.depth 0 c.args.files.now in
     let same = all_nodes c.args.cut c.args.depth c.loop-start.start c.args.files.now (map node_view c.loop-start.nodes.items) c.loop-start.invariant.nodes c.loop-start-test.false in
-    let R : List NodeData → Type 0 = λ ns. IfErr c.put_tree.result (λ error. error ≢ Memory → (error ≡ Full) × (list_any is_full (tree_of ns ∷ []) ≡ true)) in
+    let R : List NodeData → Type 0 = λ ns. IfErr c.put_tree.result (λ error. error ≢ Memory → (error ≡ Full) × (list_any is_full (tree_blob ns ∷ []) ≡ true)) in
     refused_after c.put_tree.result (blobs_below c.args.cut folder) (root_tree c.args.cut folder ∷ []) (subst R same c.put_tree.ensures.refused)
 
 -- ---- one node

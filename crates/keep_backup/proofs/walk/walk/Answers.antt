@@ -5,11 +5,11 @@ use Rattle.std.specs.List.{list_any}
 use Rattle.keep_catalog.specs.Reach.{most_levels}
 use Rattle.keep_backup.specs.Blobs.{is_full}
 use Rattle.keep_backup.specs.Files.{file_view, paths_seen}
-use Rattle.keep_backup.specs.Folders.{Folder, root_of}
+use Rattle.keep_backup.specs.Folders.{Folder, root_folder}
 use Rattle.keep_backup.specs.Paths.{HaveNames, is_too_deep}
 use Rattle.keep_backup.specs.Walk.{Took, blobs_of, id_of, root_tree}
-use Rattle.keep_backup.specs.declared.backup_error.BackupError.{BackupError}
-use Rattle.keep_backup.specs.declared.backup_error.BackupError.TheVariants.{Full, Memory, TooDeep}
+use Rattle.keep_plan.specs.declared.plan_error.PlanError.{PlanError}
+use Rattle.keep_plan.specs.declared.plan_error.PlanError.TheVariants.{Full, Memory, TooDeep}
 use Rattle.keep_backup.proofs.Deep.{deep_files, names_within, no_less, root_is}
 use Rattle.keep_backup.proofs.walk.walk.Goals as goal
 
@@ -24,7 +24,7 @@ returns-then-any-clause-refused c = λ _.
     let deep = sym (deep_files c.args.files.now)
     ∙ sym (any_from_yields_List (λ file. ltb 256 (vec_len file.names)) _ _ _ c.any.ensures.ran (YieldsList-from_slice c.args.files.now c.iter.ensures.rest) (λ x b q k. search (rules, tests)))
     ∙ c.if-any.true in
-    let full = list_any is_full (blobs_of c.args.cut (root_of (map file_view c.args.files.now))) in
+    let full = list_any is_full (blobs_of c.args.cut (root_folder (map file_view c.args.files.now))) in
     ap (λ b. cond b (Some TooDeep) (cond full (Some Full) None)) deep
 
 pub walk_folder-requires-clause-names : goal.walk_folder-requires-clause-names
@@ -52,7 +52,7 @@ returns-clause-root c =
     let I : Folder → Type 0 = λ folder. IfOk c.walk_folder.result (λ id. id ≡ id_of (root_tree c.args.cut folder)) in
     subst I (root_is c.args.files.now) c.walk_folder.ensures.id
 
-refused_so : {T : Type 0} (r : Result T BackupError) (deep full : Bool) → deep ≡ false → IfErr r (λ error. error ≢ Memory → (error ≡ Full) × (full ≡ true)) → IfErr r (λ error. error ≢ Memory → cond deep (Some TooDeep) (cond full (Some Full) None) ≡ Some error)
+refused_so : {T : Type 0} (r : Result T PlanError) (deep full : Bool) → deep ≡ false → IfErr r (λ error. error ≢ Memory → (error ≡ Full) × (full ≡ true)) → IfErr r (λ error. error ≢ Memory → cond deep (Some TooDeep) (cond full (Some Full) None) ≡ Some error)
 refused_so (Ok x) deep full is h = tt
 refused_so (Err e) deep full is h = λ other.
     let due = h other in
@@ -64,4 +64,4 @@ returns-clause-refused c =
     ∙ sym (any_from_yields_List (λ file. ltb 256 (vec_len file.names)) _ _ _ c.any.ensures.ran (YieldsList-from_slice c.args.files.now c.iter.ensures.rest) (λ x b q k. search (rules, tests)))
     ∙ c.if-any.false in
     let R : Folder → Type 0 = λ folder. IfErr c.walk_folder.result (λ error. error ≢ Memory → (error ≡ Full) × (list_any is_full (blobs_of c.args.cut folder) ≡ true)) in
-    refused_so c.walk_folder.result (list_any is_too_deep (paths_seen 0 c.args.files.now)) (list_any is_full (blobs_of c.args.cut (root_of (map file_view c.args.files.now)))) deep (subst R (root_is c.args.files.now) c.walk_folder.ensures.refused)
+    refused_so c.walk_folder.result (list_any is_too_deep (paths_seen 0 c.args.files.now)) (list_any is_full (blobs_of c.args.cut (root_folder (map file_view c.args.files.now)))) deep (subst R (root_is c.args.files.now) c.walk_folder.ensures.refused)

@@ -4,6 +4,9 @@ use Rattle.keep_book.proofs.Looking.{leaning_found, leaning_none, leaning_past, 
 use Rattle.keep_book.proofs.dependents.first_leaning.Goals as goal
 use Rattle.keep_book.proofs.dependents.first_leaning.Goals.{in-Some+else-leans_on, in_default}
 
+pub leans_on-requires : goal.leans_on-requires
+leans_on-requires c = (c.in-Some.ensures.formed c.requires).in_order
+
 pub returns-then-leans_on : goal.returns-then-leans_on
 returns-then-leans_on c =
     sym (c.loop-before.invariant

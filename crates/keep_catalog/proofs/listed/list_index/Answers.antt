@@ -2,14 +2,14 @@ use Rattle.std.proofs.Common.{map, take, sym, ap, ◌∙◌}
 use Rattle.std.specs.BTreeSet.{contains}
 use Rattle.std.specs.Option.{option_or}
 use Rattle.keep_index.specs.Index.{pack_view}
-use Rattle.keep_catalog.specs.Orders.{place_cmp}
+use Rattle.keep_catalog.specs.Orders.{packed_blob_cmp}
 use Rattle.keep_catalog.specs.Read.{listing_at}
 use Rattle.keep_catalog.proofs.Growing.{found_among, listings, listings-taken, more_listed}
 use Rattle.keep_catalog.proofs.listed.list_index.Goals as goal
 
 pub loop-pack-preserved : goal.loop-pack-preserved
 loop-pack-preserved c blob spot =
-    let stored = contains place_cmp c.args.stored.now in
+    let stored = contains packed_blob_cmp c.args.stored.now in
     let packs = c.args.packs.now in
     let i = c.loop-pack.pack-index in
     let before = listing_at c.args.listed.now blob spot in

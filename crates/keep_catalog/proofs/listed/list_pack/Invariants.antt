@@ -2,7 +2,7 @@ use Rattle.std.proofs.Common.{◌≡◌, map, take}
 use Rattle.std.specs.BTreeSet.{contains}
 use Rattle.std.specs.Option.{option_or}
 use Rattle.keep_names.specs.declared.blob.BlobId.{BlobId}
-use Rattle.keep_catalog.specs.Orders.{place_cmp}
+use Rattle.keep_catalog.specs.Orders.{packed_blob_cmp}
 use Rattle.keep_catalog.specs.Places.{listed_of}
 use Rattle.keep_catalog.specs.Read.{listing_at}
 use Rattle.keep_catalog.specs.declared.spot.Spot.{Spot}
@@ -12,4 +12,4 @@ use Rattle.keep_catalog.proofs.listed.list_pack.Given as goal
 abbrev pub invariant-loop-entry : goal.invariant-loop-entry
 invariant-loop-entry l =
     (blob : BlobId) (spot : Spot) → listing_at l.listed blob spot
-    ≡ option_or (listing_at l.initial.listed blob spot) (found_among (contains place_cmp l.stored) blob spot (map (by_index l.index) (listed_of (record { id = l.pack.id; blobs = take l.entry-index l.pack.blobs.items }))))
+    ≡ option_or (listing_at l.initial.listed blob spot) (found_among (contains packed_blob_cmp l.stored) blob spot (map (by_index l.index) (listed_of (record { id = l.pack.id; blobs = take l.entry-index l.pack.blobs.items }))))

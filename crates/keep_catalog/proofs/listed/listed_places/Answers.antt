@@ -4,7 +4,7 @@ use Rattle.std.specs.List.{flat_map}
 use Rattle.std.specs.Option.{option_or}
 use Rattle.keep_index.specs.Index.{pack_view}
 use Rattle.keep_catalog.specs.Files.{unread_index}
-use Rattle.keep_catalog.specs.Orders.{place_cmp}
+use Rattle.keep_catalog.specs.Orders.{packed_blob_cmp}
 use Rattle.keep_catalog.specs.Places.{listings_of}
 use Rattle.keep_catalog.specs.Read.{listing_at}
 use Rattle.keep_catalog.proofs.Growing.{all_listed, flat_map_taken, found_among, listings_read, more_noted, no_id}
@@ -16,7 +16,7 @@ loop-index-preserved c =
     let indexes = c.args.indexes.now in
     let i = c.loop-index.index-index in
     let index = get_or indexes i no_id in
-    let stored = contains place_cmp c.args.stored.now in
+    let stored = contains packed_blob_cmp c.args.stored.now in
     record {
       listed = λ blob spot.
           all_listed stored blob spot _ _ (flat_map (listings_of r) (take i indexes)) (listings_of r index) (c.loop-index.invariant.listed blob spot)

@@ -1,5 +1,5 @@
 use Rattle.std.proofs.Common.{◌≡◌, ◌++◌, map, take}
-use Rattle.keep_catalog.specs.Naming.{piece_of}
+use Rattle.keep_names.specs.BlobId.{piece_of}
 use Rattle.keep_catalog.proofs.names.add_pieces.Given as goal
 
 abbrev pub invariant-loop-id : goal.invariant-loop-id

@@ -40,7 +40,7 @@ walk-returns-in_ok-insert-in-Content-clause-after t c =
     let chosen = chosen_listing c.args.catalog.now in
     let none = pieces_name_nothing c.args.catalog.now c.args.blob _ c.in-Content.is c.in_ok-named-in-Content.ensures.names in
     put_walked c.args.walked.now c.insert.new.self c.args.blob _ c.in_ok-insert-in-Content.ensures.updates.0 named chosen c.requires.before (piece_height named c.args.blob c.in-Content.is none) c.in_ok-named-in-Content.ensures.chosen
-    (λ b names. absurd (nothing_named named chosen c.args.blob none b names))
+    (λ b names. absurd (nothing_named named chosen c.args.blob none b names)) c.in_ok-insert-in-Content.ensures.ordered
 
 pub walk-returns-in_ok-insert-in-Content-clause-grew : goal.walk-returns-in_ok-insert-in-Content-clause-grew
 walk-returns-in_ok-insert-in-Content-clause-grew t c =
@@ -67,7 +67,7 @@ walk-returns-in_ok-insert-in-Tree-clause-after t c =
     let e : suc below ≡ below + 1 = omega arith in
     let has : HasHeight named c.args.blob (below + 1) = subst (HasHeight named c.args.blob) e (tree_height named c.args.blob c.deref.result.now below c.in-Tree.is is c.in_ok-below-in-Tree.ensures.height) in
     put_walked c.walk_all.new.walked c.insert-in-Tree.new.self c.args.blob _ c.in_ok-insert-in-Tree.ensures.updates.0 named chosen c.in_ok-below-in-Tree.ensures.after has c.in_ok-named-in-Tree.ensures.chosen
-    (names_known named chosen c.args.blob c.deref.result.now c.walk_all.new.walked is c.in_ok-below-in-Tree.ensures.known)
+    (names_known named chosen c.args.blob c.deref.result.now c.walk_all.new.walked is c.in_ok-below-in-Tree.ensures.known) c.in_ok-insert-in-Tree.ensures.ordered
 
 pub walk-returns-in_ok-insert-in-Tree-clause-grew : goal.walk-returns-in_ok-insert-in-Tree-clause-grew
 walk-returns-in_ok-insert-in-Tree-clause-grew t c =

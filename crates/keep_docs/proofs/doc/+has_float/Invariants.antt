@@ -2,16 +2,16 @@ use Rattle.std.proofs.Common.{◌≡◌, List, ◌++◌, take, drop}
 use Rattle.serde_json.specs.View.{items_view, members_view}
 use Rattle.serde_json.specs.Written.{items_have_float, members_have_float}
 use Rattle.serde_json.proofs.Views.{Entry}
-use Rattle.keep_docs.specs.Sound.{AreSound}
-use Rattle.keep_docs.proofs.Soundness.{EachSound}
+use Rattle.keep_docs.specs.Readable.{AreReadable}
+use Rattle.keep_docs.proofs.Values.{EachReadable}
 use Rattle.keep_docs.proofs.doc.+has_float.Given as goal
 
 abbrev pub invariant-items_have_float-loop-item : goal.invariant-items_have_float-loop-item
 invariant-items_have_float-loop-item l =
     (items_have_float (items_view l.item-items) ≡ items_have_float (items_view (drop l.item-index l.item-items)))
-    × AreSound (items_view (take l.item-index l.item-items))
+    × AreReadable (items_view (take l.item-index l.item-items))
 
 abbrev pub invariant-members_have_float-loop-member : goal.invariant-members_have_float-loop-member
 invariant-members_have_float-loop-member l =
     (members_have_float (members_view l.members.entries) ≡ members_have_float (members_view l.member-iterator))
-    × (done : List Entry) × (l.members.entries ≡ done ++ l.member-iterator) × EachSound done
+    × (done : List Entry) × (l.members.entries ≡ done ++ l.member-iterator) × EachReadable done

@@ -1,4 +1,4 @@
-use Rattle.keep_catalog.specs.Naming.{piece_of}
+use Rattle.keep_names.specs.BlobId.{piece_of}
 use Rattle.keep_catalog.proofs.Growing.{no_id}
 use Rattle.keep_read.proofs.Below.{in_map}
 use Rattle.keep_read.proofs.found.joined.Goals as goal

@@ -3,7 +3,8 @@ use Rattle.std.proofs.lemmas.List.{append-nil}
 use Rattle.std.proofs.lemmas.Result.{on_ok_weaker}
 use Rattle.std.proofs.lemmas.List.Folds.{flat_map-map}
 use Rattle.std.specs.List.{flat_map}
-use Rattle.keep_catalog.specs.Naming.{named_by, named_in, named_of, piece_of}
+use Rattle.keep_names.specs.BlobId.{piece_of}
+use Rattle.keep_catalog.specs.Naming.{named_by, named_in, named_of}
 use Rattle.keep_catalog.specs.Reach.{first_of, refusal_at}
 use Rattle.keep_names.specs.declared.blob.BlobId.{BlobId}
 use Rattle.keep_names.specs.declared.id.Id.{Id}

@@ -87,14 +87,14 @@ returns-in_err-name-in-Restore g c =
 pub returns-in_ok-name-in-Restore : goal.returns-in_ok-name-in-Restore
 returns-in_ok-name-in-Restore g c =
     let meant = rw c.history-in-Restore.ensures at c.find-in-Restore.ensures in
-    let told = rw c.live-in-Restore.ensures at c.restore-outcome.ensures in
+    let told = rw c.view.ensures at c.restore-outcome.ensures.restored in
     AnswersCommand-puts _ _ _ _ _ _ _ c.write_restore.ensures
     (Restored-answer (state_of c.args.cut c.args.book.now c.args.notes.now) c.args.command c.in-Restore.target c.in_ok-name-in-Restore.name c.restore-outcome.result c.in-Restore.is
     (sym meant ∙ c.in_ok-name-in-Restore.ensures.ok_part) told)
 
 pub returns-in-Audit : goal.returns-in-Audit
 returns-in-Audit g c =
-    let found = rw c.live-in-Audit.ensures at c.audit.ensures in
+    let found = rw c.view-in-Audit.ensures at c.audit.ensures in
     AnswersCommand-puts _ _ _ _ _ _ _ c.write_audit.ensures (Audited-answer (state_of c.args.cut c.args.book.now c.args.notes.now) c.args.command c.audit.result c.in-Audit.is found)
 
 pub returns-in-Backup : goal.returns-in-Backup

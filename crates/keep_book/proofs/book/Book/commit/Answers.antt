@@ -1,11 +1,12 @@
 -- The check says what the definitions say, and a change that is met is made.
 use Rattle.std.proofs.Common.{◌≡◌, ◌+◌, ap, ◌∙◌, arith, refl}
 use Rattle.std.proofs.lemmas.Result.{err_from_is_err_and}
-use Rattle.keep_book.proofs.Replying.{refused, accepted, answers_told, answers_memory, same_error}
+use Rattle.keep_book.proofs.Replying.{refused, accepted, replies_told, replies_memory, same_error}
 use Rattle.keep_journal.specs.History.{last_change, length_of}
 use Rattle.keep_journal.specs.Journal.{posted}
 use Rattle.keep_journal.specs.declared.event.Event.TheVariants.{Commit}
-use Rattle.keep_book.specs.BookState.{BookState, opening_under}
+use Rattle.keep_journal.specs.Opening.{opening_under}
+use Rattle.keep_book.specs.BookState.{BookState}
 use Rattle.keep_book.proofs.Steps.{WrittenBack, open-Commit, written_back}
 use Rattle.keep_book.proofs.book.Book.commit.Goals as goal
 
@@ -21,7 +22,7 @@ pub returns-in_err-reserve-clause-reply : goal.returns-in_err-reserve-clause-rep
 returns-in_err-reserve-clause-reply c =
     let p = err_from_is_err_and c.from_residual-in_err-reserve.result c.from_residual-in_err-reserve.ensures.1 in
     rw (p.1, p.2, ← c.self.view_is) (
-      λ formed. answers_memory _ _ (accepted _ (c.in_ok-check_commit.ensures.formed formed)),
+      λ formed. replies_memory _ _ (accepted _ (c.in_ok-check_commit.ensures.formed formed)),
       λ malformed. absurd (malformed c.in_ok-check_commit.ensures.well_formed),
     )
 
@@ -29,7 +30,7 @@ pub returns-in_err-apply-clause-reply : goal.returns-in_err-apply-clause-reply
 returns-in_err-apply-clause-reply c =
     let p = err_from_is_err_and c.from_residual-in_err-apply.result c.from_residual-in_err-apply.ensures.1 in
     rw (p.1, p.2, ← c.self.view_is) (
-      λ formed. answers_memory _ _ (accepted _ (c.in_ok-check_commit.ensures.formed formed)),
+      λ formed. replies_memory _ _ (accepted _ (c.in_ok-check_commit.ensures.formed formed)),
       λ malformed. absurd (malformed c.in_ok-check_commit.ensures.well_formed),
     )
 
@@ -52,7 +53,7 @@ invariant_of-self-2 c = (written c).is_open
 pub returns-clause-reply : goal.returns-clause-reply
 returns-clause-reply c =
     rw (← c.self.view_is) (
-      λ formed. answers_told _ _ _ (accepted _ (c.in_ok-check_commit.ensures.formed formed))
+      λ formed. replies_told _ _ _ (accepted _ (c.in_ok-check_commit.ensures.formed formed))
           (rw (← c.in_ok-reserve.ensures.same, ← c.last_change-number.ensures.exact) c.post.ensures.told),
       λ malformed. absurd (malformed c.in_ok-check_commit.ensures.well_formed),
     )

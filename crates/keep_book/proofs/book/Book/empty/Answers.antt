@@ -1,14 +1,14 @@
 -- Emptying moves the opening, and leaves the live repository.
 use Rattle.std.proofs.Common.{arith, ◌+◌, ◌∙◌, refl}
 use Rattle.std.proofs.lemmas.Result.{err_from_is_err_and}
-use Rattle.keep_book.proofs.Replying.{refused, accepted, answers_told, answers_memory, can_empty}
+use Rattle.keep_book.proofs.Replying.{refused, accepted, replies_told, replies_memory, can_empty}
 use Rattle.keep_change.specs.Fold.{fold_of}
 use Rattle.keep_journal.specs.History.{length_of}
 use Rattle.keep_journal.specs.Journal.{posted}
 use Rattle.keep_journal.specs.Kept.{up_to}
 use Rattle.keep_journal.specs.declared.event.Event.TheVariants.{Empty}
 use Rattle.keep_journal.proofs.Numbers.{is_change_parts}
-use Rattle.keep_book.specs.BookState.{opening_under}
+use Rattle.keep_journal.specs.Opening.{opening_under}
 use Rattle.keep_book.proofs.Steps.{WrittenBack, open-Empty, written_back}
 use Rattle.keep_book.proofs.book.Book.empty.Goals as goal
 
@@ -20,7 +20,7 @@ returns-in_err-check_empty-clause-reply c =
 pub returns-in_err-reserve-clause-reply : goal.returns-in_err-reserve-clause-reply
 returns-in_err-reserve-clause-reply c =
     let p = err_from_is_err_and c.from_residual-in_err-reserve.result c.from_residual-in_err-reserve.ensures.1 in
-    rw (p.1, p.2, ← c.self.view_is) (answers_memory _ _ (accepted _ c.in_ok-check_empty.ensures.refusal))
+    rw (p.1, p.2, ← c.self.view_is) (replies_memory _ _ (accepted _ c.in_ok-check_empty.ensures.refusal))
 
 written : (c : goal.After-post) → WrittenBack (fold_of (up_to c.self.inside.history.journal c.args.n) (opening_under c.self.inside.history.journal c.self.inside.live))
     (posted c.self.inside.history.journal (length_of c.self.inside.history.journal + 1) (Empty c.args.n)) c.post.new.history.journal c.self.inside.live
@@ -35,7 +35,7 @@ invariant_of-self-2 c = (written c).is_open
 
 pub returns-clause-reply : goal.returns-clause-reply
 returns-clause-reply c =
-    rw (← c.self.view_is) (answers_told _ _ _ (accepted _ c.in_ok-check_empty.ensures.refusal) (rw (← c.in_ok-reserve.ensures.same) c.post.ensures.told))
+    rw (← c.self.view_is) (replies_told _ _ _ (accepted _ c.in_ok-check_empty.ensures.refusal) (rw (← c.in_ok-reserve.ensures.same) c.post.ensures.told))
 
 pub returns-clause-after : goal.returns-clause-after
 returns-clause-after c = rw (← c.self.view_is) (written c).shows

@@ -4,10 +4,10 @@ use Rattle.std.proofs.lemmas.Result.{err_from_is_err_and}
 use Rattle.keep_journal.specs.History.{length_of}
 use Rattle.keep_journal.specs.Journal.{posted}
 use Rattle.keep_journal.specs.declared.event.Event.TheVariants.{Redo}
-use Rattle.keep_book.specs.BookState.{opening_under}
+use Rattle.keep_journal.specs.Opening.{opening_under}
 use Rattle.keep_book.proofs.Redoing.{same_redo_refusal, redone, can_redo, undone_is_there}
 use Rattle.keep_book.proofs.Steps.{WrittenBack, written_back}
-use Rattle.keep_book.proofs.Replying.{refused, accepted, answers_told, answers_memory}
+use Rattle.keep_book.proofs.Replying.{refused, accepted, replies_told, replies_memory}
 use Rattle.keep_book.proofs.book.Book.redo.Goals as goal
 
 pub returns-in_err-check_redo-clause-reply : goal.returns-in_err-check_redo-clause-reply
@@ -20,7 +20,7 @@ pub returns-in_err-reserve-clause-reply : goal.returns-in_err-reserve-clause-rep
 returns-in_err-reserve-clause-reply c =
     let p = err_from_is_err_and c.from_residual-in_err-reserve.result c.from_residual-in_err-reserve.ensures.1 in
     rw (p.1, p.2, ← c.self.view_is, same_redo_refusal _ c.self.inside.history.journal c.self.inside.live c.self.invariant c.args.n)
-    (answers_memory _ _ (accepted _ c.in_ok-check_redo.ensures.refusal))
+    (replies_memory _ _ (accepted _ c.in_ok-check_redo.ensures.refusal))
 
 pub apply_change-requires : goal.apply_change-requires
 apply_change-requires c d found =
@@ -31,7 +31,7 @@ pub returns-in_err-apply_change-clause-reply : goal.returns-in_err-apply_change-
 returns-in_err-apply_change-clause-reply c =
     let p = err_from_is_err_and c.from_residual-in_err-apply_change.result c.from_residual-in_err-apply_change.ensures.1 in
     rw (p.1, p.2, ← c.self.view_is, same_redo_refusal _ c.self.inside.history.journal c.self.inside.live c.self.invariant c.args.n)
-    (answers_memory _ _ (accepted _ c.in_ok-check_redo.ensures.refusal))
+    (replies_memory _ _ (accepted _ c.in_ok-check_redo.ensures.refusal))
 
 written : (c : goal.After-post) → WrittenBack (opening_under c.self.inside.history.journal c.self.inside.live)
     (posted c.self.inside.history.journal (length_of c.self.inside.history.journal + 1) (Redo c.args.n)) c.post.new.history.journal c.apply_change.new.repo
@@ -49,7 +49,7 @@ invariant_of-self-2 c = (written c).is_open
 pub returns-clause-reply : goal.returns-clause-reply
 returns-clause-reply c =
     rw (← c.self.view_is, same_redo_refusal _ c.self.inside.history.journal c.self.inside.live c.self.invariant c.args.n)
-    (answers_told _ _ _ (accepted _ c.in_ok-check_redo.ensures.refusal) (rw (← c.in_ok-reserve.ensures.same) c.post.ensures.told))
+    (replies_told _ _ _ (accepted _ c.in_ok-check_redo.ensures.refusal) (rw (← c.in_ok-reserve.ensures.same) c.post.ensures.told))
 
 pub returns-clause-after : goal.returns-clause-after
 returns-clause-after c = rw (← c.self.view_is) (written c).shows

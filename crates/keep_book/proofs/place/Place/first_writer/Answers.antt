@@ -5,9 +5,12 @@ use Rattle.keep_book.proofs.Looking.{value_found, value_none, value_past, value_
 use Rattle.keep_book.proofs.place.Place.first_writer.Goals as goal
 use Rattle.keep_book.proofs.place.Place.first_writer.Goals.{in-Some+else-writes, in_default}
 
+pub writes-requires : goal.writes-requires
+writes-requires c = (c.in-Some.ensures.formed c.args.self.now.formed).in_order
+
 pub returns-then-writes : goal.returns-then-writes
 returns-then-writes c = (
-  c.in-Some.ensures.formed,
+  c.in-Some.ensures.formed c.args.self.now.formed,
   c.loop-before.invariant
       ∙ value_found c.args.self.now.history.now.journal c.loop-before.before (c.loop-before.before + 1) c.in-Some.change.now (held c.args.self.now.live.now) c.args.facet
       c.last_change-before-end.ensures.numbered refl (sym c.in-Some.ensures.exact) (sym c.writes.ensures ∙ c.if-writes.true),

@@ -1,0 +1,29 @@
+-- The repository under a history: what the changes that can still be undone were made of.
+use Rattle.std.specs.Prelude.{◌≡◌, List, [], ◌∷◌, None, All}
+use Rattle.keep_repo.specs.Repository.{Repository}
+use Rattle.keep_change.specs.Fold.{Numbered, first_break, fold_of}
+use Rattle.keep_change.specs.Form.{IsWellFormed}
+use Rattle.keep_change.specs.Result.{result_of, reverse_of}
+use Rattle.keep_journal.specs.History.{committed, IsNumbered}
+use Rattle.keep_journal.specs.Journal.{Journal}
+use Rattle.keep_journal.specs.Kept.{kept}
+
+-- the repository with these changes taken back, the last first
+abbrev pub unfold_of : List Numbered → Repository → Repository
+unfold_of [] repository = repository
+unfold_of (n ∷ ns) repository = result_of (reverse_of n.change) (unfold_of ns repository)
+
+-- the opening under a live repository: all kept changes taken back from it
+abbrev pub opening_under : Journal → Repository → Repository
+opening_under j live = unfold_of (kept j) live
+
+-- every committed change is well formed
+abbrev pub AreWellFormed : Journal → Type 0
+AreWellFormed j = All (λ n. IsWellFormed n.change) (committed j)
+
+-- the events are numbered, and the kept changes can be made of the opening in turn, and make the live repository
+pub record IsOpen (opening : Repository) (j : Journal) (live : Repository) : Type 0 where
+  pub numbered : IsNumbered j
+  pub formed : AreWellFormed j
+  pub unbroken : first_break (kept j) opening ≡ None
+  pub state : live ≡ fold_of (kept j) opening

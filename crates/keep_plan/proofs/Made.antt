@@ -1,0 +1,151 @@
+-- What is settled can be made of the repository.
+use Rattle.std.proofs.Common.{◌≡◌, ℕ, Bool, true, false, not, cond, List, [], ◌∷◌, ◌++◌, map, filter, All, IsSome, None, Option, Some, Ordering, is_none, is_some, refl, sym, ap, subst}
+use Rattle.std.specs.Cmp.{IsTotalOrder}
+use Rattle.std.specs.FinMap.{IsAntisymmetric, entries, from_entries, get, retain_keys}
+use Rattle.std.specs.List.{AllByRecursion}
+use Rattle.std.specs.List.Sorted.{IsStrictlySortedBy}
+use Rattle.std.proofs.lemmas.List.Elements.{All-from_recursion, recursion_from_All}
+use Rattle.keep_catalog.specs.Places.{is_unmarked}
+use Rattle.keep_change.specs.Form.{AreNamedByBytes}
+use Rattle.keep_change.specs.NamedBytes.{NamedBytes}
+use Rattle.keep_change.specs.declared.change.PackMark.{PackMark}
+use Rattle.keep_names.proofs.Orders.{id_exact, id_total, name_exact, name_total}
+use Rattle.keep_names.specs.Orders.{id_cmp, name_cmp}
+use Rattle.keep_names.specs.Sha256.{sha256}
+use Rattle.keep_names.specs.declared.blob.BlobId.{BlobId}
+use Rattle.keep_names.specs.declared.file_name.FileName.{FileName}
+use Rattle.keep_names.specs.declared.id.Id.{Id}
+use Rattle.keep_repo.specs.Repository.{Repository}
+use Rattle.keep_repo.specs.declared.facet.Mark.{Mark}
+use Rattle.keep_plan.specs.Reuse.{reused_files, reused_packs}
+use Rattle.keep_plan.specs.Settling.{CanBeMade, absent_files, absent_of, file_names, in_order, is_in, is_there, keyed, marks_on, names_there, pack_mark, packs_among, settled, under_name, unmarked_of}
+use Rattle.keep_plan.proofs.Grounds.{reused_free, reused_there}
+use Rattle.keep_plan.proofs.Ordered.{All-entries, All-of_map, each_so, filter_passes, keys_in_order, retained_there}
+
+All-append : {X : Type 0} (P : X → Type 0) (xs ys : List X) → AllByRecursion P xs → AllByRecursion P ys → AllByRecursion P (xs ++ ys)
+All-append P [] ys h g = g
+All-append P (x ∷ xs) ys h g = (h.0, All-append P xs ys h.1 g)
+
+-- keys in order, each once, are all so where the keys are
+module _ {K : Type 0} {R : K → K → Ordering} (total : IsTotalOrder R) (exact : IsAntisymmetric R) (P : K → Type 0) where
+  each_keyed : (ks : List K) → AllByRecursion P ks → AllByRecursion (λ (e : K × Unit {0}). P e.0) (map keyed ks)
+  each_keyed [] h = tt
+  each_keyed (k ∷ ks) h = (h.0, each_keyed ks h.1)
+
+  All-in_order : (ks : List K) → AllByRecursion P ks → AllByRecursion P (in_order R ks)
+  All-in_order ks h =
+      All-of_map P (λ (e : K × Unit {0}). e.0) (entries (from_entries {R = R} (map keyed ks)))
+      (All-entries total exact (λ (e : K × Unit {0}). P e.0) (map keyed ks) (each_keyed ks h))
+
+-- ---- the adds
+
+module _ (r : Repository) where
+  -- a file that is absent stands under its name, which its bytes have
+  record IsNew (e : FileName × NamedBytes) : Type 0 where
+    under : e.1.name ≡ e.0
+    named : e.1.name.id.0 ≡ sha256 e.1.bytes
+    absent : is_there r e.1.name ≡ false
+
+  each_new : (built : List NamedBytes) → AllByRecursion (λ (f : NamedBytes). f.name.id.0 ≡ sha256 f.bytes) built → AllByRecursion IsNew (absent_of r built)
+  each_new [] h = tt
+  each_new (file ∷ files) h = cases (each_new files h.1) (is_there r file.name) refl where
+    cases : AllByRecursion IsNew (absent_of r files) → (b : Bool) → is_there r file.name ≡ b
+        → AllByRecursion IsNew (map under_name (cond (not b) (file ∷ filter (λ (f : NamedBytes). not (is_there r f.name)) files) (filter (λ (f : NamedBytes). not (is_there r f.name)) files)))
+    cases later true is = later
+    cases later false is = (record { under = refl; named = h.0; absent = is }, later)
+
+  all_new : (built : List NamedBytes) → AreNamedByBytes built → AllByRecursion IsNew (entries (from_entries {R = name_cmp} (absent_of r built)))
+  all_new built h =
+      All-entries name_total name_exact IsNew (absent_of r built)
+      (each_new built (recursion_from_All (λ (f : NamedBytes). f.name.id.0 ≡ sha256 f.bytes) built h))
+
+  names_are : (es : List (FileName × NamedBytes)) → AllByRecursion IsNew es → file_names (map (λ e. e.1) es) ≡ map (λ e. e.0) es
+  names_are [] h = refl
+  names_are (e ∷ es) h = (λ i. h.0.under i ∷ names_are es h.1 i)
+
+  adds_rise : (built : List NamedBytes) → AreNamedByBytes built → IsStrictlySortedBy name_cmp (file_names (absent_files r built))
+  adds_rise built h =
+      subst (λ (names : List FileName). IsStrictlySortedBy name_cmp names) (sym (names_are (entries (from_entries {R = name_cmp} (absent_of r built))) (all_new built h)))
+      (keys_in_order name_cmp (from_entries {R = name_cmp} (absent_of r built)))
+
+  all_adds : (P : NamedBytes → Type 0) → ((e : FileName × NamedBytes) → IsNew e → P e.1) → (built : List NamedBytes) → AreNamedByBytes built → All P (absent_files r built)
+  all_adds P so built h =
+      All-from_recursion P (absent_files r built)
+      (All-of_map P (λ (e : FileName × NamedBytes). e.1) (entries (from_entries {R = name_cmp} (absent_of r built)))
+      (each_so IsNew (λ (e : FileName × NamedBytes). P e.1) so (entries (from_entries {R = name_cmp} (absent_of r built))) (all_new built h)))
+
+  -- ---- the marks
+
+  packs_are : (es : List (Id × Mark)) → map (λ (m : PackMark). m.pack) (map pack_mark es) ≡ map (λ e. e.0) es
+  packs_are [] = refl
+  packs_are (e ∷ es) = ap (λ (packs : List Id). e.0 ∷ packs) (packs_are es)
+
+  clears_rise : (packs : List Id) → IsStrictlySortedBy id_cmp (map (λ (m : PackMark). m.pack) (marks_on r packs))
+  clears_rise packs =
+      subst (λ (ids : List Id). IsStrictlySortedBy id_cmp ids) (sym (packs_are (entries (retain_keys r.marks (is_in packs)))))
+      (keys_in_order id_cmp (retain_keys r.marks (is_in packs)))
+
+  all_marked : (packs : List Id) → All (λ (m : PackMark). get r.marks m.pack ≡ Some m.mark) (marks_on r packs)
+  all_marked packs =
+      All-from_recursion (λ (m : PackMark). get r.marks m.pack ≡ Some m.mark) (marks_on r packs)
+      (All-of_map (λ (m : PackMark). get r.marks m.pack ≡ Some m.mark) pack_mark (entries (retain_keys r.marks (is_in packs)))
+      (retained_there id_total id_exact r.marks (is_in packs)))
+
+  -- ---- the whole
+
+  no_file : (name : FileName) → is_there r name ≡ false → get r.files name ≡ None
+  no_file name h = cases (get r.files name) h where
+    cases : (o : Option (List ℕ)) → is_some o ≡ false → o ≡ None
+    cases None h = refl
+    cases (Some bytes) h = cc h
+
+  some_file : (name : FileName) → is_there r name ≡ true → IsSome (get r.files name)
+  some_file name h = h
+
+  no_mark : (pack : Id) → is_unmarked r pack ≡ true → get r.marks pack ≡ None
+  no_mark pack h = cases (get r.marks pack) h where
+    cases : (o : Option Mark) → is_none o ≡ true → o ≡ None
+    cases None h = refl
+    cases (Some mark) h = cc h
+
+  all_present : (names : List FileName) → AllByRecursion (λ name. is_there r name ≡ true) names → All (λ name. IsSome (get r.files name)) (in_order name_cmp names)
+  all_present names h =
+      All-from_recursion (λ name. IsSome (get r.files name)) (in_order name_cmp names)
+      (each_so (λ name. is_there r name ≡ true) (λ name. IsSome (get r.files name)) some_file (in_order name_cmp names)
+      (All-in_order name_total name_exact (λ name. is_there r name ≡ true) names h))
+
+  all_unmarked : (packs : List Id) → AllByRecursion (λ pack. is_unmarked r pack ≡ true) packs → All (λ pack. get r.marks pack ≡ None) (in_order id_cmp packs)
+  all_unmarked packs h =
+      All-from_recursion (λ pack. get r.marks pack ≡ None) (in_order id_cmp packs)
+      (each_so (λ pack. is_unmarked r pack ≡ true) (λ pack. get r.marks pack ≡ None) no_mark (in_order id_cmp packs)
+      (All-in_order id_total id_exact (λ pack. is_unmarked r pack ≡ true) packs h))
+
+  -- what all built files are the added ones are
+  each_so_absent : (P : NamedBytes → Type 0) (built : List NamedBytes) → AllByRecursion P built → AllByRecursion (λ (e : FileName × NamedBytes). P e.1) (absent_of r built)
+  each_so_absent P [] h = tt
+  each_so_absent P (file ∷ files) h = cases (each_so_absent P files h.1) (is_there r file.name) where
+    cases : AllByRecursion (λ (e : FileName × NamedBytes). P e.1) (absent_of r files) → (b : Bool)
+        → AllByRecursion (λ (e : FileName × NamedBytes). P e.1) (map under_name (cond (not b) (file ∷ filter (λ (f : NamedBytes). not (is_there r f.name)) files) (filter (λ (f : NamedBytes). not (is_there r f.name)) files)))
+    cases later true = later
+    cases later false = (h.0, later)
+
+  pub added_so : (P : NamedBytes → Type 0) (built : List NamedBytes) → AllByRecursion P built → AllByRecursion P (absent_files r built)
+  added_so P built h =
+      All-of_map P (λ (e : FileName × NamedBytes). e.1) (entries (from_entries {R = name_cmp} (absent_of r built)))
+      (All-entries name_total name_exact (λ (e : FileName × NamedBytes). P e.1) (absent_of r built) (each_so_absent P built h))
+
+  pub settled_made : (used : List BlobId) (built : List NamedBytes) → AreNamedByBytes built → CanBeMade r (settled r used built)
+  unfolding settled
+  settled_made used built h = record {
+    adds_in_order = adds_rise built h;
+    clears_in_order = clears_rise (packs_among built);
+    present_in_order = keys_in_order name_cmp (from_entries {R = name_cmp} (map keyed (reused_files r used ++ names_there r built)));
+    unmarked_in_order = keys_in_order id_cmp (from_entries {R = id_cmp} (map keyed (reused_packs r used ++ unmarked_of r (packs_among built))));
+    named = all_adds (λ f. f.name.id.0 ≡ sha256 f.bytes) (λ e new. new.named) built h;
+    adds = all_adds (λ f. get r.files f.name ≡ None) (λ e new. no_file e.1.name new.absent) built h;
+    clears = all_marked (packs_among built);
+    present = all_present (reused_files r used ++ names_there r built)
+        (All-append (λ name. is_there r name ≡ true) (reused_files r used) (names_there r built) (reused_there r used) (filter_passes (is_there r) (file_names built)));
+    unmarked = all_unmarked (reused_packs r used ++ unmarked_of r (packs_among built))
+        (All-append (λ pack. is_unmarked r pack ≡ true) (reused_packs r used) (unmarked_of r (packs_among built)) (reused_free r used) (filter_passes (is_unmarked r) (packs_among built)));
+  }

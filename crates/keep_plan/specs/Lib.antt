@@ -1,0 +1,5 @@
+pub mod Files
+pub mod Marks
+pub mod Refusal
+pub mod Reuse
+pub mod Settling

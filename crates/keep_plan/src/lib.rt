@@ -1,0 +1,19 @@
+//! What all planners share: why they refuse, and what becomes of files that they build and of blobs that they use
+//! where they are.
+#![tactic(auto)]
+
+mod laws;
+mod plan_error;
+mod reuses;
+mod settling;
+mod stored;
+#[cfg(test)]
+mod tests;
+mod unreached;
+
+pub use laws::{each_use_is_recorded, refusals_keep_their_words, what_is_settled_can_be_made};
+pub use plan_error::PlanError;
+pub use reuses::Reuses;
+pub use settling::settle_files;
+pub use stored::{Stored, settle};
+pub use unreached::Unreached;

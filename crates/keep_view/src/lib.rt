@@ -1,0 +1,9 @@
+//! A view: a repository at a moment of its history, as planners and readers are shown it.
+#![tactic(auto)]
+
+mod known;
+#[cfg(test)]
+mod tests;
+mod view;
+
+pub use view::View;
