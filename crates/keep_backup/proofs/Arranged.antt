@@ -13,7 +13,7 @@ use Rattle.std.specs.List.{AllByRecursion, list_all, list_any, slice_split}
 use Rattle.std.specs.Ordering.{eq_by_cmp}
 use Rattle.keep_docs.specs.Lists.{each}
 use Rattle.keep_tree.specs.Names.{is_name}
-use Rattle.keep_tree.proofs.Answered.{none_from_err}
+use Rattle.keep_docs.proofs.Answered.{none_from_err}
 use Rattle.keep_backup.specs.Paths.{AreNamed, FileData, Path, StandInOrder, any_clash, by_path, components_of, given_file, files_in_order, is_slash, path_cmp, path_of, stands_before, without_clash}
 use Rattle.keep_plan.specs.declared.plan_error.PlanError.{PlanError}
 use Rattle.keep_plan.specs.declared.plan_error.PlanError.TheVariants.{BadPath, SamePathTwice}

@@ -18,13 +18,14 @@ use Rattle.keep_change.proofs.Apart.{sorted_lists_are_well_formed_lem}
 use Rattle.keep_change.proofs.Asking.{what_is_asked_is_met_lem}
 use Rattle.keep_change.specs.Change.{Written, added, is_met}
 use Rattle.keep_change.specs.Form.{AreNamedByBytes, IsWellFormed}
-use Rattle.keep_change.specs.Lists.{AreApart, HasWhatIsAsked}
+use Rattle.keep_change.specs.Lists.{AreApart, HasWhatIsAsked, file_names, marked_packs}
 use Rattle.keep_change.specs.NamedBytes.{NamedBytes}
 use Rattle.keep_change.specs.declared.change.Change.{Change}
 use Rattle.keep_change.specs.declared.change.PackMark.{PackMark}
 use Rattle.keep_plan.proofs.Made.{added_so, settled_made}
+use Rattle.keep_plan.proofs.Ordered.{All-of_map, each_so}
 use Rattle.keep_plan.specs.Refusal.{unless, unread_first}
-use Rattle.keep_plan.specs.Settling.{CanBeMade, absent_files, file_names, is_there, settled}
+use Rattle.keep_plan.specs.Settling.{CanBeMade, absent_files, is_there, settled}
 use Rattle.keep_plan.specs.declared.plan_error.PlanError.{PlanError}
 use Rattle.keep_plan.specs.declared.plan_error.PlanError.TheVariants.{SnapshotThere}
 use Rattle.keep_plan.specs.declared.stored.Stored.{Stored}
@@ -90,18 +91,6 @@ names_push : (files : List NamedBytes) (file : NamedBytes) → file_names (files
 names_push [] file = refl
 names_push (f ∷ fs) file = ap (λ (names : List FileName). f.name ∷ names) (names_push fs file)
 
-names_so : (P : FileName → Type 0) (files : List NamedBytes) → AllByRecursion (λ (f : NamedBytes). P f.name) files → AllByRecursion P (file_names files)
-names_so P [] h = tt
-names_so P (f ∷ fs) h = (h.0, names_so P fs h.1)
-
-packs_so_of : (P : Id → Type 0) (marks : List PackMark) → AllByRecursion (λ (m : PackMark). P m.pack) marks → AllByRecursion P (map (λ (m : PackMark). m.pack) marks)
-packs_so_of P [] h = tt
-packs_so_of P (m ∷ ms) h = (h.0, packs_so_of P ms h.1)
-
-weaker : {X : Type 0} (P Q : X → Type 0) → ((x : X) → P x → Q x) → (xs : List X) → AllByRecursion P xs → AllByRecursion Q xs
-weaker P Q so [] h = tt
-weaker P Q so (x ∷ xs) h = (so x h.0, weaker P Q so xs h.1)
-
 -- two lists of which different things hold are apart
 module _ {K : Type 0} {R : K → K → Ordering} (exact : IsAntisymmetric R) where
   found_so : (P : K → Type 0) (k : K) (ks : List K) → AllByRecursion P ks → list_any (eq_by_cmp R k) ks ≡ true → P k
@@ -153,12 +142,12 @@ module _ (r : Repository) (stored : Stored) (snapshot : NamedBytes) (can : CanBe
   all_adds = All-push (λ (f : NamedBytes). IsAbsent f.name) stored.adds snapshot can.adds new
 
   add_names : AllByRecursion IsAbsent (file_names (stored.adds ++ snapshot ∷ []))
-  add_names = names_so IsAbsent (stored.adds ++ snapshot ∷ []) (recursion_from_All (λ (f : NamedBytes). IsAbsent f.name) (stored.adds ++ snapshot ∷ []) all_adds)
+  add_names = All-of_map IsAbsent (λ (f : NamedBytes). f.name) (stored.adds ++ snapshot ∷ []) (recursion_from_All (λ (f : NamedBytes). IsAbsent f.name) (stored.adds ++ snapshot ∷ []) all_adds)
 
-  clear_packs : AllByRecursion HasMark (map (λ (m : PackMark). m.pack) stored.clears)
+  clear_packs : AllByRecursion HasMark (marked_packs stored.clears)
   clear_packs =
-      packs_so_of HasMark stored.clears
-      (weaker (λ (m : PackMark). get r.marks m.pack ≡ Some m.mark) (λ (m : PackMark). HasMark m.pack) (λ m h. is_some_of (get r.marks m.pack) m.mark h) stored.clears
+      All-of_map HasMark (λ (m : PackMark). m.pack) stored.clears
+      (each_so (λ (m : PackMark). get r.marks m.pack ≡ Some m.mark) (λ (m : PackMark). HasMark m.pack) (λ m h. is_some_of (get r.marks m.pack) m.mark h) stored.clears
       (recursion_from_All (λ (m : PackMark). get r.marks m.pack ≡ Some m.mark) stored.clears can.clears))
 
   well_formed_so : IsWellFormed (change_of stored snapshot)
@@ -166,7 +155,7 @@ module _ (r : Repository) (stored : Stored) (snapshot : NamedBytes) (can : CanBe
       sorted_lists_are_well_formed_lem (change_of stored snapshot)
       (record {
         adds = subst (λ (names : List FileName). IsStrictlySortedBy name_cmp names) (sym (names_push stored.adds snapshot))
-            (sorted_push name_cmp (file_names stored.adds) snapshot.name can.adds_in_order (names_so (λ name. name_cmp name snapshot.name ≡ Less) stored.adds below));
+            (sorted_push name_cmp (file_names stored.adds) snapshot.name can.adds_in_order (All-of_map (λ name. name_cmp name snapshot.name ≡ Less) (λ (f : NamedBytes). f.name) stored.adds below));
         drops = none_sorted _;
         sets = none_sorted _;
         clears = can.clears_in_order;
@@ -188,7 +177,7 @@ module _ (r : Repository) (stored : Stored) (snapshot : NamedBytes) (can : CanBe
         sets_marked = λ k h. refl;
         sets_unmarked = λ k h. (cc h);
         clears_marked = λ k h. refl;
-        clears_unmarked = apart_so id_exact HasMark HasNone (map (λ (m : PackMark). m.pack) stored.clears) stored.unmarked (λ pack. marked_unmarked (get r.marks pack)) clear_packs (recursion_from_All HasNone stored.unmarked can.unmarked);
+        clears_unmarked = apart_so id_exact HasMark HasNone (marked_packs stored.clears) stored.unmarked (λ pack. marked_unmarked (get r.marks pack)) clear_packs (recursion_from_All HasNone stored.unmarked can.unmarked);
         marked_unmarked = λ k h. (cc h);
       })
       (All-push IsOwn stored.adds snapshot can.named own)

@@ -4,6 +4,7 @@ use Rattle.std.specs.List.{AllByRecursion, flat_map}
 use Rattle.std.proofs.lemmas.Bool.Decides.{nat_tests}
 use Rattle.std.proofs.lemmas.List.Elements.{All-from_recursion}
 use Rattle.std.proofs.lemmas.List.Sums.{sum_by-cons}
+use Rattle.keep_plan.proofs.Ordered.{each_so}
 use Rattle.keep_backup.specs.Blobs.{BlobData}
 use Rattle.keep_backup.specs.Packs.{AreCut, bytes_in, full_pack, packs_from, packs_of, put_before}
 
@@ -104,10 +105,6 @@ some_is (b ∷ bs) some none =
     let count : length (b ∷ bs) ≡ 0 = ap length none in
     absurd (omega arith)
 
-weaker : {P Q : Packed → Type 0} (packs : List Packed) → ((pack : Packed) → P pack → Q pack) → AllByRecursion P packs → AllByRecursion Q packs
-weaker [] then all = tt
-weaker (p ∷ ps) then all = (then p all.0, weaker ps then all.1)
-
 pub are_cut : (blobs : Packed) → AreCut blobs (packs_of blobs)
 unfolding packs_of
 are_cut blobs =
@@ -115,7 +112,7 @@ are_cut blobs =
     let fine_all : AreFine full_pack packs = fine full_pack blobs (omega arith) in
     record {
       joined = joined full_pack blobs;
-      some = All-from_recursion (λ (pack : Packed). pack ≢ []) packs (weaker packs (λ pack cut. some_is pack cut.some) (each_cut packs fine_all));
-      fronts = All-from_recursion (IsFront full_pack) packs (weaker packs (λ pack cut. cut.fronts) (each_cut packs fine_all));
+      some = All-from_recursion (λ (pack : Packed). pack ≢ []) packs (each_so (IsCutPack full_pack) (λ (pack : Packed). pack ≢ []) (λ pack cut. some_is pack cut.some) packs (each_cut packs fine_all));
+      fronts = All-from_recursion (IsFront full_pack) packs (each_so (IsCutPack full_pack) (IsFront full_pack) (λ pack cut. cut.fronts) packs (each_cut packs fine_all));
       full = All-from_recursion (λ (pack : Packed). full_pack ≤ bytes_in pack) (take (length packs - 1) packs) (but_last packs fine_all);
     }

@@ -1,13 +1,16 @@
 -- Files in order, and the folder that they come to: those of the first name, and then the others.
-use Rattle.std.proofs.Common.{◌≡◌, ℕ, zero, suc, Bool, true, false, cond, List, [], ◌∷◌, ◌++◌, length, map, filter_map, drop, slice_get, Option, Some, None, option_map, Ordering, Less, Equal, Greater, bytes_eq, nat_cmp, refl, sym, ap, ap₂, subst, ◌∙◌, append-nil, arith}
-use Rattle.std.proofs.lemmas.List.{nil_from_length}
+use Rattle.std.proofs.Common.{◌≡◌, ℕ, zero, suc, Bool, true, false, cond, List, [], ◌∷◌, ◌++◌, length, map, filter_map, drop, slice_get, Option, Some, None, Ordering, Less, Equal, bytes_eq, nat_cmp, refl, sym, ap, ap₂, subst, ◌∙◌, append-nil, arith}
+use Rattle.std.proofs.lemmas.List.{map-append}
 use Rattle.std.proofs.lemmas.List.Elements.{filter_map-append}
 use Rattle.std.proofs.lemmas.Slice.Eq.{bytes_eq-Decides}
 use Rattle.std.specs.Cmp.{tied_itself}
 use Rattle.std.specs.Cmp.Lexicographic.{nat_list_cmp_total, slice_cmp}
-use Rattle.std.specs.FinMap.{empty, entries, entries-insert, from_entries, keys, len-empty, len-entries, nat_cmp-IsAntisymmetric, put, slice_cmp-IsAntisymmetric}
+use Rattle.std.specs.FinMap.{entries, entries-insert, from_entries, keys, nat_cmp-IsAntisymmetric, put, slice_cmp-IsAntisymmetric}
 use Rattle.std.specs.FinMap.Entries.{by_order}
 use Rattle.std.specs.List.{AllByRecursion, cons_option}
+use Rattle.keep_catalog.specs.Ordered.{keyed}
+use Rattle.keep_plan.proofs.Ordered.{All-entries}
+use Rattle.keep_repo.proofs.Maps.{no_entries}
 use Rattle.keep_backup.specs.Folders.{Folder, no_nodes, first_name, first_names, folder_at, node_at, nodes_at, seen_from}
 use Rattle.keep_backup.specs.Paths.{FileData, path_of}
 use Rattle.keep_backup.specs.Walk.{blobs_below, nodes_of}
@@ -30,16 +33,6 @@ abbrev After : Name → Key → Type 0
 After x e = name_cmp x e.0 ≡ Less
 
 module _ (x : Name) where
-  put_by : (o : Ordering) (k : Key) (e : Key) (es rest : List Key) → After x k → After x e → AllByRecursion (After x) es → AllByRecursion (After x) rest
-      → AllByRecursion (After x) (by_order o (k ∷ e ∷ es) ((e.0, k.1) ∷ es) (e ∷ rest))
-  put_by Less k e es rest new here all later = (new, (here, all))
-  put_by Equal k e es rest new here all later = (here, all)
-  put_by Greater k e es rest new here all later = (here, later)
-
-  put_after : (k : Key) (es : List Key) → After x k → AllByRecursion (After x) es → AllByRecursion (After x) (put name_cmp k.0 k.1 es)
-  put_after k [] new all = (new, tt)
-  put_after k (e ∷ es) new all = put_by (name_cmp k.0 e.0) k e es (put name_cmp k.0 k.1 es) new all.0 all.1 (put_after k es new all.1)
-
   put_least : (v : Unit {0}) (es : List Key) → AllByRecursion (After x) es → put name_cmp x v es ≡ (x, v) ∷ es
   put_least v [] all = refl
   put_least v (e ∷ es) all = ap (λ o. by_order o ((x, v) ∷ e ∷ es) ((e.0, v) ∷ es) (e ∷ put name_cmp x v es)) all.0
@@ -56,14 +49,8 @@ module _ (x : Name) where
       head_of : (a b : Name) (xs ys : List Name) → a ∷ xs ≡ b ∷ ys → a ≡ b
       head_of a b xs ys e = cc
 
-no_entries : entries (empty {X = Unit {0}} {R = name_cmp}) ≡ []
-no_entries = nil_from_length _ (sym (len-entries empty) ∙ len-empty name_cmp (Unit {0}))
-
 after_entries : (x : Name) (es : List Key) → AllByRecursion (After x) es → AllByRecursion (After x) (entries (from_entries {R = name_cmp} es))
-after_entries x [] all = subst (AllByRecursion (After x)) (sym no_entries) tt
-after_entries x (e ∷ es) all =
-    subst (AllByRecursion (After x)) (sym (entries-insert nat_list_cmp_total (from_entries es) e.0 e.1))
-    (put_after x e (entries (from_entries es)) all.0 (after_entries x es all.1))
+after_entries x = All-entries nat_list_cmp_total same_name (After x)
 
 keys_grouped : (x : Name) (e : Key) (es ls : List Key) → e.0 ≡ x → AllByRecursion (λ k. k.0 ≡ x) es → AllByRecursion (After x) ls → keys (from_entries {R = name_cmp} ((e ∷ es) ++ ls)) ≡ x ∷ keys (from_entries {R = name_cmp} ls)
 keys_grouped x e [] ls here all later =
@@ -85,31 +72,33 @@ pub record BeginsAfter (x : Name) (file : FileData) : Type 0 where
   pub begins : Begins name file
   pub after : name_cmp x name ≡ Less
 
-names_begin : (x : Name) (fs : List FileData) → AllByRecursion (Begins x) fs → AllByRecursion (λ k. k.0 ≡ x) (filter_map first_name fs)
+names_begin : (x : Name) (fs : List FileData) → AllByRecursion (Begins x) fs → AllByRecursion (λ k. k.0 ≡ x) (map keyed (filter_map first_name fs))
 names_begin x [] all = tt
 names_begin x (f ∷ fs) all =
-    let K : Option Name → Type 0 = λ o. AllByRecursion (λ k. k.0 ≡ x) (cons_option (option_map (λ name. (name, tt)) o) (filter_map first_name fs)) in
+    let K : Option Name → Type 0 = λ o. AllByRecursion (λ k. k.0 ≡ x) (map keyed (cons_option o (filter_map first_name fs))) in
     subst K (sym all.0) (refl, names_begin x fs all.1)
 
-names_after : (x : Name) (fs : List FileData) → AllByRecursion (BeginsAfter x) fs → AllByRecursion (After x) (filter_map first_name fs)
+names_after : (x : Name) (fs : List FileData) → AllByRecursion (BeginsAfter x) fs → AllByRecursion (After x) (map keyed (filter_map first_name fs))
 names_after x [] all = tt
 names_after x (f ∷ fs) all =
-    let K : Option Name → Type 0 = λ o. AllByRecursion (After x) (cons_option (option_map (λ name. (name, tt)) o) (filter_map first_name fs)) in
+    let K : Option Name → Type 0 = λ o. AllByRecursion (After x) (map keyed (cons_option o (filter_map first_name fs))) in
     subst K (sym (all.0).begins) ((all.0).after, names_after x fs all.1)
 
-first_entry : (x : Name) (f : FileData) (fs : List FileData) → Begins x f → filter_map first_name (f ∷ fs) ≡ (x, tt) ∷ filter_map first_name fs
-first_entry x f fs is = ap (λ o. cons_option (option_map (λ name. (name, tt)) o) (filter_map first_name fs)) is
+first_entry : (x : Name) (f : FileData) (fs : List FileData) → Begins x f → map keyed (filter_map first_name (f ∷ fs)) ≡ (x, tt) ∷ map keyed (filter_map first_name fs)
+first_entry x f fs is = ap (λ o. map keyed (cons_option o (filter_map first_name fs))) is
 
 module _ (x : Name) where
   names_grouped : (g : FileData) (gs hs : List FileData) → AllByRecursion (Begins x) (g ∷ gs) → AllByRecursion (BeginsAfter x) hs → first_names ((g ∷ gs) ++ hs) ≡ x ∷ first_names hs
   unfolding first_names
   names_grouped g gs hs begin after =
-      ap (λ es. keys (from_entries {R = name_cmp} es)) (filter_map-append first_name (g ∷ gs) hs ∙ ap (λ es. es ++ filter_map first_name hs) (first_entry x g gs begin.0))
-      ∙ keys_grouped x (x, tt) (filter_map first_name gs) (filter_map first_name hs) refl (names_begin x gs begin.1) (names_after x hs after)
+      ap (λ es. keys (from_entries {R = name_cmp} es)) (ap (map keyed) (filter_map-append first_name (g ∷ gs) hs)
+      ∙ map-append keyed (filter_map first_name (g ∷ gs)) (filter_map first_name hs)
+      ∙ ap (λ es. es ++ map keyed (filter_map first_name hs)) (first_entry x g gs begin.0))
+      ∙ keys_grouped x (x, tt) (map keyed (filter_map first_name gs)) (map keyed (filter_map first_name hs)) refl (names_begin x gs begin.1) (names_after x hs after)
 
   names_stay : (hs : List FileData) → AllByRecursion (BeginsAfter x) hs → AllByRecursion (λ y. name_cmp x y ≡ Less) (first_names hs)
   unfolding first_names
-  names_stay hs after = of_keys (entries (from_entries {R = name_cmp} (filter_map first_name hs))) (after_entries x (filter_map first_name hs) (names_after x hs after)) where
+  names_stay hs after = of_keys (entries (from_entries {R = name_cmp} (map keyed (filter_map first_name hs)))) (after_entries x (map keyed (filter_map first_name hs)) (names_after x hs after)) where
     of_keys : (es : List Key) → AllByRecursion (After x) es → AllByRecursion (λ y. name_cmp x y ≡ Less) (map (λ e. e.0) es)
     of_keys [] all = tt
     of_keys (e ∷ es) all = (all.0, of_keys es all.1)
@@ -127,7 +116,7 @@ other_name x y less = (not_so (bytes_eq y x) (λ e. clash (sym ((bytes_eq-Decide
   not_so true h = absurd (h refl)
   not_so false h = refl
 
-itself : (x : Name) → bytes_eq x x ≡ true
+pub itself : (x : Name) → bytes_eq x x ≡ true
 itself x = (bytes_eq-Decides x x).1 refl
 
 module _ (x : Name) where
@@ -190,7 +179,7 @@ grouped levels x g gs hs begin after =
 
 no_names : first_names [] ≡ []
 unfolding first_names
-no_names = ap (map (λ e. e.0)) no_entries
+no_names = ap (map (λ e. e.0)) (no_entries name_cmp)
 
 pub no_files : (levels : ℕ) → folder_at levels [] ≡ no_nodes
 no_files zero = refl

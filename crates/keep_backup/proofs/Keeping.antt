@@ -5,6 +5,7 @@ use Rattle.std.specs.BTreeSet.{BTreeSet, contains}
 use Rattle.std.specs.Cmp.{eq_by_cmp_equiv}
 use Rattle.std.specs.Global.{Vec}
 use Rattle.std.specs.List.{list_any}
+use Rattle.std.proofs.Math.Bool.{or-false, or-true}
 use Rattle.std.proofs.lemmas.List.{map-append}
 use Rattle.std.proofs.lemmas.List.Elements.{All-nil, All-push, All-same}
 use Rattle.std.proofs.lemmas.List.Folds.{list_any-append}
@@ -22,6 +23,7 @@ use Rattle.keep_catalog.specs.Places.{chosen_listing, reuse_of}
 use Rattle.keep_catalog.specs.declared.spot.Spot.{Spot}
 use Rattle.keep_plan.specs.Reuse.{RestOn}
 use Rattle.keep_plan.specs.declared.reuses.Reuses.{Reuses}
+use Rattle.keep_plan.proofs.Sets.{or_swap}
 use Rattle.keep_plan.proofs.Used.{none_more_used}
 use Rattle.keep_backup.specs.Blobs.{BlobData, blob_id_of, is_full, is_new, is_tree_type, names_once, new_of}
 use Rattle.keep_backup.specs.Storing.{AreKept, Keeps, Text, blob_view, text_bytes}
@@ -45,20 +47,6 @@ one_kept blobs kept one b view own are = record {
   blobs_are = map-append blob_view kept (one ∷ []) ∙ (λ i. are.blobs_are i ++ view i ∷ []);
   ids_are = All-push (HasOwnId text_bytes) kept one are.ids_are own;
 }
-
-or_false : (a : Bool) → a ≡ (a || (false || false))
-or_false true = refl
-or_false false = refl
-
-or_true : (a : Bool) → (a || (true || false)) ≡ true
-or_true true = refl
-or_true false = refl
-
-or_swap : (k a : Bool) → cond k true a ≡ (a || (k || false))
-or_swap true true = refl
-or_swap true false = refl
-or_swap false true = refl
-or_swap false false = refl
 
 -- a test of one more
 list_any-more : {X : Type 0} (test : X → Bool) (xs : List X) (x : X) → list_any test (xs ++ x ∷ []) ≡ (list_any test xs || (test x || false))
@@ -87,9 +75,9 @@ module _ (r : Repository) (offered : List BlobData) (b : BlobData) (s : Storing)
     same_seen : (q : BlobId) (t : Bool) → blob_eq q (blob_id_of b) ≡ t → list_any (blob_eq q) (map blob_id_of offered) ≡ (list_any (blob_eq q) (map blob_id_of offered) || (blob_eq q (blob_id_of b) || false))
     same_seen q true same =
         ap (λ x. list_any (blob_eq x) (map blob_id_of offered)) (tells_apart blob_exact q (blob_id_of b) same) ∙ seen
-        ∙ sym (or_true (list_any (blob_eq q) (map blob_id_of offered)))
+        ∙ sym (or-true (list_any (blob_eq q) (map blob_id_of offered)))
         ∙ ap (λ t. list_any (blob_eq q) (map blob_id_of offered) || (t || false)) (sym same)
-    same_seen q false other = or_false _ ∙ ap (λ t. list_any (blob_eq q) (map blob_id_of offered) || (t || false)) (sym other)
+    same_seen q false other = sym (or-false (list_any (blob_eq q) (map blob_id_of offered))) ∙ ap (λ t. list_any (blob_eq q) (map blob_id_of offered) || (t || false)) (sym other)
 
   module _ (seen' : BTreeSet BlobId) (before : contains blob_cmp s.seen name ≡ false)
       (put : (q : BlobId) → contains blob_cmp seen' q ≡ cond (is_at (blob_cmp name) q) true (contains blob_cmp s.seen q)) where

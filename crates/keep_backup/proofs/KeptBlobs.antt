@@ -20,14 +20,6 @@ use Rattle.keep_backup.specs.Packs.{packs_of}
 use Rattle.keep_backup.specs.Stored.{built, stored_of}
 use Rattle.keep_backup.proofs.Cut.{are_cut}
 
-or_first : (a b : Bool) → a ≡ true → (a || b) ≡ true
-or_first true b h = refl
-or_first false b h = cc h
-
-or_second : (a b : Bool) → b ≡ true → (a || b) ≡ true
-or_second true b h = refl
-or_second false b h = h
-
 module _ (name : BlobId) where
   abbrev is_it : BlobData → Bool
   is_it b = blob_eq name (blob_id_of b)

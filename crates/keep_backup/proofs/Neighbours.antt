@@ -5,11 +5,9 @@ use Rattle.std.specs.Cmp.{tied_itself}
 use Rattle.std.specs.Cmp.Lexicographic.{nat_list_cmp_total}
 use Rattle.std.specs.List.{AllByRecursion, list_any}
 use Rattle.std.specs.Ordering.{match_ordering, ordering_reverse, ordering_then}
+use Rattle.keep_plan.proofs.Ordered.{each_so}
 use Rattle.keep_backup.specs.Paths.{Path, StandInOrder, any_clash, do_clash, is_front, path_cmp, stands_before}
 use Rattle.keep_backup.proofs.Groups.{Name, name_cmp, same_name}
-
-itself : (x : Name) → bytes_eq x x ≡ true
-itself x = (bytes_eq-Decides x x).1 refl
 
 both : (a b : Bool) → a ≡ true → b ≡ true → (a && b) ≡ true
 both a b e f = ap₂ (λ x y. x && y) e f
@@ -97,10 +95,6 @@ stands_from_sorted (x ∷ p) (y ∷ q) h g = before_by x y p q (name_cmp y x) re
 
 -- ---- lists of paths
 
-weaker : (P Q : Path → Type 0) → ((p : Path) → P p → Q p) → (ps : List Path) → AllByRecursion P ps → AllByRecursion Q ps
-weaker P Q h [] all = tt
-weaker P Q h (p ∷ ps) all = (h p all.0, weaker P Q h ps all.1)
-
 -- each neighbour before the next
 abbrev pub StepsUp : List Path → Type 0
 StepsUp [] = Unit {0}
@@ -112,7 +106,7 @@ in_order_from_steps [] h = tt
 in_order_from_steps (p ∷ []) h = (tt, tt)
 in_order_from_steps (p ∷ q ∷ ps) h =
     let rest : StandInOrder (q ∷ ps) = in_order_from_steps (q ∷ ps) h.1 in
-    ((h.0, weaker (λ r. stands_before q r ≡ true) (λ r. stands_before p r ≡ true) (λ r g. before_through p q r h.0 g) ps rest.0), rest)
+    ((h.0, each_so (λ r. stands_before q r ≡ true) (λ r. stands_before p r ≡ true) (λ r g. before_through p q r h.0 g) ps rest.0), rest)
 
 none_clash : (p : Path) (ps : List Path) → AllByRecursion (λ q. stands_before p q ≡ true) ps → list_any (do_clash p) ps ≡ false
 none_clash p [] all = refl

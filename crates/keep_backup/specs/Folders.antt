@@ -1,10 +1,10 @@
 -- The tree of paths, as a value.
-use Rattle.std.specs.Prelude.{ℕ, zero, suc, List, [], ◌∷◌, Option, None, Some, option_map, slice_get, if◌then◌else◌}
+use Rattle.std.specs.Prelude.{ℕ, zero, suc, List, [], ◌∷◌, Option, None, Some, slice_get, if◌then◌else◌}
 use Rattle.std.specs.Cmp.Lexicographic.{slice_cmp}
-use Rattle.std.specs.FinMap.{from_entries, keys}
 use Rattle.std.specs.List.{filter_map}
 use Rattle.std.specs.Ordering.{nat_cmp}
 use Rattle.std.specs.Str.{bytes_eq}
+use Rattle.keep_catalog.specs.Ordered.{in_order}
 use Rattle.keep_catalog.specs.Reach.{most_levels}
 use Rattle.keep_backup.specs.Paths.{FileData, path_of}
 
@@ -14,13 +14,13 @@ pub data Folder : Type 0 where
   file_node : List ℕ → List ℕ → Folder → Folder
   folder_node : List ℕ → Folder → Folder → Folder
 
--- the first name of a path, as a key
-abbrev pub first_name : FileData → Option (List ℕ × Unit {0})
-first_name file = option_map (λ name. (name, tt)) (slice_get (path_of file) 0)
+-- the first name of a path
+abbrev pub first_name : FileData → Option (List ℕ)
+first_name file = slice_get (path_of file) 0
 
 -- the first names of the paths, once each, in byte order
 unfoldable pub first_names : List FileData → List (List ℕ)
-first_names files = keys (from_entries {R = slice_cmp nat_cmp} (filter_map first_name files))
+first_names files = in_order (slice_cmp nat_cmp) (filter_map first_name files)
 
 -- the file as it is seen from the folder of this name, if its path goes through that
 abbrev pub seen_from : List ℕ → FileData → Option FileData

@@ -1,5 +1,6 @@
 -- What a loop over a list has gathered, one turn later.
-use Rattle.std.proofs.Common.{◌≡◌, ℕ, ◌+◌, ◌<◌, Bool, true, false, ◌||◌, cond, List, [], ◌∷◌, ◌++◌, map, take, length, get_or, Option, None, Some, option_to_list, refl, sym, ap, ◌∙◌}
+use Rattle.std.proofs.Common.{◌≡◌, ℕ, ◌+◌, ◌<◌, Bool, true, false, ◌||◌, cond, List, [], ◌∷◌, ◌++◌, map, take, length, get_or, Option, None, Some, option_map, option_to_list, refl, sym, ap, ◌∙◌}
+use Rattle.std.proofs.Math.Bool.{or-false}
 use Rattle.std.proofs.lemmas.List.{append_assoc, append-nil, map-append, map_more, take_more}
 use Rattle.std.proofs.lemmas.List.Elements.{filter_map-append}
 use Rattle.std.proofs.lemmas.List.Folds.{list_any-append}
@@ -8,7 +9,6 @@ use Rattle.std.specs.Cmp.{eq_by_cmp_equiv}
 use Rattle.std.specs.FinMap.{find}
 use Rattle.std.specs.List.{cons_option, filter_map, flat_map, list_any}
 use Rattle.std.specs.Option.{option_or}
-use Rattle.std.specs.Ordering.{eq_by_cmp}
 use Rattle.keep_names.specs.declared.blob.BlobId.{BlobId}
 use Rattle.keep_names.specs.declared.blob.BlobType.TheVariants.{Content}
 use Rattle.keep_names.specs.declared.id.Id.{Id}
@@ -21,6 +21,7 @@ use Rattle.keep_catalog.specs.Orders.{spot_cmp, packed_blob_eq}
 use Rattle.keep_catalog.specs.Places.{candidate, is_among, listed_in, listed_of, packed_of, listings_of, stored_in}
 use Rattle.keep_catalog.specs.declared.spot.PackedBlob.{PackedBlob}
 use Rattle.keep_catalog.specs.declared.spot.Spot.{Spot}
+use Rattle.keep_catalog.proofs.Ordered.{find_append}
 use Rattle.keep_catalog.proofs.SpotOrders.{packed_blob_total}
 
 module _ {X : Type 0} (xs : List X) (i : ℕ) (x d : X) (lt : i < length xs) (is : x ≡ get_or xs i d) where
@@ -49,6 +50,11 @@ module _ {X : Type 0} (xs : List X) (i : ℕ) (x d : X) (lt : i < length xs) (is
       step ∙ ap (λ ys. ys ++ option_to_list (h x)) so ∙ append_assoc before _ _
       ∙ ap (λ ys. before ++ ys) (sym (filter_map_taken h))
 
+-- what was found, if something was, is mapped as the rest is
+pub map-found : {X Y : Type 0} (f : X → Y) (xs : List X) (found : Option X) → map f (xs ++ option_to_list found) ≡ map f xs ++ option_to_list (option_map f found)
+map-found f xs None = map-append f xs []
+map-found f xs (Some x) = map-append f xs (x ∷ [])
+
 put_last : (k a b : Bool) → cond k true (a || b) ≡ (a || (b || (k || false)))
 put_last true true b = refl
 put_last true false true = refl
@@ -56,10 +62,6 @@ put_last true false false = refl
 put_last false true b = refl
 put_last false false true = refl
 put_last false false false = refl
-
-or_assoc : (a b c : Bool) → (a || b || c) ≡ (a || (b || c))
-or_assoc true b c = refl
-or_assoc false b c = refl
 
 -- a set of places that takes one more
 pub one_stored : (before now later : Bool) (places : List PackedBlob) (p q : PackedBlob) → now ≡ (before || is_among places q) → later ≡ cond (packed_blob_eq p q) true now → later ≡ (before || is_among (places ++ p ∷ []) q)
@@ -78,23 +80,13 @@ or_or : {A : Type 0} (a b c : Option A) → option_or (option_or a b) c ≡ opti
 or_or None b c = refl
 or_or (Some x) b c = refl
 
-first_or : {A : Type 0} (b : Bool) (x : A) (a c : Option A) → cond b (Some x) (option_or a c) ≡ option_or (cond b (Some x) a) c
-first_or true x a c = refl
-first_or false x a c = refl
-
-find_append : (q : Spot) (xs ys : List (Spot × Id)) → find spot_cmp q (xs ++ ys) ≡ option_or (find spot_cmp q xs) (find spot_cmp q ys)
-find_append q [] ys = refl
-find_append q (x ∷ xs) ys =
-    ap (cond (eq_by_cmp spot_cmp q x.0) (Some x.1)) (find_append q xs ys)
-    ∙ first_or (eq_by_cmp spot_cmp q x.0) x.1 (find spot_cmp q xs) (find spot_cmp q ys)
-
 -- the first listing of the blob at the spot
 abbrev pub found_among : (PackedBlob → Bool) → BlobId → Spot → List (PackedBlob × Id) → Option Id
 found_among stored blob spot listings = find spot_cmp spot (filter_map (candidate stored blob) listings)
 
 module _ (stored : PackedBlob → Bool) (blob : BlobId) (spot : Spot) where
   pub found-append : (xs ys : List (PackedBlob × Id)) → found_among stored blob spot (xs ++ ys) ≡ option_or (found_among stored blob spot xs) (found_among stored blob spot ys)
-  found-append xs ys = ap (find spot_cmp spot) (filter_map-append (candidate stored blob) xs ys) ∙ find_append spot _ _
+  found-append xs ys = ap (find spot_cmp spot) (filter_map-append (candidate stored blob) xs ys) ∙ find_append spot_cmp spot _ _
 
   -- listings that were gathered behind others
   pub more_listed : (before now later : Option Id) (xs ys : List (PackedBlob × Id)) → now ≡ option_or before (found_among stored blob spot xs) → later ≡ option_or now (found_among stored blob spot ys) → later ≡ option_or before (found_among stored blob spot (xs ++ ys))
@@ -151,7 +143,4 @@ no_blob = record { id = no_id; blob_type = Content }
 pub taken_any : {X : Type 0} (p : X → Bool) (xs : List X) (i : ℕ) (x d : X) → i < length xs → x ≡ get_or xs i d → list_any p (take (i + 1) xs) ≡ (list_any p (take i xs) || p x)
 taken_any p xs i x d lt is =
     ap (list_any p) (taken_more xs i x d lt is) ∙ list_any-append p (take i xs) (x ∷ [])
-    ∙ ap (λ b. list_any p (take i xs) || b) (or_false (p x)) where
-      or_false : (b : Bool) → (b || false) ≡ b
-      or_false true = refl
-      or_false false = refl
+    ∙ ap (λ b. list_any p (take i xs) || b) (or-false (p x))

@@ -1,5 +1,6 @@
 -- The names of the files of a kind: each that is there is among them, and they are in order.
-use Rattle.std.proofs.Common.{◌≡◌, ◌≢◌, Bool, true, false, ◌&&◌, ◌||◌, cond, List, [], ◌∷◌, map, filter, Some, is_some, refl, sym, ap, subst, ◌∙◌, T, Ordering, Less, Equal, Greater}
+use Rattle.std.proofs.Common.{◌≡◌, ◌≢◌, Bool, true, false, ◌||◌, cond, List, [], ◌∷◌, map, filter, Some, is_some, refl, sym, ap, subst, ◌∙◌, T, Less, Equal}
+use Rattle.std.proofs.Math.Bool.{or-true}
 use Rattle.std.proofs.lemmas.Map.Views.{tells_apart}
 use Rattle.std.specs.Cmp.{tied_itself}
 use Rattle.std.specs.FinMap as finite
@@ -17,6 +18,7 @@ use Rattle.keep_repo.specs.Repository.{Repository}
 use Rattle.keep_repo.specs.Kinds.{ids_among, kind_eq}
 use Rattle.keep_catalog.specs.Files.{file_in, ids_in}
 use Rattle.keep_catalog.specs.Orders.{same_id}
+use Rattle.keep_catalog.proofs.Ordered.{first_of_both, less, second_of_both}
 
 pub id_refl : (id : Id) → same_id id id ≡ true
 id_refl id = ap is_eq (tied_itself id_total id)
@@ -36,23 +38,6 @@ kind_same Index Snapshot h = cc h
 kind_same Snapshot Pack h = cc h
 kind_same Snapshot Index h = cc h
 kind_same Snapshot Snapshot h = refl
-
-pub or_true : (a : Bool) → (a || true) ≡ true
-or_true true = refl
-or_true false = refl
-
-pub first_of_both : (a b : Bool) → T (a && b) → T a
-first_of_both true b h = tt
-first_of_both false b h = h
-
-pub second_of_both : (a b : Bool) → T (a && b) → T b
-second_of_both true b h = h
-second_of_both false b h = absurd h
-
-pub less : (o : Ordering) → T (is_lt o) → o ≡ Less
-less Less h = refl
-less Equal h = absurd h
-less Greater h = absurd h
 
 not_less : (a b : Id) → id_cmp a b ≡ Less → id_cmp b a ≢ Less
 not_less a b h below = cc (id_total.antisymm b a ∙ ap ordering_reverse h, below)
@@ -76,7 +61,7 @@ module _ (kind : Kind) where
   ids_with b name names = map id_of_name (cond b (name ∷ filter (λ n. kind_eq n.kind kind) names) (filter (λ n. kind_eq n.kind kind) names))
 
   behind : (id : Id) (b : Bool) (name : FileName) (names : List FileName) → list_any (same_id id) (ids_among kind names) ≡ true → list_any (same_id id) (ids_with b name names) ≡ true
-  behind id true name names h = ap (λ b. same_id id name.id || b) h ∙ or_true (same_id id name.id)
+  behind id true name names h = ap (λ b. same_id id name.id || b) h ∙ or-true (same_id id name.id)
   behind id false name names h = h
 
   by_name : (names : List FileName) (id : Id) → list_any (eq_by_cmp name_cmp (named kind id)) names ≡ true → list_any (same_id id) (ids_among kind names) ≡ true

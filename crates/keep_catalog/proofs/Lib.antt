@@ -8,6 +8,7 @@ pub mod Listing
 pub mod Missing
 pub mod Naming
 pub mod Noted
+pub mod Ordered
 pub mod Present
 pub mod Reached
 pub mod SnapsKept

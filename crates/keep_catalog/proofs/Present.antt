@@ -1,5 +1,6 @@
 -- What the headers of all present packs have is what the header of each place's own pack has.
 use Rattle.std.proofs.Common.{◌≡◌, ℕ, Bool, true, false, ◌||◌, List, [], ◌∷◌, map, Option, None, Some, is_some, refl, sym, ap, subst, ◌∙◌}
+use Rattle.std.proofs.Math.Bool.{or-true}
 use Rattle.std.proofs.lemmas.List.Folds.{list_any-append}
 use Rattle.std.proofs.lemmas.Map.Views.{tells_apart}
 use Rattle.std.specs.List.{flat_map, list_any}
@@ -14,7 +15,7 @@ use Rattle.keep_catalog.specs.Files.{file_in, header_in, ids_in, what_is_read}
 use Rattle.keep_catalog.specs.Orders.{packed_blob_eq, same_id}
 use Rattle.keep_catalog.specs.Places.{is_among, is_stored, stored_in, packed_of}
 use Rattle.keep_catalog.specs.declared.spot.PackedBlob.{PackedBlob}
-use Rattle.keep_catalog.proofs.Ids.{id_there, or_true}
+use Rattle.keep_catalog.proofs.Ids.{id_there}
 use Rattle.keep_catalog.proofs.SpotOrders.{packed_blob_eq_same}
 
 -- a place that some list of entries of a pack has is of that pack
@@ -49,7 +50,7 @@ among_all r (pack ∷ packs) p named h =
       cases others true same _ =
           let P : Id → Type 0 = λ x. is_among (stored_in r x) p ≡ true in
           ap (λ b. b || is_among (flat_map (stored_in r) packs) p) (subst P (tells_apart id_exact p.spot.pack pack same) h)
-      cases others false _ rest = ap (λ b. is_among (stored_in r pack) p || b) (others rest) ∙ or_true (is_among (stored_in r pack) p)
+      cases others false _ rest = ap (λ b. is_among (stored_in r pack) p || b) (others rest) ∙ or-true (is_among (stored_in r pack) p)
 
 there : (pack : Id) (p : PackedBlob) (o : Option (List ℕ)) → is_among (map (packed_of pack) (what_is_read (option_map header_of o))) p ≡ true → is_some o ≡ true
 there pack p None h = cc h

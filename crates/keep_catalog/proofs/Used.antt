@@ -1,16 +1,15 @@
 -- The list of used blobs is what snapshots reach, in order.
-use Rattle.std.proofs.Common.{◌≡◌, ◌↔◌, ◌⊎◌, inl, inr, ℕ, zero, suc, Bool, true, false, ◌||◌, cond, List, [], ◌∷◌, ◌++◌, map, Option, None, Some, Result, Ok, Err, option_map, unwrap_or, is_some, refl, sym, ap, subst, ◌∙◌, T, Ordering, Less}
+use Rattle.std.proofs.Common.{◌≡◌, ◌↔◌, ◌⊎◌, inl, inr, ℕ, zero, suc, Bool, true, false, ◌||◌, cond, List, [], ◌∷◌, ◌++◌, map, Option, None, Some, Result, Ok, Err, option_map, unwrap_or, is_some, refl, sym, ap, subst, ◌∙◌}
+use Rattle.std.proofs.Math.Bool.{or-true}
 use Rattle.std.proofs.lemmas.Map.Keys.{IsDistinct-from_sorted}
 use Rattle.std.proofs.lemmas.Map.Made.{keys_of-map_values, lookup-map_values}
 use Rattle.std.specs.BTreeMap.{IsOrdered, is_at}
 use Rattle.std.specs.BTreeMap as tree
 use Rattle.std.specs.FinMap as finite
-use Rattle.std.specs.FinMap.Entries.{below_all}
-use Rattle.std.specs.List.{AllByRecursion, IsDistinct, flat_map, list_any}
+use Rattle.std.specs.List.{IsDistinct, flat_map, list_any}
 use Rattle.std.specs.List.Sorted.{IsStrictlySortedBy}
 use Rattle.std.specs.Map.{keys_of}
 use Rattle.std.specs.Option.{IsSomeAnd, option_map_or}
-use Rattle.std.specs.Ordering.{is_lt}
 use Rattle.std.specs.Result.{IfOk, result_ok}
 use Rattle.keep_names.proofs.Orders.{blob_exact, blob_total}
 use Rattle.keep_names.specs.Orders.{blob_cmp}
@@ -21,14 +20,15 @@ use Rattle.keep_repo.specs.Repository.{Repository}
 use Rattle.keep_snap.specs.Snap.{SnapData}
 use Rattle.keep_catalog.specs.Files.{snap_in, snaps_in}
 use Rattle.keep_catalog.specs.Naming.{named_by}
+use Rattle.keep_catalog.specs.Ordered.{in_order, keyed}
 use Rattle.keep_catalog.specs.Orders.{blob_eq}
 use Rattle.keep_catalog.specs.Reach.{HasBlob, Naming, Names, Reaches, has_type_tree, most_levels}
 use Rattle.keep_catalog.specs.Snapshots.{IsUsed, Owes, root_of}
-use Rattle.keep_catalog.specs.Used.{in_order, names_or_none, reached_by, reached_from, reached_in, used_in, with_nothing}
+use Rattle.keep_catalog.specs.Used.{names_or_none, reached_by, reached_from, reached_in, used_in}
 use Rattle.keep_catalog.specs.Walk.{Knows, Walked}
 use Rattle.keep_catalog.specs.declared.found.Found.{Found}
 use Rattle.keep_catalog.specs.declared.reach_error.ReachError.{ReachError}
-use Rattle.keep_catalog.proofs.Ids.{first_of_both, less, second_of_both}
+use Rattle.keep_catalog.proofs.Ordered.{in_order-same, is_some-keyed, keys_in_order}
 use Rattle.keep_catalog.proofs.Present.{same_test}
 use Rattle.keep_catalog.proofs.Reached.{SomeOf, name_there, owing_is_there, some_name, some_named}
 use Rattle.keep_catalog.proofs.SpotOrders.{blob_eq_refl, blob_eq_same}
@@ -121,10 +121,7 @@ has_any [] b h = absurd h
 has_any (x ∷ xs) b (inl same) =
     let E : BlobId → Type 0 = λ y. (blob_eq y x || list_any (blob_eq y) xs) ≡ true in
     subst E same (ap (λ t. t || list_any (blob_eq x) xs) (blob_eq_refl x))
-has_any (x ∷ xs) b (inr there) = ap (λ t. blob_eq b x || t) (has_any xs b there) ∙ or_true (blob_eq b x) where
-  or_true : (a : Bool) → (a || true) ≡ true
-  or_true true = refl
-  or_true false = refl
+has_any (x ∷ xs) b (inr there) = ap (λ t. blob_eq b x || t) (has_any xs b there) ∙ or-true (blob_eq b x)
 
 any_has : (xs : List BlobId) (b : BlobId) → list_any (blob_eq b) xs ≡ true → HasBlob xs b
 any_has [] b h = cc h
@@ -133,42 +130,19 @@ any_has (x ∷ xs) b h = cases (any_has xs b) (blob_eq b x) refl h where
   cases later true same _ = inl (sym (blob_eq_same b x same))
   cases later false other rest = inr (later rest)
 
-found_any : (xs : List BlobId) (b : BlobId) → is_some (finite.find blob_cmp b (map with_nothing xs)) ≡ list_any (blob_eq b) xs
-found_any [] b = refl
-found_any (x ∷ xs) b = cases (blob_eq b x) (found_any xs b) where
-  cases : (t : Bool) → is_some (finite.find blob_cmp b (map with_nothing xs)) ≡ list_any (blob_eq b) xs → is_some (cond t (Some tt) (finite.find blob_cmp b (map with_nothing xs))) ≡ (t || list_any (blob_eq b) xs)
-  cases true later = refl
-  cases false later = later
-
 abbrev made : List BlobId → finite.FinMap blob_cmp (Unit {0})
-made xs = finite.from_entries (map with_nothing xs)
-
-made_any : (xs : List BlobId) (b : BlobId) → is_some (finite.get (made xs) b) ≡ list_any (blob_eq b) xs
-made_any xs b = ap is_some (finite.get-from_entries blob_total (map with_nothing xs) b) ∙ found_any xs b
-
-ordered_any : (xs : List BlobId) (b : BlobId) → list_any (blob_eq b) (in_order xs) ≡ list_any (blob_eq b) xs
-ordered_any xs b = sym (finite.contains_key-keys (made xs) b) ∙ made_any xs b
+made xs = finite.from_entries (map keyed xs)
 
 pub used_listed : (r : Repository) (b : BlobId) → HasBlob (used_in r) b ↔ IsUsed r b
 unfolding used_in
 used_listed r b = (
-  λ h. reached_used r b (any_has (reached_in r) b (sym (ordered_any (reached_in r) b) ∙ has_any (in_order (reached_in r)) b h)),
-  λ used. any_has (in_order (reached_in r)) b (ordered_any (reached_in r) b ∙ has_any (reached_in r) b (used_reached r b used)),
+  λ h. reached_used r b (any_has (reached_in r) b (sym (in_order-same blob_total b (reached_in r)) ∙ has_any (in_order blob_cmp (reached_in r)) b h)),
+  λ used. any_has (in_order blob_cmp (reached_in r)) b (in_order-same blob_total b (reached_in r) ∙ has_any (reached_in r) b (used_reached r b used)),
 )
-
-module _ {K X : Type 0} (R : K → K → Ordering) where
-  all_above : (k : K) (es : List (K × X)) → T (below_all R k es) → AllByRecursion (λ y. R k y ≡ Less) (keys_of es)
-  all_above k [] h = tt
-  all_above k (e ∷ es) h = (less (R k e.0) (first_of_both (is_lt (R k e.0)) (below_all R k es) h), all_above k es (second_of_both (is_lt (R k e.0)) (below_all R k es) h))
-
-  keys_sorted : (es : List (K × X)) → T (finite.is_sorted R es) → IsStrictlySortedBy R (keys_of es)
-  unfolding IsStrictlySortedBy
-  keys_sorted [] h = tt
-  keys_sorted (e ∷ es) h = (all_above e.0 es (first_of_both (below_all R e.0 es) (finite.is_sorted R es) h), keys_sorted es (second_of_both (below_all R e.0 es) (finite.is_sorted R es) h))
 
 pub used_sorted : (r : Repository) → IsStrictlySortedBy blob_cmp (used_in r)
 unfolding used_in
-used_sorted r = keys_sorted blob_cmp (finite.entries (made (reached_in r))) (finite.entries_sorted (made (reached_in r)))
+used_sorted r = keys_in_order blob_cmp (made (reached_in r))
 
 pub used_distinct : (r : Repository) → IsDistinct blob_eq (used_in r)
 used_distinct r = IsDistinct-from_sorted blob_cmp (used_in r) (used_sorted r)
@@ -214,5 +188,5 @@ keys_are_used r reached ordered just =
       same =
           finite.same_map blob_total blob_exact _ _ (λ q.
           nothing_else _
-          ∙ ap (λ t. cond t (Some tt) None) (known q ∙ alike q ∙ sym (made_any (reached_in r) q))
+          ∙ ap (λ t. cond t (Some tt) None) (known q ∙ alike q ∙ sym (is_some-keyed blob_total q (reached_in r)))
           ∙ sym (nothing_else _))

@@ -1,6 +1,7 @@
 pub mod Chosen
 pub mod Files
 pub mod Naming
+pub mod Ordered
 pub mod Orders
 pub mod Places
 pub mod Reach

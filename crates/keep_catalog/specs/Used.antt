@@ -1,5 +1,5 @@
 -- The blobs that snapshots reach, as a list.
-use Rattle.std.specs.Prelude.{ℕ, zero, suc, List, [], ◌∷◌, map, unwrap_or, if◌then◌else◌}
+use Rattle.std.specs.Prelude.{ℕ, zero, suc, List, [], ◌∷◌, unwrap_or, if◌then◌else◌}
 use Rattle.std.specs.FinMap as finite
 use Rattle.std.specs.List.{flat_map}
 use Rattle.std.specs.Option.{option_map_or}
@@ -10,6 +10,7 @@ use Rattle.keep_names.specs.declared.id.Id.{Id}
 use Rattle.keep_repo.specs.Repository.{Repository}
 use Rattle.keep_catalog.specs.Files.{snap_in, snaps_in}
 use Rattle.keep_catalog.specs.Naming.{named_by}
+use Rattle.keep_catalog.specs.Ordered.{in_order}
 use Rattle.keep_catalog.specs.Reach.{Naming, has_type_tree, most_levels}
 use Rattle.keep_catalog.specs.Snapshots.{root_of}
 
@@ -31,13 +32,6 @@ reached_by r snapshot =
 abbrev pub reached_in : Repository → List BlobId
 reached_in r = flat_map (reached_by r) (finite.keys (snaps_in r))
 
--- these blobs in their order, each once: the keys of a map that has nothing at each
-abbrev pub with_nothing : BlobId → BlobId × Unit {0}
-with_nothing blob = (blob, tt)
-
-abbrev pub in_order : List BlobId → List BlobId
-in_order blobs = finite.keys {R = blob_cmp} (finite.from_entries (map with_nothing blobs))
-
 -- the blobs that some snapshot reaches, in their order, each once
 unfoldable pub used_in : Repository → List BlobId
-used_in r = in_order (reached_in r)
+used_in r = in_order blob_cmp (reached_in r)

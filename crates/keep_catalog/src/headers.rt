@@ -39,7 +39,7 @@ fn headers_of(alloc: Global, repo: &Repo, packs: &[Id]) -> Result<Vec<(Id, Vec<B
     let mut headers = Vec::new(alloc);
     for pack in packs {
         let header = pack_header(alloc, repo, *pack)?;
-        add_header(&mut headers, header)?;
+        add_found(&mut headers, header)?;
     }
     Ok(headers)
 }
@@ -63,21 +63,6 @@ fn pack_header(alloc: Global, repo: &Repo, pack: Id) -> Result<Option<(Id, Vec<B
     }
 }
 
-// Adds a header, if there is one.
-fn add_header(
-    headers: &mut Vec<(Id, Vec<Blob>)>,
-    header: Option<(Id, Vec<Blob>)>,
-) -> Result<(), AllocError>
-    ensures { OnOk result (map header_view headers.new.items
-        ≡ map header_view headers.old.items
-        ++ option_to_list (option_map header_view header)) }
-{
-    if let Some(header) = header {
-        headers.push(header)?;
-    }
-    Ok(())
-}
-
 // What those of the indexes say that can be read.
 fn indexes_of(
     alloc: Global,
@@ -90,7 +75,7 @@ fn indexes_of(
     let mut read = Vec::new(alloc);
     for index in indexes {
         let packs = index_packs(alloc, repo, *index)?;
-        add_index(&mut read, packs)?;
+        add_found(&mut read, packs)?;
     }
     Ok(read)
 }
@@ -118,17 +103,12 @@ fn index_packs(
     }
 }
 
-// Adds what an index says, if it says something.
-fn add_index(
-    indexes: &mut Vec<(Id, Vec<IndexedPack>)>,
-    read: Option<(Id, Vec<IndexedPack>)>,
-) -> Result<(), AllocError>
-    ensures { OnOk result (map packs_view indexes.new.items
-        ≡ map packs_view indexes.old.items
-        ++ option_to_list (option_map packs_view read)) }
+// Adds what was found, if something was.
+fn add_found<T: Drop>(all: &mut Vec<T>, found: Option<T>) -> Result<(), AllocError>
+    ensures { OnOk result (all.new.items ≡ all.old.items ++ option_to_list found) }
 {
-    if let Some(read) = read {
-        indexes.push(read)?;
+    if let Some(one) = found {
+        all.push(one)?;
     }
     Ok(())
 }

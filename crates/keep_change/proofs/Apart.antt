@@ -4,7 +4,7 @@ use Rattle.std.specs.Prelude.{count_by}
 use Rattle.std.specs.Int.{from_bool}
 use Rattle.std.specs.List.{list_any, AllByRecursion}
 use Rattle.std.specs.List.Sorted.{IsStrictlySortedBy}
-use Rattle.std.specs.Ordering.{eq_by_cmp}
+use Rattle.std.specs.Ordering.{eq_by_cmp, is_eq}
 use Rattle.std.specs.declared.cmp.Ordering.TheVariants.{Less}
 use Rattle.std.proofs.lemmas.List.Sums.{sum_by-cons}
 use Rattle.std.proofs.lemmas.Simd.{map-map}
@@ -15,9 +15,9 @@ use Rattle.keep_repo.proofs.Orders.{facet_total}
 use Rattle.keep_repo.specs.Facet.{facet_cmp, facet_eq}
 use Rattle.keep_repo.specs.declared.facet.Facet.{Facet}
 use Rattle.keep_repo.specs.declared.facet.Facet.TheVariants.{File, Mark}
-use Rattle.keep_change.proofs.Once.{count_by-facets, count_by-sorted}
+use Rattle.keep_change.proofs.Once.{count_by-keys, count_by-sorted}
 use Rattle.keep_change.specs.Form.{HasNoFacetTwice, IsInOrder, ListsInOrder}
-use Rattle.keep_change.specs.Lists.{AreSorted, FilesAreApart, MarksAreApart, SortedListsAreWellFormed, names_of, packs_of}
+use Rattle.keep_change.specs.Lists.{AreApart, AreSorted, FilesAreApart, MarksAreApart, SortedListsAreWellFormed, file_names, marked_packs}
 use Rattle.keep_change.specs.NamedBytes.{NamedBytes}
 use Rattle.keep_change.specs.Touch.{facets}
 use Rattle.keep_change.specs.declared.change.Change.{Change}
@@ -34,13 +34,13 @@ module _ {K : Type 0} (R : K → K → Ordering) (F : K → Facet) (same : (a b 
   in_order [] sorted = tt
   in_order (k ∷ ks) sorted = (all_below k ks sorted.0, in_order ks sorted.1)
 
-files_in_order : (files : List NamedBytes) → IsStrictlySortedBy name_cmp (names_of files) → IsInOrder (map (λ f. File f.name) files)
+files_in_order : (files : List NamedBytes) → IsStrictlySortedBy name_cmp (file_names files) → IsInOrder (map (λ f. File f.name) files)
 files_in_order files sorted =
-    subst IsInOrder (map-map File (λ (f : NamedBytes). f.name) files) (in_order name_cmp File (λ a b. refl) (names_of files) sorted)
+    subst IsInOrder (map-map File (λ (f : NamedBytes). f.name) files) (in_order name_cmp File (λ a b. refl) (file_names files) sorted)
 
-marks_in_order : (marks : List PackMark) → IsStrictlySortedBy id_cmp (packs_of marks) → IsInOrder (map (λ m. Mark m.pack) marks)
+marks_in_order : (marks : List PackMark) → IsStrictlySortedBy id_cmp (marked_packs marks) → IsInOrder (map (λ m. Mark m.pack) marks)
 marks_in_order marks sorted =
-    subst IsInOrder (map-map Mark (λ (m : PackMark). m.pack) marks) (in_order id_cmp Mark (λ a b. refl) (packs_of marks) sorted)
+    subst IsInOrder (map-map Mark (λ (m : PackMark). m.pack) marks) (in_order id_cmp Mark (λ a b. refl) (marked_packs marks) sorted)
 
 lists_in_order : (c : Change) → AreSorted c → ListsInOrder c
 lists_in_order c sorted = record {
@@ -54,27 +54,7 @@ lists_in_order c sorted = record {
   unmarked = in_order id_cmp Mark (λ a b. refl) c.unmarked sorted.unmarked;
 }
 
--- ---- how often a facet stands in a list
-
--- what passes no test isn't counted
-none_counted : {X : Type 0} (p : Facet → Bool) (F : X → Facet) (xs : List X) → ((x : X) → p (F x) ≡ false) → count_by p (map F xs) ≡ 0
-none_counted p F [] fails = refl
-none_counted p F (x ∷ xs) fails =
-    sum_by-cons (λ f. cond (p f) 1 0) (F x) (map F xs) ∙ rw (fails x) (zero-add _ ∙ none_counted p F xs fails)
-
-any_mapped : {X K : Type 0} (p : Facet → Bool) (q : K → Bool) (F : X → Facet) (key : X → K) (xs : List X) → ((x : X) → p (F x) ≡ q (key x)) → list_any p (map F xs) ≡ list_any q (map key xs)
-any_mapped p q F key [] same = refl
-any_mapped p q F key (x ∷ xs) same =
-    ap (λ b. b || list_any p (map F xs)) (same x) ∙ ap (λ b. q (key x) || b) (any_mapped p q F key xs same)
-
-any_key : {K : Type 0} (p : Facet → Bool) (q : K → Bool) (F : K → Facet) (ks : List K) → ((k : K) → p (F k) ≡ q k) → list_any p (map F ks) ≡ list_any q ks
-any_key p q F [] same = refl
-any_key p q F (k ∷ ks) same =
-    ap (λ b. b || list_any p (map F ks)) (same k) ∙ ap (λ b. q k || b) (any_key p q F ks same)
-
--- once or not at all, as the key stands among the keys
-counted : (q : Facet) (fs : List Facet) (b : Bool) → IsInOrder fs → list_any (facet_eq q) fs ≡ b → count_by (facet_eq q) fs ≡ from_bool b
-counted q fs b ordered is = count_by-sorted facet_cmp facet_total q fs ordered ∙ ap from_bool is
+-- ---- how often a facet stands in the lists
 
 -- of four tests at most one passes, where no two do
 one_of_four : (a b c d : Bool) → (a ≡ true → b ≡ false) → (a ≡ true → c ≡ false) → (a ≡ true → d ≡ false) → (b ≡ true → c ≡ false) → (b ≡ true → d ≡ false) → (c ≡ true → d ≡ false)
@@ -96,47 +76,51 @@ at_most_one : (a b c d e f g h x y z w : ℕ) → a ≡ x → b ≡ y → c ≡ 
     → a + b + c + d + (e + f + g + h) ≤ 1
 at_most_one a b c d e f g h x y z w ax by cz dw none-e none-f none-g none-h one = omega arith
 
+-- four lists of keys are in order and apart, and four lists have other keys: the facet of a key stands in them at most once
+module _ {K L : Type 0} (R : K → K → Ordering) (F : K → Facet) (G : L → Facet) (q : K)
+    (same : (a b : K) → facet_cmp (F a) (F b) ≡ R a b) (other : (l : L) → facet_eq (F q) (G l) ≡ false) where
+  abbrev is_it : Facet → Bool
+  is_it = facet_eq (F q)
+
+  any_key : (ks : List K) → list_any is_it (map F ks) ≡ list_any (eq_by_cmp R q) ks
+  any_key [] = refl
+  any_key (k ∷ ks) = ap (λ o. is_eq o || list_any is_it (map F ks)) (same q k) ∙ ap (λ b. eq_by_cmp R q k || b) (any_key ks)
+
+  -- once or not at all, as the key stands among the keys
+  counted : (ks : List K) → IsStrictlySortedBy R ks → count_by is_it (map F ks) ≡ from_bool (list_any (eq_by_cmp R q) ks)
+  counted ks sorted = count_by-sorted facet_cmp facet_total (F q) (map F ks) (in_order R F same ks sorted) ∙ ap from_bool (any_key ks)
+
+  none_counted : (ls : List L) → count_by is_it (map G ls) ≡ 0
+  none_counted [] = refl
+  none_counted (l ∷ ls) = sum_by-cons (λ f. cond (is_it f) 1 0) (G l) (map G ls) ∙ rw (other l) (zero-add _ ∙ none_counted ls)
+
+  no_key_twice : (a b c d : List K) (e f g h : List L)
+      → IsStrictlySortedBy R a → IsStrictlySortedBy R b → IsStrictlySortedBy R c → IsStrictlySortedBy R d
+      → AreApart R a b → AreApart R a c → AreApart R a d → AreApart R b c → AreApart R b d → AreApart R c d
+      → count_by is_it (map F a) + count_by is_it (map F b) + count_by is_it (map F c) + count_by is_it (map F d)
+      + (count_by is_it (map G e) + count_by is_it (map G f) + count_by is_it (map G g) + count_by is_it (map G h)) ≤ 1
+  no_key_twice a b c d e f g h rise-a rise-b rise-c rise-d ab ac ad bc bd cd =
+      at_most_one _ _ _ _ _ _ _ _ _ _ _ _ (counted a rise-a) (counted b rise-b) (counted c rise-c) (counted d rise-d)
+      (none_counted e) (none_counted f) (none_counted g) (none_counted h)
+      (one_of_four _ _ _ _ (ab q) (ac q) (ad q) (bc q) (bd q) (cd q))
+
 no_file_twice : (c : Change) → AreSorted c → FilesAreApart c → (name : FileName) → count_by (facet_eq (File name)) (facets c) ≤ 1
 no_file_twice c sorted apart name =
-    let ordered = lists_in_order c sorted in
-    let q : Facet = File name in
-    let same = eq_by_cmp name_cmp name in
-    let adds : count_by (facet_eq q) (map (λ f. File f.name) c.adds) ≡ from_bool (list_any same (names_of c.adds)) =
-    counted q _ _ ordered.adds (any_mapped (facet_eq q) same (λ (f : NamedBytes). File f.name) (λ (f : NamedBytes). f.name) c.adds (λ x. refl)) in
-    let drops : count_by (facet_eq q) (map (λ f. File f.name) c.drops) ≡ from_bool (list_any same (names_of c.drops)) =
-    counted q _ _ ordered.drops (any_mapped (facet_eq q) same (λ (f : NamedBytes). File f.name) (λ (f : NamedBytes). f.name) c.drops (λ x. refl)) in
-    let present : count_by (facet_eq q) (map File c.present) ≡ from_bool (list_any same c.present) =
-    counted q _ _ ordered.present (any_key (facet_eq q) same File c.present (λ k. refl)) in
-    let absent : count_by (facet_eq q) (map File c.absent) ≡ from_bool (list_any same c.absent) =
-    counted q _ _ ordered.absent (any_key (facet_eq q) same File c.absent (λ k. refl)) in
-    let sets : count_by (facet_eq q) (map (λ m. Mark m.pack) c.sets) ≡ 0 = none_counted (facet_eq q) (λ (m : PackMark). Mark m.pack) c.sets (λ x. refl) in
-    let clears : count_by (facet_eq q) (map (λ m. Mark m.pack) c.clears) ≡ 0 = none_counted (facet_eq q) (λ (m : PackMark). Mark m.pack) c.clears (λ x. refl) in
-    let marked : count_by (facet_eq q) (map Mark c.marked) ≡ 0 = none_counted (facet_eq q) Mark c.marked (λ x. refl) in
-    let unmarked : count_by (facet_eq q) (map Mark c.unmarked) ≡ 0 = none_counted (facet_eq q) Mark c.unmarked (λ x. refl) in
-    let one = one_of_four _ _ _ _ (apart.adds_drops name) (apart.adds_present name) (apart.adds_absent name) (apart.drops_present name) (apart.drops_absent name) (apart.present_absent name) in
-    subst (λ n. n ≤ 1) (sym (count_by-facets (facet_eq q) c ∙ files_first _ _ _ _ _ _ _ _)) (at_most_one _ _ _ _ _ _ _ _ _ _ _ _ adds drops present absent sets clears marked unmarked one) where
+    subst (λ n. n ≤ 1) (sym (count_by-keys (facet_eq (File name)) c ∙ files_first _ _ _ _ _ _ _ _))
+    (no_key_twice name_cmp File Mark name (λ a b. refl) (λ pack. refl)
+    (file_names c.adds) (file_names c.drops) c.present c.absent (marked_packs c.sets) (marked_packs c.clears) c.marked c.unmarked
+    sorted.adds sorted.drops sorted.present sorted.absent
+    apart.adds_drops apart.adds_present apart.adds_absent apart.drops_present apart.drops_absent apart.present_absent) where
       files_first : (a b c d e f g h : ℕ) → a + b + c + d + e + f + g + h ≡ a + b + e + f + (c + d + g + h)
       files_first a b c d e f g h = omega arith
 
 no_mark_twice : (c : Change) → AreSorted c → MarksAreApart c → (pack : Id) → count_by (facet_eq (Mark pack)) (facets c) ≤ 1
 no_mark_twice c sorted apart pack =
-    let ordered = lists_in_order c sorted in
-    let q : Facet = Mark pack in
-    let same = eq_by_cmp id_cmp pack in
-    let sets : count_by (facet_eq q) (map (λ m. Mark m.pack) c.sets) ≡ from_bool (list_any same (packs_of c.sets)) =
-    counted q _ _ ordered.sets (any_mapped (facet_eq q) same (λ (m : PackMark). Mark m.pack) (λ (m : PackMark). m.pack) c.sets (λ x. refl)) in
-    let clears : count_by (facet_eq q) (map (λ m. Mark m.pack) c.clears) ≡ from_bool (list_any same (packs_of c.clears)) =
-    counted q _ _ ordered.clears (any_mapped (facet_eq q) same (λ (m : PackMark). Mark m.pack) (λ (m : PackMark). m.pack) c.clears (λ x. refl)) in
-    let marked : count_by (facet_eq q) (map Mark c.marked) ≡ from_bool (list_any same c.marked) =
-    counted q _ _ ordered.marked (any_key (facet_eq q) same Mark c.marked (λ k. refl)) in
-    let unmarked : count_by (facet_eq q) (map Mark c.unmarked) ≡ from_bool (list_any same c.unmarked) =
-    counted q _ _ ordered.unmarked (any_key (facet_eq q) same Mark c.unmarked (λ k. refl)) in
-    let adds : count_by (facet_eq q) (map (λ f. File f.name) c.adds) ≡ 0 = none_counted (facet_eq q) (λ (f : NamedBytes). File f.name) c.adds (λ x. refl) in
-    let drops : count_by (facet_eq q) (map (λ f. File f.name) c.drops) ≡ 0 = none_counted (facet_eq q) (λ (f : NamedBytes). File f.name) c.drops (λ x. refl) in
-    let present : count_by (facet_eq q) (map File c.present) ≡ 0 = none_counted (facet_eq q) File c.present (λ x. refl) in
-    let absent : count_by (facet_eq q) (map File c.absent) ≡ 0 = none_counted (facet_eq q) File c.absent (λ x. refl) in
-    let one = one_of_four _ _ _ _ (apart.sets_clears pack) (apart.sets_marked pack) (apart.sets_unmarked pack) (apart.clears_marked pack) (apart.clears_unmarked pack) (apart.marked_unmarked pack) in
-    subst (λ n. n ≤ 1) (sym (count_by-facets (facet_eq q) c ∙ marks_first _ _ _ _ _ _ _ _)) (at_most_one _ _ _ _ _ _ _ _ _ _ _ _ sets clears marked unmarked adds drops present absent one) where
+    subst (λ n. n ≤ 1) (sym (count_by-keys (facet_eq (Mark pack)) c ∙ marks_first _ _ _ _ _ _ _ _))
+    (no_key_twice id_cmp Mark File pack (λ a b. refl) (λ name. refl)
+    (marked_packs c.sets) (marked_packs c.clears) c.marked c.unmarked (file_names c.adds) (file_names c.drops) c.present c.absent
+    sorted.sets sorted.clears sorted.marked sorted.unmarked
+    apart.sets_clears apart.sets_marked apart.sets_unmarked apart.clears_marked apart.clears_unmarked apart.marked_unmarked) where
       marks_first : (a b c d e f g h : ℕ) → a + b + c + d + e + f + g + h ≡ c + d + g + h + (a + b + e + f)
       marks_first a b c d e f g h = omega arith
 

@@ -23,6 +23,7 @@ use Rattle.keep_change.specs.declared.change.Change.{Change}
 use Rattle.keep_change.specs.declared.change.PackMark.{PackMark}
 use Rattle.keep_change.specs.Change.{added, dropped, set, cleared}
 use Rattle.keep_change.specs.Form.{is_once, HasNoFacetTwice}
+use Rattle.keep_change.specs.Lists.{file_names, marked_packs}
 use Rattle.keep_change.specs.Touch.{facets}
 
 module _ {K : Type 0} (R : K → K → Ordering) (o : IsTotalOrder R) where
@@ -57,6 +58,14 @@ pub count_by-facets : (p : Facet → Bool) (c : Change) → count_by p (facets c
     + count_by p (map File c.present) + count_by p (map File c.absent)
     + count_by p (map Mark c.marked) + count_by p (map Mark c.unmarked)
 count_by-facets p c = simp (map-append, map-map, sum_by-append) (omega arith)
+
+-- the same by the names of the files and the packs of the marks
+pub count_by-keys : (p : Facet → Bool) (c : Change) → count_by p (facets c) ≡
+    count_by p (map File (file_names c.adds)) + count_by p (map File (file_names c.drops))
+    + count_by p (map Mark (marked_packs c.sets)) + count_by p (map Mark (marked_packs c.clears))
+    + count_by p (map File c.present) + count_by p (map File c.absent)
+    + count_by p (map Mark c.marked) + count_by p (map Mark c.unmarked)
+count_by-keys p c = simp (map-append, map-map, sum_by-append) (omega arith)
 
 -- something is written where one of the four lists isn't empty
 pub some_written : (a d : List NamedBytes) (s k : List PackMark) → IsTrue (not (((eqb (length a) 0 && eqb (length d) 0) && eqb (length s) 0) && eqb (length k) 0)) ↔ ((map added a ++ (map dropped d ++ (map set s ++ map cleared k))) ≢ [])

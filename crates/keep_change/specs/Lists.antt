@@ -15,18 +15,20 @@ use Rattle.keep_change.specs.NamedBytes.{NamedBytes}
 use Rattle.keep_change.specs.declared.change.Change.{Change}
 use Rattle.keep_change.specs.declared.change.PackMark.{PackMark}
 
-abbrev pub names_of : List NamedBytes → List FileName
-names_of files = map (λ f. f.name) files
+-- the names of files
+abbrev pub file_names : List NamedBytes → List FileName
+file_names files = map (λ f. f.name) files
 
-abbrev pub packs_of : List PackMark → List Id
-packs_of marks = map (λ m. m.pack) marks
+-- the packs that these marks are of
+abbrev pub marked_packs : List PackMark → List Id
+marked_packs marks = map (λ m. m.pack) marks
 
 -- each list is in order: files by name, marks by pack
 pub record AreSorted (c : Change) : Type 0 where
-  pub adds : IsStrictlySortedBy name_cmp (names_of c.adds)
-  pub drops : IsStrictlySortedBy name_cmp (names_of c.drops)
-  pub sets : IsStrictlySortedBy id_cmp (packs_of c.sets)
-  pub clears : IsStrictlySortedBy id_cmp (packs_of c.clears)
+  pub adds : IsStrictlySortedBy name_cmp (file_names c.adds)
+  pub drops : IsStrictlySortedBy name_cmp (file_names c.drops)
+  pub sets : IsStrictlySortedBy id_cmp (marked_packs c.sets)
+  pub clears : IsStrictlySortedBy id_cmp (marked_packs c.clears)
   pub present : IsStrictlySortedBy name_cmp c.present
   pub absent : IsStrictlySortedBy name_cmp c.absent
   pub marked : IsStrictlySortedBy id_cmp c.marked
@@ -38,20 +40,20 @@ AreApart {K} R ks ls = (k : K) → list_any (eq_by_cmp R k) ks ≡ true → list
 
 -- no two of the lists of files have a name in common
 pub record FilesAreApart (c : Change) : Type 0 where
-  pub adds_drops : AreApart name_cmp (names_of c.adds) (names_of c.drops)
-  pub adds_present : AreApart name_cmp (names_of c.adds) c.present
-  pub adds_absent : AreApart name_cmp (names_of c.adds) c.absent
-  pub drops_present : AreApart name_cmp (names_of c.drops) c.present
-  pub drops_absent : AreApart name_cmp (names_of c.drops) c.absent
+  pub adds_drops : AreApart name_cmp (file_names c.adds) (file_names c.drops)
+  pub adds_present : AreApart name_cmp (file_names c.adds) c.present
+  pub adds_absent : AreApart name_cmp (file_names c.adds) c.absent
+  pub drops_present : AreApart name_cmp (file_names c.drops) c.present
+  pub drops_absent : AreApart name_cmp (file_names c.drops) c.absent
   pub present_absent : AreApart name_cmp c.present c.absent
 
 -- no two of the lists of marks have a pack in common
 pub record MarksAreApart (c : Change) : Type 0 where
-  pub sets_clears : AreApart id_cmp (packs_of c.sets) (packs_of c.clears)
-  pub sets_marked : AreApart id_cmp (packs_of c.sets) c.marked
-  pub sets_unmarked : AreApart id_cmp (packs_of c.sets) c.unmarked
-  pub clears_marked : AreApart id_cmp (packs_of c.clears) c.marked
-  pub clears_unmarked : AreApart id_cmp (packs_of c.clears) c.unmarked
+  pub sets_clears : AreApart id_cmp (marked_packs c.sets) (marked_packs c.clears)
+  pub sets_marked : AreApart id_cmp (marked_packs c.sets) c.marked
+  pub sets_unmarked : AreApart id_cmp (marked_packs c.sets) c.unmarked
+  pub clears_marked : AreApart id_cmp (marked_packs c.clears) c.marked
+  pub clears_unmarked : AreApart id_cmp (marked_packs c.clears) c.unmarked
   pub marked_unmarked : AreApart id_cmp c.marked c.unmarked
 
 -- a change whose lists are in order and apart is well formed, if its adds are named by their bytes and something is written

@@ -1,5 +1,6 @@
 -- What an event shows of a change, without its bytes.
-use Rattle.std.specs.Prelude.{ℕ, [], map}
+use Rattle.std.specs.Prelude.{ℕ, []}
+use Rattle.keep_change.specs.Lists.{file_names, marked_packs}
 use Rattle.keep_change.specs.declared.change.Change.{Change}
 use Rattle.keep_change.specs.declared.outline.Outline.{Outline}
 use Rattle.keep_change.specs.declared.outline.What.{What}
@@ -10,10 +11,10 @@ abbrev pub outline_of : What → ℕ → Change → Outline
 outline_of what number c = record {
   what = what;
   number = number;
-  adds = map (λ f. f.name) c.adds;
-  drops = map (λ f. f.name) c.drops;
-  sets = map (λ m. m.pack) c.sets;
-  clears = map (λ m. m.pack) c.clears;
+  adds = file_names c.adds;
+  drops = file_names c.drops;
+  sets = marked_packs c.sets;
+  clears = marked_packs c.clears;
 }
 
 -- an emptying up to this number shows no names

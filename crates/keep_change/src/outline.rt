@@ -1,4 +1,5 @@
-ghost use Rattle.std.specs.Prelude.{◌≡◌, IfOk, map};
+ghost use Rattle.std.specs.Prelude.{◌≡◌, IfOk};
+ghost use Rattle.keep_change.specs.Lists as spec;
 ghost use Rattle.keep_change.specs.Outline.{outline_of, empty_outline};
 
 use crate::change::{Change, PackMark};
@@ -38,10 +39,10 @@ impl Outline {
     ) -> Result<Outline, AllocError>
         ensures { IfOk result (λ made. made ≡ outline_of what number change.now) }
     {
-        let adds = names_of(alloc, change.adds.as_slice())?;
-        let drops = names_of(alloc, change.drops.as_slice())?;
-        let sets = packs_of(alloc, change.sets.as_slice())?;
-        let clears = packs_of(alloc, change.clears.as_slice())?;
+        let adds = file_names(alloc, change.adds.as_slice())?;
+        let drops = file_names(alloc, change.drops.as_slice())?;
+        let sets = marked_packs(alloc, change.sets.as_slice())?;
+        let clears = marked_packs(alloc, change.clears.as_slice())?;
         Ok(Outline {
             what,
             number,
@@ -67,14 +68,14 @@ impl Outline {
     }
 }
 
-fn names_of(alloc: Global, files: &[StoredFile]) -> Result<Vec<FileName>, AllocError>
-    ensures { IfOk result (λ names. names.items ≡ map (λ f. f.name) files.now) }
+fn file_names(alloc: Global, files: &[StoredFile]) -> Result<Vec<FileName>, AllocError>
+    ensures { IfOk result (λ names. names.items ≡ spec.file_names files.now) }
 {
     files.iter().map(|file| file.name()).collect(alloc)
 }
 
-fn packs_of(alloc: Global, marks: &[PackMark]) -> Result<Vec<Id>, AllocError>
-    ensures { IfOk result (λ packs. packs.items ≡ map (λ m. m.pack) marks.now) }
+fn marked_packs(alloc: Global, marks: &[PackMark]) -> Result<Vec<Id>, AllocError>
+    ensures { IfOk result (λ packs. packs.items ≡ spec.marked_packs marks.now) }
 {
     marks.iter().map(|set| set.pack).collect(alloc)
 }

@@ -1,5 +1,5 @@
 -- Objects and lists that are built, and what is read of them.
-use Rattle.std.proofs.Common.{◌≡◌, ℕ, zero, suc, nat_lt, ltb-true, arith, Bool, true, false, cond, List, [], ◌∷◌, map, Option, Some, Ordering, Less, Equal, Greater, IsUtf8, refl, sym, ap, ◌∙◌}
+use Rattle.std.proofs.Common.{◌≡◌, ◌↔◌, ℕ, zero, suc, nat_lt, ltb-true, arith, Bool, true, false, cond, List, [], ◌∷◌, map, Option, Some, Ordering, Less, Equal, Greater, IsUtf8, refl, sym, ap, ◌∙◌}
 use Rattle.std.proofs.lemmas.Cmp.{nat_list_cmp_total}
 use Rattle.std.proofs.lemmas.Map.Text.{is_eq-slice_cmp}
 use Rattle.std.proofs.lemmas.Slice.Eq.{bytes_eq-Decides}
@@ -94,18 +94,29 @@ pub before_put : (q k : List ℕ) (d : Data) (ms : Members) → slice_cmp nat_cm
 before_put q k d no_members less h = (less, tt)
 before_put q k d (member l e ms) less h = before_put_at (slice_cmp nat_cmp k l) q k l d e ms less h (before_put q k d ms less h.1)
 
-readable_put_at : (o : Ordering) (k l : List ℕ) (d e : Data) (ms : Members) → slice_cmp nat_cmp k l ≡ o → IsUtf8 k → IsReadable d → HasReadable (member l e ms) → HasReadable (put k d ms)
-    → HasReadable (match_ordering o (member k d (member l e ms)) (member l d ms) (member l e (put k d ms)))
-readable_put_at Less k l d e ms is text readable h later = (text, readable, (is, before_trans k l ms is h.2), h)
-readable_put_at Equal k l d e ms is text readable h later = (h.0, readable, h.2, h.3)
-readable_put_at Greater k l d e ms is text readable h later =
-    let less : slice_cmp nat_cmp l k ≡ Less = nat_list_cmp_total.antisymm l k ∙ ap ordering_reverse is in
-    (h.0, h.1, before_put l k d ms less h.2, later)
+-- what the members of an object are, each of its own and all in order, they are where one more is put that is so
+module _ (P : Data → Type 0) (AreSo : Members → Type 0) (none : AreSo no_members)
+    (first : (k : List ℕ) (d : Data) (ms : Members) → AreSo (member k d ms) ↔ (IsUtf8 k × P d × StandsBefore k ms × AreSo ms)) where
+  so_put_at : (o : Ordering) (k l : List ℕ) (d e : Data) (ms : Members) → slice_cmp nat_cmp k l ≡ o → IsUtf8 k → P d → AreSo (member l e ms) → AreSo (put k d ms)
+      → AreSo (match_ordering o (member k d (member l e ms)) (member l d ms) (member l e (put k d ms)))
+  so_put_at Less k l d e ms is text so h later =
+      (first k d (member l e ms)).1 (text, so, (is, before_trans k l ms is ((first l e ms).0 h).2), h)
+  so_put_at Equal k l d e ms is text so h later =
+      let parts = (first l e ms).0 h in
+      (first l d ms).1 (parts.0, so, parts.2, parts.3)
+  so_put_at Greater k l d e ms is text so h later =
+      let less : slice_cmp nat_cmp l k ≡ Less = nat_list_cmp_total.antisymm l k ∙ ap ordering_reverse is in
+      let parts = (first l e ms).0 h in
+      (first l e (put k d ms)).1 (parts.0, parts.1, before_put l k d ms less parts.2, later)
+
+  pub so_put : (k : List ℕ) (d : Data) (ms : Members) → IsUtf8 k → P d → AreSo ms → AreSo (put k d ms)
+  so_put k d no_members text so all = (first k d no_members).1 (text, so, tt, none)
+  so_put k d (member l e ms) text so all =
+      so_put_at (slice_cmp nat_cmp k l) k l d e ms refl text so all (so_put k d ms text so ((first l e ms).0 all).3)
 
 -- an object stays readable where a readable value is put
 pub HasReadable-put : (k : List ℕ) (d : Data) (ms : Members) → IsUtf8 k → IsReadable d → HasReadable ms → HasReadable (put k d ms)
-HasReadable-put k d no_members text readable all = (text, readable, tt, tt)
-HasReadable-put k d (member l e ms) text readable all = readable_put_at (slice_cmp nat_cmp k l) k l d e ms refl text readable all (HasReadable-put k d ms text readable all.3)
+HasReadable-put = so_put IsReadable HasReadable tt (λ k d ms. (λ h. h, λ h. h))
 
 pub AreReadable-items_of : (ds : List Data) → AllByRecursion IsReadable ds → AreReadable (items_of ds)
 AreReadable-items_of [] h = tt

@@ -1,5 +1,5 @@
 -- The keys and strings among the tokens of a text in UTF-8 are UTF-8.
-use Rattle.std.proofs.Common.{◌≡◌, ℕ, ◌<◌, ◌≤◌, ◌==◌, Bool, true, false, cond, ◌&&◌, ◌-◌, List, [], ◌∷◌, ◌++◌, length, take, drop, nat_eq, Option, None, Some, IsUtf8, refl, sym, subst, arith, append_assoc}
+use Rattle.std.proofs.Common.{◌≡◌, ℕ, ◌<◌, ◌==◌, Bool, true, false, cond, ◌&&◌, ◌-◌, List, [], ◌∷◌, ◌++◌, length, take, drop, nat_eq, Option, None, Some, IsUtf8, refl, sym, subst, arith, append_assoc}
 use Rattle.std.proofs.lemmas.Bool.{eqb-true}
 use Rattle.std.specs.List.{AllByRecursion, starts_with}
 use Rattle.json.specs.Ascii as ascii

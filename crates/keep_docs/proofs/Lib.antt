@@ -1,5 +1,7 @@
+pub mod Answered
 pub mod Built
 pub mod Each
+pub mod Escapes
 pub mod FieldLemmas
 pub mod IdTexts
 pub mod Lexed

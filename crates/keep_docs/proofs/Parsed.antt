@@ -1,11 +1,11 @@
 -- The keys and strings of the JSON that is read of a text in UTF-8 are UTF-8.
-use Rattle.std.proofs.Common.{◌≡◌, ℕ, zero, suc, List, [], ◌∷◌, length, Option, None, Some, option_and_then, IsUtf8, refl, subst}
+use Rattle.std.proofs.Common.{◌≡◌, ℕ, zero, suc, List, [], ◌∷◌, length, Option, None, Some, option_and_then, IsUtf8, subst}
 use Rattle.json.specs.Json as json
 use Rattle.json.specs.Json.{Parse, after_end_array, items, items_step, members, members_step, parse_map, read_key, value, value_with}
 use Rattle.json.specs.Lex.{tokens}
 use Rattle.json.specs.Token.{Token}
 use Rattle.keep_docs.proofs.Lexed.{HaveText, tokens_text}
-use Rattle.keep_docs.proofs.Strings.{nothing}
+use Rattle.std.proofs.lemmas.Option.{none-some}
 
 -- the keys and strings are UTF-8
 abbrev mutual
@@ -119,9 +119,9 @@ Keeps-value (suc d) =
     (λ ts h. mapped MembersText JsonText json.object (λ ms x. x) (members (value d) (length ts) ts) (Keeps-members (value d) (Keeps-value d) (length ts) ts h))
 
 last_text : (o : Option (json.Json × List Token)) (j : json.Json) → Reads JsonText o → option_and_then (λ p. json.if_last p.0 p.1) o ≡ Some j → JsonText j
-last_text None j h e = absurd (nothing j e)
+last_text None j h e = absurd (none-some j e)
 last_text (Some (i, [])) j h e = let same : i ≡ j = cc in subst JsonText same h.0
-last_text (Some (i, t ∷ ts)) j h e = absurd (nothing j e)
+last_text (Some (i, t ∷ ts)) j h e = absurd (none-some j e)
 
 -- the JSON of a text in UTF-8
 pub JsonText-parsed : (text : List ℕ) (d : ℕ) (j : json.Json) → IsUtf8 text → option_and_then (λ p. json.if_last p.0 p.1) (json.value d (tokens text)) ≡ Some j → JsonText j

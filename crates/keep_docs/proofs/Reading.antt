@@ -1,11 +1,7 @@
 -- What is read of the bytes of a document is readable, and nests to at most 127 levels.
-use Rattle.std.proofs.Common.{◌≡◌, ℕ, zero, suc, ◌^◌, ◌<◌, ◌≤◌, ◌==◌, Bool, true, false, cond, ◌&&◌, nat_lt, nat_le, ltb-true, List, Option, None, Some, option_map, option_and_then, drop, slice_index, Ordering, Less, Equal, Greater, Ok, Err, IsUtf8, refl, ap, ◌∙◌, subst, arith}
-use Rattle.std.proofs.Common.{sym}
+use Rattle.std.proofs.Common.{◌≡◌, ℕ, zero, suc, ◌^◌, ◌<◌, ◌≤◌, ◌==◌, Bool, true, false, cond, ◌&&◌, nat_lt, nat_le, ltb-true, List, Option, None, Some, option_map, option_and_then, drop, slice_index, Ok, Err, IsUtf8, refl, subst, arith}
 use Rattle.std.proofs.lemmas.Bool.{and_parts, leb-true, or_parts}
-use Rattle.std.proofs.lemmas.Cmp.{nat_list_cmp_total}
 use Rattle.std.proofs.lemmas.Str.{IsUtf8-from_is_utf8}
-use Rattle.std.specs.Cmp.Lexicographic.{slice_cmp}
-use Rattle.std.specs.Ordering.{nat_cmp, match_ordering, ordering_reverse}
 use Rattle.std.specs.Str.{is_utf8}
 use Rattle.fast_float.specs.Text.{minus, Parts, scan, digits_of, with_sign}
 use Rattle.json.specs.Json as json
@@ -21,7 +17,7 @@ use Rattle.keep_docs.specs.Doc.{doc_of, whole_value}
 use Rattle.keep_docs.specs.Readable.{AreReadable, HasReadable, IsReadable, IsWhole, StandsBefore}
 use Rattle.keep_docs.specs.declared.doc.DocError.{DocError}
 use Rattle.keep_docs.specs.declared.doc.DocError.TheVariants.{NotJson, BadNumber}
-use Rattle.keep_docs.proofs.Built.{before_put, before_trans}
+use Rattle.keep_docs.proofs.Built.{so_put}
 use Rattle.keep_docs.proofs.Parsed.{ItemsText, JsonText, JsonText-parsed, MembersText}
 
 -- ---- values with floats
@@ -90,17 +86,8 @@ number_of_fits s m e = either_sign (slice_index s 0 == minus) (scan (drop 1 s)) 
 
 -- ---- objects
 
-put_at : (o : Ordering) (k l : List ℕ) (d e : Data) (ms : Members) → slice_cmp nat_cmp k l ≡ o → IsUtf8 k → IsKept d → HasKept (member l e ms) → HasKept (put k d ms)
-    → HasKept (match_ordering o (member k d (member l e ms)) (member l d ms) (member l e (put k d ms)))
-put_at Less k l d e ms is text kept h later = (text, kept, (is, before_trans k l ms is h.2), h)
-put_at Equal k l d e ms is text kept h later = (h.0, kept, h.2, h.3)
-put_at Greater k l d e ms is text kept h later =
-    let less : slice_cmp nat_cmp l k ≡ Less = nat_list_cmp_total.antisymm l k ∙ ap ordering_reverse is in
-    (h.0, h.1, before_put l k d ms less h.2, later)
-
 HasKept-put : (k : List ℕ) (d : Data) (ms : Members) → IsUtf8 k → IsKept d → HasKept ms → HasKept (put k d ms)
-HasKept-put k d no_members text kept all = (text, kept, tt, tt)
-HasKept-put k d (member l e ms) text kept all = put_at (slice_cmp nat_cmp k l) k l d e ms refl text kept all (HasKept-put k d ms text kept all.3)
+HasKept-put = so_put IsKept HasKept tt (λ k d ms. (λ h. h, λ h. h))
 
 -- ---- values of JSON
 

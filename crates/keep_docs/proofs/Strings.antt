@@ -1,14 +1,12 @@
 -- The strings of a JSON text in UTF-8 are UTF-8.
-use Rattle.std.proofs.Common.{◌≡◌, ℕ, zero, suc, ◌+◌, ◌-◌, ◌*◌, ◌<◌, ◌≤◌, ◌==◌, Bool, true, false, cond, ◌&&◌, ◌||◌, not, nat_lt, nat_le, ◌⊎◌, inl, inr, List, [], ◌∷◌, ◌++◌, length, take, drop, get_or, Option, None, Some, option_and_then, IsUtf8, refl, sym, ap, subst, ◌∙◌, arith}
-use Rattle.std.proofs.lemmas.Bool.{and_parts, cases_lt, eqb-true, le-leb, le-ltb, lt-ltb, ltb-true, leb-true, ne_eqb}
+use Rattle.std.proofs.Common.{◌≡◌, ℕ, zero, suc, ◌+◌, ◌<◌, ◌≤◌, ◌==◌, Bool, true, false, cond, ◌&&◌, ◌||◌, not, nat_lt, ◌⊎◌, inl, inr, List, [], ◌∷◌, ◌++◌, length, take, drop, get_or, Option, None, Some, option_and_then, IsUtf8, refl, sym, ap, subst, ◌∙◌, arith}
+use Rattle.std.proofs.lemmas.Bool.{and_parts, cases_lt, eqb-true, lt-ltb, ltb-true, ne_eqb}
 use Rattle.std.proofs.lemmas.List.{drop_all, drop_at, drop_more, length-append, length-drop}
 use Rattle.std.proofs.lemmas.Str.{IsCharBoundary-after_ascii, IsCharBoundary-before_ascii, IsUtf8-append, IsUtf8-drop, IsUtf8-encode, IsUtf8-from_ascii, IsUtf8-nil, IsUtf8-take}
-use Rattle.std.specs.Char.{IsScalar, digit_value, encode_utf8, is_digit}
-use Rattle.std.specs.Str.{IsAscii}
+use Rattle.std.specs.Char.{encode_utf8}
 use Rattle.json.specs.Text.{after_backslash, after_high, after_u, code_unit, content, is_high_surrogate, is_low_surrogate, plain, prepend, short_escape, surrogate_pair}
-
-pub nothing : {A : Type 0} (x : A) → None ≡ Some x → ⊥
-nothing x e = cc
+use Rattle.std.proofs.lemmas.Option.{none-some}
+use Rattle.keep_docs.proofs.Escapes.{Unit16, ascii_one, lone_scalar, pair_scalar, short_small, unit_16}
 
 heads : (x y : ℕ) (xs ys : List ℕ) → x ∷ xs ≡ y ∷ ys → (x ≡ y) × (xs ≡ ys)
 heads x y xs ys e = (cc, cc)
@@ -25,107 +23,6 @@ behind before x xs utf8 ascii =
     let small : get_or text i 0 < 128 = omega (arith, parts.0, ascii) in
     subst IsUtf8 parts.1 (IsUtf8-drop text (i + 1) utf8 (IsCharBoundary-after_ascii text i utf8 within small))
 
--- ---- escapes are of ASCII
-
-digit_value_large : (c : ℕ) → 128 ≤ c → digit_value c ≡ 36
-digit_value_large c h =
-    rw (le-ltb c 48 (omega arith), le-ltb c 58 (omega arith), le-ltb c 65 (omega arith), le-ltb c 91 (omega arith), le-ltb c 97 (omega arith), le-ltb c 123 (omega arith))
-
-digit_small : (c : ℕ) → is_digit c 16 ≡ true → c < 128
-digit_small c e =
-    elim (cases_lt c 128) [
-      | inl lt ↦ lt
-      | inr le ↦ absurd (let no : false ≡ true = sym (ap (λ v. nat_lt v 16) (digit_value_large c le)) ∙ e in cc)
-    ]
-
-chosen : (b : Bool) (v u : ℕ) → cond b (Some v) None ≡ Some u → (b ≡ true) × (v ≡ u)
-chosen true v u e = (refl, cc)
-chosen false v u e = absurd (nothing u e)
-
--- four hex digits
-record Unit16 (a b c d u : ℕ) : Type 0 where
-  first : a < 128
-  second : b < 128
-  third : c < 128
-  fourth : d < 128
-  small : u < 65536
-
-unit_16 : (a b c d u : ℕ) → code_unit a b c d ≡ Some u → Unit16 a b c d u
-unfolding code_unit
-unit_16 a b c d u e =
-    let value = digit_value a * 4096 + digit_value b * 256 + digit_value c * 16 + digit_value d in
-    let is = chosen (is_digit a 16 && is_digit b 16 && is_digit c 16 && is_digit d 16) value u e in
-    let three = and_parts (is_digit a 16 && is_digit b 16 && is_digit c 16) (is_digit d 16) is.0 in
-    let two = and_parts (is_digit a 16 && is_digit b 16) (is_digit c 16) three.0 in
-    let one = and_parts (is_digit a 16) (is_digit b 16) two.0 in
-    let x : digit_value a < 16 = ltb-true (digit_value a) 16 one.0 in
-    let y : digit_value b < 16 = ltb-true (digit_value b) 16 one.1 in
-    let z : digit_value c < 16 = ltb-true (digit_value c) 16 two.1 in
-    let w : digit_value d < 16 = ltb-true (digit_value d) 16 three.1 in
-    let same : value ≡ u = is.1 in
-    record {
-      first = digit_small a one.0;
-      second = digit_small b one.1;
-      third = digit_small c two.1;
-      fourth = digit_small d three.1;
-      small = below_16 (digit_value a) (digit_value b) (digit_value c) (digit_value d) u x y z w same;
-    }
-  where
-    below_16 : (p q r s u : ℕ) → p < 16 → q < 16 → r < 16 → s < 16 → p * 4096 + q * 256 + r * 16 + s ≡ u → u < 65536
-    below_16 p q r s u x y z w same = omega arith
-
--- a unit that is no surrogate is a character
-lone_scalar : (u : ℕ) → is_high_surrogate u ≡ false → is_low_surrogate u ≡ false → u < 65536 → IsScalar u
-lone_scalar u high low small =
-    elim (cases_lt u 55296) [
-      | inl lt ↦ rw (lt-ltb u 55296 lt)
-      | inr le ↦ elim (cases_lt u 56320) [
-        | inl lt ↦ absurd (let no : true ≡ false = (λ j. sym (le-leb 55296 u le) j && sym (lt-ltb u 56320 lt) j) ∙ high in cc)
-        | inr more ↦ elim (cases_lt u 57344) [
-          | inl lt ↦ absurd (let no : true ≡ false = (λ j. sym (le-leb 56320 u more) j && sym (lt-ltb u 57344 lt) j) ∙ low in cc)
-          | inr most ↦ rw (le-ltb u 55296 le, le-leb 57344 u most, lt-ltb u 1114112 (omega arith))
-        ]
-      ]
-    ]
-
-pair_scalar : (h l : ℕ) → is_high_surrogate h ≡ true → is_low_surrogate l ≡ true → IsScalar (surrogate_pair h l)
-pair_scalar h l high low =
-    let a = and_parts (nat_le 55296 h) (nat_lt h 56320) high in
-    let b = and_parts (nat_le 56320 l) (nat_lt l 57344) low in
-    within (surrogate_pair h l) (bounds h l (leb-true 55296 h a.0) (ltb-true h 56320 a.1) (leb-true 56320 l b.0) (ltb-true l 57344 b.1))
-  where
-    bounds : (h l : ℕ) → 55296 ≤ h → h < 56320 → 56320 ≤ l → l < 57344 → (57344 ≤ 65536 + (h - 55296) * 1024 + (l - 56320)) × (65536 + (h - 55296) * 1024 + (l - 56320) < 1114112)
-    bounds h l p q r s = (omega arith, omega arith)
-
-    within : (c : ℕ) → (57344 ≤ c) × (c < 1114112) → IsScalar c
-    within c h = let le : 55296 ≤ c = omega arith in rw (le-ltb c 55296 le, le-leb 57344 c h.0, lt-ltb c 1114112 h.1)
-
-quoted_small : (a b c : Bool) (x : ℕ) → (a ≡ true → x ≡ 34) → (b ≡ true → x ≡ 92) → (c ≡ true → x ≡ 47) → (a || b || c) ≡ true → x < 128
-quoted_small true b c x ha hb hc e = let is = ha refl in omega (arith, is)
-quoted_small false true c x ha hb hc e = let is = hb refl in omega (arith, is)
-quoted_small false false true x ha hb hc e = let is = hc refl in omega (arith, is)
-quoted_small false false false x ha hb hc e = cc
-
-short_at : (q b f n r t : Bool) (x c : ℕ) → (q ≡ true → x < 128) → (b ≡ true → x ≡ 98) → (f ≡ true → x ≡ 102) → (n ≡ true → x ≡ 110) → (r ≡ true → x ≡ 114) → (t ≡ true → x ≡ 116)
-    → cond q (Some x) (cond b (Some 8) (cond f (Some 12) (cond n (Some 10) (cond r (Some 13) (cond t (Some 9) None))))) ≡ Some c → (x < 128) × (c < 128)
-short_at true b f n r t x c hq hb hf hn hr ht e = let same : x ≡ c = cc in let small = hq refl in (small, omega arith)
-short_at false true f n r t x c hq hb hf hn hr ht e = let same : 8 ≡ c = cc in let is = hb refl in (omega arith, omega arith)
-short_at false false true n r t x c hq hb hf hn hr ht e = let same : 12 ≡ c = cc in let is = hf refl in (omega arith, omega arith)
-short_at false false false true r t x c hq hb hf hn hr ht e = let same : 10 ≡ c = cc in let is = hn refl in (omega arith, omega arith)
-short_at false false false false true t x c hq hb hf hn hr ht e = let same : 13 ≡ c = cc in let is = hr refl in (omega arith, omega arith)
-short_at false false false false false true x c hq hb hf hn hr ht e = let same : 9 ≡ c = cc in let is = ht refl in (omega arith, omega arith)
-short_at false false false false false false x c hq hb hf hn hr ht e = absurd (nothing c e)
-
-short_small : (x c : ℕ) → short_escape x ≡ Some c → (x < 128) × (c < 128)
-unfolding short_escape
-short_small x c e =
-    short_at ((x == 34) || (x == 92) || (x == 47)) (x == 98) (x == 102) (x == 110) (x == 114) (x == 116) x c
-    (quoted_small (x == 34) (x == 92) (x == 47) x (eqb-true x 34) (eqb-true x 92) (eqb-true x 47)) (eqb-true x 98) (eqb-true x 102) (eqb-true x 110) (eqb-true x 114) (eqb-true x 116) e
-
-ascii_one : (c : ℕ) → c < 128 → IsAscii (c ∷ [])
-ascii_one c h zero = h
-ascii_one c h (suc i) = omega arith
-
 -- ---- the content of a string
 
 -- the content of each text of at most n bytes is UTF-8
@@ -133,7 +30,7 @@ abbrev IsTextUpTo : ℕ → Type 0
 IsTextUpTo n = (xs s : List ℕ) → length xs ≤ n → IsUtf8 xs → content plain xs ≡ Some s → IsUtf8 s
 
 prepended : (front : List ℕ) (o : Option (List ℕ)) (s : List ℕ) → prepend front o ≡ Some s → (t : List ℕ) × (o ≡ Some t) × (front ++ t ≡ s)
-prepended front None s e = absurd (nothing s e)
+prepended front None s e = absurd (none-some s e)
 prepended front (Some t) s e = (t, refl, cc)
 
 -- a character, and what follows
@@ -150,11 +47,11 @@ low_tested : (n : ℕ) → IsTextUpTo n → (h l : ℕ) (xs t : List ℕ) (low :
     → cond low (prepend (encode_utf8 (surrogate_pair h l)) (content plain xs)) None ≡ Some t → IsUtf8 t
 low_tested n up_to h l xs t true low high le utf8 e =
     then_more n up_to (encode_utf8 (surrogate_pair h l)) xs t (IsUtf8-encode (surrogate_pair h l) (pair_scalar h l high low)) le utf8 e
-low_tested n up_to h l xs t false low high le utf8 e = absurd (nothing t e)
+low_tested n up_to h l xs t false low high le utf8 e = absurd (none-some t e)
 
 low_read : (n : ℕ) → IsTextUpTo n → (h a b c d : ℕ) (xs t : List ℕ) (o : Option ℕ) → code_unit a b c d ≡ o → is_high_surrogate h ≡ true → length xs ≤ n → IsUtf8 (a ∷ b ∷ c ∷ d ∷ xs)
     → option_and_then (λ l. cond (is_low_surrogate l) (prepend (encode_utf8 (surrogate_pair h l)) (content plain xs)) None) o ≡ Some t → IsUtf8 t
-low_read n up_to h a b c d xs t None is high le utf8 e = absurd (nothing t e)
+low_read n up_to h a b c d xs t None is high le utf8 e = absurd (none-some t e)
 low_read n up_to h a b c d xs t (Some l) is high le utf8 e =
     low_tested n up_to h l xs t (is_low_surrogate l) refl high le (behind_four a b c d l xs (unit_16 a b c d l is) utf8) e
 
@@ -167,44 +64,44 @@ pair_begun n up_to h s u a b c d xs t true both high le utf8 e =
     let letter : u ≡ 117 = eqb-true u 117 parts.1 in
     let rest = behind [] s (u ∷ a ∷ b ∷ c ∷ d ∷ xs) utf8 (omega arith) in
     low_read n up_to h a b c d xs t (code_unit a b c d) refl high le (behind [] u (a ∷ b ∷ c ∷ d ∷ xs) rest (omega arith)) e
-pair_begun n up_to h s u a b c d xs t false both high le utf8 e = absurd (nothing t e)
+pair_begun n up_to h s u a b c d xs t false both high le utf8 e = absurd (none-some t e)
 
 high_followed : (n : ℕ) → IsTextUpTo n → (h : ℕ) (xs t : List ℕ) → is_high_surrogate h ≡ true → length xs ≤ n → IsUtf8 xs → content (after_high h) xs ≡ Some t → IsUtf8 t
 unfolding content
-high_followed n up_to h [] t high le utf8 e = absurd (nothing t e)
-high_followed n up_to h (s ∷ []) t high le utf8 e = absurd (nothing t e)
-high_followed n up_to h (s ∷ u ∷ []) t high le utf8 e = absurd (nothing t e)
-high_followed n up_to h (s ∷ u ∷ a ∷ []) t high le utf8 e = absurd (nothing t e)
-high_followed n up_to h (s ∷ u ∷ a ∷ b ∷ []) t high le utf8 e = absurd (nothing t e)
-high_followed n up_to h (s ∷ u ∷ a ∷ b ∷ c ∷ []) t high le utf8 e = absurd (nothing t e)
+high_followed n up_to h [] t high le utf8 e = absurd (none-some t e)
+high_followed n up_to h (s ∷ []) t high le utf8 e = absurd (none-some t e)
+high_followed n up_to h (s ∷ u ∷ []) t high le utf8 e = absurd (none-some t e)
+high_followed n up_to h (s ∷ u ∷ a ∷ []) t high le utf8 e = absurd (none-some t e)
+high_followed n up_to h (s ∷ u ∷ a ∷ b ∷ []) t high le utf8 e = absurd (none-some t e)
+high_followed n up_to h (s ∷ u ∷ a ∷ b ∷ c ∷ []) t high le utf8 e = absurd (none-some t e)
 high_followed n up_to h (s ∷ u ∷ a ∷ b ∷ c ∷ d ∷ xs) t high le utf8 e =
     pair_begun n up_to h s u a b c d xs t ((s == 92) && (u == 117)) refl high (omega arith) utf8 e
 
 unit_tested : (n : ℕ) → IsTextUpTo n → (u : ℕ) (xs t : List ℕ) (high low : Bool) → is_high_surrogate u ≡ high → is_low_surrogate u ≡ low → u < 65536 → length xs ≤ n → IsUtf8 xs
     → cond high (content (after_high u) xs) (cond low None (prepend (encode_utf8 u) (content plain xs))) ≡ Some t → IsUtf8 t
 unit_tested n up_to u xs t true low is_high is_low small le utf8 e = high_followed n up_to u xs t is_high le utf8 e
-unit_tested n up_to u xs t false true is_high is_low small le utf8 e = absurd (nothing t e)
+unit_tested n up_to u xs t false true is_high is_low small le utf8 e = absurd (none-some t e)
 unit_tested n up_to u xs t false false is_high is_low small le utf8 e =
     then_more n up_to (encode_utf8 u) xs t (IsUtf8-encode u (lone_scalar u is_high is_low small)) le utf8 e
 
 unit_read : (n : ℕ) → IsTextUpTo n → (a b c d : ℕ) (xs t : List ℕ) (o : Option ℕ) → code_unit a b c d ≡ o → length xs ≤ n → IsUtf8 (a ∷ b ∷ c ∷ d ∷ xs)
     → option_and_then (λ u. cond (is_high_surrogate u) (content (after_high u) xs) (cond (is_low_surrogate u) None (prepend (encode_utf8 u) (content plain xs)))) o ≡ Some t → IsUtf8 t
-unit_read n up_to a b c d xs t None is le utf8 e = absurd (nothing t e)
+unit_read n up_to a b c d xs t None is le utf8 e = absurd (none-some t e)
 unit_read n up_to a b c d xs t (Some u) is le utf8 e =
     let hex = unit_16 a b c d u is in
     unit_tested n up_to u xs t (is_high_surrogate u) (is_low_surrogate u) refl refl hex.small le (behind_four a b c d u xs hex utf8) e
 
 letter_followed : (n : ℕ) → IsTextUpTo n → (xs t : List ℕ) → length xs ≤ n → IsUtf8 xs → content after_u xs ≡ Some t → IsUtf8 t
 unfolding content
-letter_followed n up_to [] t le utf8 e = absurd (nothing t e)
-letter_followed n up_to (a ∷ []) t le utf8 e = absurd (nothing t e)
-letter_followed n up_to (a ∷ b ∷ []) t le utf8 e = absurd (nothing t e)
-letter_followed n up_to (a ∷ b ∷ c ∷ []) t le utf8 e = absurd (nothing t e)
+letter_followed n up_to [] t le utf8 e = absurd (none-some t e)
+letter_followed n up_to (a ∷ []) t le utf8 e = absurd (none-some t e)
+letter_followed n up_to (a ∷ b ∷ []) t le utf8 e = absurd (none-some t e)
+letter_followed n up_to (a ∷ b ∷ c ∷ []) t le utf8 e = absurd (none-some t e)
 letter_followed n up_to (a ∷ b ∷ c ∷ d ∷ xs) t le utf8 e = unit_read n up_to a b c d xs t (code_unit a b c d) refl (omega arith) utf8 e
 
 short_read : (n : ℕ) → IsTextUpTo n → (y : ℕ) (ys t : List ℕ) (o : Option ℕ) → short_escape y ≡ o → length ys ≤ n → IsUtf8 (y ∷ ys)
     → option_and_then (λ c. prepend (c ∷ []) (content plain ys)) o ≡ Some t → IsUtf8 t
-short_read n up_to y ys t None is le utf8 e = absurd (nothing t e)
+short_read n up_to y ys t None is le utf8 e = absurd (none-some t e)
 short_read n up_to y ys t (Some c) is le utf8 e =
     let small = short_small y c is in
     then_more n up_to (c ∷ []) ys t (IsUtf8-from_ascii (c ∷ []) (ascii_one c small.1)) le (behind [] y ys utf8 small.0) e
@@ -218,7 +115,7 @@ escape_tested n up_to y ys t false is le utf8 e = short_read n up_to y ys t (sho
 
 backslash_followed : (n : ℕ) → IsTextUpTo n → (ys t : List ℕ) → length ys ≤ n → IsUtf8 ys → content after_backslash ys ≡ Some t → IsUtf8 t
 unfolding content
-backslash_followed n up_to [] t le utf8 e = absurd (nothing t e)
+backslash_followed n up_to [] t le utf8 e = absurd (none-some t e)
 backslash_followed n up_to (y ∷ ys) t le utf8 e = escape_tested n up_to y ys t (y == 117) refl (omega arith) utf8 e
 
 -- the bytes that stand for themselves, up to a quote, a backslash, a control byte or the end
@@ -311,7 +208,7 @@ stopped n up_to xs p t le utf8 within (inr (inl is)) e =
 stopped n up_to xs p t le utf8 within (inr (inr is)) e =
     let control : get_or xs p 0 < 32 = ltb-true (get_or xs p 0) 32 is in
     let here = ap (content plain) (drop_more xs p 0 within) ∙ at_control (get_or xs p 0) (drop (p + 1) xs) control in
-    absurd (nothing t (sym here ∙ e))
+    absurd (none-some t (sym here ∙ e))
 
 run_read : (n : ℕ) → IsTextUpTo n → (xs s : List ℕ) → length xs ≤ suc n → IsUtf8 xs → content plain xs ≡ Some s → IsUtf8 s
 run_read n up_to xs s le utf8 e =
@@ -322,11 +219,11 @@ run_read n up_to xs s le utf8 e =
       | inl within ↦ let y = get_or xs p 0 in
           let both = stopped n up_to xs p parts.0 le utf8 within (stop_at (y == 34) (y == 92) (nat_lt y 32) (halves.stops within)) parts.1 in
           subst IsUtf8 parts.2 (IsUtf8-append (take p xs) parts.0 both.0 both.1)
-      | inr past ↦ absurd (nothing parts.0 (sym (ap (content plain) (drop_all p xs past) ∙ at_end) ∙ parts.1))
+      | inr past ↦ absurd (none-some parts.0 (sym (ap (content plain) (drop_all p xs past) ∙ at_end) ∙ parts.1))
     ]
 
 content_up_to : (n : ℕ) → IsTextUpTo n
-content_up_to zero [] s le utf8 e = absurd (nothing s (sym at_end ∙ e))
+content_up_to zero [] s le utf8 e = absurd (none-some s (sym at_end ∙ e))
 content_up_to zero (x ∷ xs) s le utf8 e = absurd (omega arith)
 content_up_to (suc n) xs s le utf8 e = run_read n (content_up_to n) xs s le utf8 e
 

@@ -5,8 +5,11 @@ use Rattle.std.specs.FinMap.{IsAntisymmetric, entries, from_entries, get, retain
 use Rattle.std.specs.List.{AllByRecursion}
 use Rattle.std.specs.List.Sorted.{IsStrictlySortedBy}
 use Rattle.std.proofs.lemmas.List.Elements.{All-from_recursion, recursion_from_All}
+use Rattle.keep_catalog.specs.Ordered.{in_order, keyed}
 use Rattle.keep_catalog.specs.Places.{is_unmarked}
+use Rattle.keep_catalog.proofs.Ordered.{keys_in_order}
 use Rattle.keep_change.specs.Form.{AreNamedByBytes}
+use Rattle.keep_change.specs.Lists.{file_names, marked_packs}
 use Rattle.keep_change.specs.NamedBytes.{NamedBytes}
 use Rattle.keep_change.specs.declared.change.PackMark.{PackMark}
 use Rattle.keep_names.proofs.Orders.{id_exact, id_total, name_exact, name_total}
@@ -18,9 +21,9 @@ use Rattle.keep_names.specs.declared.id.Id.{Id}
 use Rattle.keep_repo.specs.Repository.{Repository}
 use Rattle.keep_repo.specs.declared.facet.Mark.{Mark}
 use Rattle.keep_plan.specs.Reuse.{reused_files, reused_packs}
-use Rattle.keep_plan.specs.Settling.{CanBeMade, absent_files, absent_of, file_names, in_order, is_in, is_there, keyed, marks_on, names_there, pack_mark, packs_among, settled, under_name, unmarked_of}
+use Rattle.keep_plan.specs.Settling.{CanBeMade, absent_files, absent_of, is_in, is_there, marks_on, names_there, pack_mark, packs_among, settled, under_name, unmarked_of}
 use Rattle.keep_plan.proofs.Grounds.{reused_free, reused_there}
-use Rattle.keep_plan.proofs.Ordered.{All-entries, All-of_map, each_so, filter_passes, keys_in_order, retained_there}
+use Rattle.keep_plan.proofs.Ordered.{All-entries, All-of_map, each_so, filter_passes, retained_there}
 
 All-append : {X : Type 0} (P : X → Type 0) (xs ys : List X) → AllByRecursion P xs → AllByRecursion P ys → AllByRecursion P (xs ++ ys)
 All-append P [] ys h g = g
@@ -76,11 +79,11 @@ module _ (r : Repository) where
 
   -- ---- the marks
 
-  packs_are : (es : List (Id × Mark)) → map (λ (m : PackMark). m.pack) (map pack_mark es) ≡ map (λ e. e.0) es
+  packs_are : (es : List (Id × Mark)) → marked_packs (map pack_mark es) ≡ map (λ e. e.0) es
   packs_are [] = refl
   packs_are (e ∷ es) = ap (λ (packs : List Id). e.0 ∷ packs) (packs_are es)
 
-  clears_rise : (packs : List Id) → IsStrictlySortedBy id_cmp (map (λ (m : PackMark). m.pack) (marks_on r packs))
+  clears_rise : (packs : List Id) → IsStrictlySortedBy id_cmp (marked_packs (marks_on r packs))
   clears_rise packs =
       subst (λ (ids : List Id). IsStrictlySortedBy id_cmp ids) (sym (packs_are (entries (retain_keys r.marks (is_in packs)))))
       (keys_in_order id_cmp (retain_keys r.marks (is_in packs)))

@@ -1,28 +1,12 @@
--- What the lists of a finite map are: in order, and of what the map was made of.
-use Rattle.std.proofs.Common.{◌≡◌, ◌&&◌, Bool, true, false, cond, List, [], ◌∷◌, map, filter, None, Some, Ordering, Less, Equal, Greater, T, refl, sym, ap, subst, ◌∙◌}
+-- What the entries of a finite map are.
+use Rattle.std.proofs.Common.{◌≡◌, Bool, true, false, cond, List, [], ◌∷◌, map, filter, None, Some, Ordering, Less, Equal, Greater, T, refl, sym, ap, subst, ◌∙◌}
 use Rattle.std.specs.Cmp.{IsTotalOrder, tied_itself}
-use Rattle.std.specs.FinMap.{FinMap, IsAntisymmetric, empty, entries, entries-insert, entries_sorted, find, from_entries, get, get-entries, get-retain_keys, is_sorted, keys, len-empty, len-entries, put, retain_keys}
+use Rattle.std.specs.FinMap.{FinMap, IsAntisymmetric, entries, entries-insert, entries_sorted, find, from_entries, get, get-entries, get-retain_keys, is_sorted, put, retain_keys}
 use Rattle.std.specs.FinMap.Entries.{below_all, by_order}
 use Rattle.std.specs.List.{AllByRecursion}
-use Rattle.std.specs.List.Sorted.{IsStrictlySortedBy}
-use Rattle.std.specs.Ordering.{eq_by_cmp, is_eq, is_lt, ordering_reverse}
-use Rattle.std.proofs.lemmas.List.{nil_from_length}
-
-first_of_both : (a b : Bool) → T (a && b) → T a
-first_of_both true b h = tt
-first_of_both false b h = h
-
-second_of_both : (a b : Bool) → T (a && b) → T b
-second_of_both true b h = h
-second_of_both false b h = absurd h
-
-less : (o : Ordering) → T (is_lt o) → o ≡ Less
-less Less h = refl
-less Equal h = absurd h
-less Greater h = absurd h
-
-no_entries : {K X : Type 0} (R : K → K → Ordering) → entries (empty {X = X} {R = R}) ≡ []
-no_entries {X = X} R = nil_from_length _ (sym (len-entries empty) ∙ len-empty R X)
+use Rattle.std.specs.Ordering.{eq_by_cmp, is_eq, ordering_reverse}
+use Rattle.keep_repo.proofs.Maps.{no_entries}
+use Rattle.keep_catalog.proofs.Ordered.{all_above, first_of_both, second_of_both}
 
 -- what each of the entries is that a map is made of, each of its own is
 module _ {K X : Type 0} {R : K → K → Ordering} (total : IsTotalOrder R) (exact : IsAntisymmetric R) (P : K × X → Type 0) where
@@ -40,20 +24,6 @@ module _ {K X : Type 0} {R : K → K → Ordering} (total : IsTotalOrder R) (exa
       subst (λ (xs : List (K × X)). AllByRecursion P xs) (sym (entries-insert total (from_entries es) e.0 e.1))
       (All-put e.0 e.1 (entries (from_entries es)) h.0 (All-entries es h.1))
 
-module _ {K X : Type 0} (R : K → K → Ordering) where
-  above_first : (x : K) (es : List (K × X)) → T (below_all R x es) → AllByRecursion (λ y. R x y ≡ Less) (map (λ e. e.0) es)
-  above_first x [] h = tt
-  above_first x (e ∷ es) h = (less (R x e.0) (first_of_both (is_lt (R x e.0)) (below_all R x es) h), above_first x es (second_of_both (is_lt (R x e.0)) (below_all R x es) h))
-
-  keys_rise : (es : List (K × X)) → T (is_sorted R es) → IsStrictlySortedBy R (map (λ e. e.0) es)
-  unfolding IsStrictlySortedBy
-  keys_rise [] h = tt
-  keys_rise (e ∷ es) h = (above_first e.0 es (first_of_both (below_all R e.0 es) (is_sorted R es) h), keys_rise es (second_of_both (below_all R e.0 es) (is_sorted R es) h))
-
-  -- the keys of a map are in order
-  pub keys_in_order : (m : FinMap R X) → IsStrictlySortedBy R (keys m)
-  keys_in_order m = keys_rise (entries m) (entries_sorted m)
-
 apart : {K : Type 0} {R : K → K → Ordering} → IsTotalOrder R → (x y : K) → R x y ≡ Less → eq_by_cmp R y x ≡ false
 apart total x y h = ap is_eq (total.antisymm y x ∙ ap ordering_reverse h)
 
@@ -69,7 +39,7 @@ module _ {K X : Type 0} {R : K → K → Ordering} (total : IsTotalOrder R) wher
   each_found [] h = tt
   each_found (x ∷ es) h = (
     ap (λ o. cond (is_eq o) (Some x.1) (find R x.0 es)) (tied_itself total x.0),
-    found_behind x es es (each_found es (second_of_both (below_all R x.0 es) (is_sorted R es) h)) (above_first R x.0 es (first_of_both (below_all R x.0 es) (is_sorted R es) h)),
+    found_behind x es es (each_found es (second_of_both (below_all R x.0 es) (is_sorted R es) h)) (all_above R x.0 es (first_of_both (below_all R x.0 es) (is_sorted R es) h)),
   )
 
   each_at : (m : FinMap R X) (es : List (K × X)) → AllByRecursion (λ e. find R e.0 (entries m) ≡ Some e.1) es → AllByRecursion (λ e. get m e.0 ≡ Some e.1) es

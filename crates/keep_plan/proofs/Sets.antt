@@ -6,7 +6,8 @@ use Rattle.std.specs.Cmp.{IsTotalOrder, eq_by_cmp_equiv}
 use Rattle.std.specs.List.{list_any}
 use Rattle.std.specs.Ordering.{eq_by_cmp}
 
-or_swap : (k a : Bool) → cond k true a ≡ (a || (k || false))
+-- one more key at the end, as a set takes it
+pub or_swap : (k a : Bool) → cond k true a ≡ (a || (k || false))
 or_swap true true = refl
 or_swap true false = refl
 or_swap false true = refl

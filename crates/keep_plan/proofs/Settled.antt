@@ -11,6 +11,7 @@ use Rattle.std.specs.List.Sorted.{IsStrictlySortedBy}
 use Rattle.std.specs.Map.{keys_of}
 use Rattle.std.specs.Option.{option_map, option_or}
 use Rattle.std.specs.Ordering.{eq_by_cmp}
+use Rattle.std.proofs.Math.Bool.{or_assoc}
 use Rattle.std.proofs.lemmas.List.{map-append}
 use Rattle.std.proofs.lemmas.List.Elements.{filter-append}
 use Rattle.std.proofs.lemmas.List.Folds.{list_any-append}
@@ -22,29 +23,18 @@ use Rattle.keep_names.specs.declared.id.Id.{Id}
 use Rattle.keep_repo.proofs.Maps.{entries_made, get_made, keys_made}
 use Rattle.keep_repo.specs.Repository.{Repository}
 use Rattle.keep_repo.specs.declared.facet.Mark.{Mark}
+use Rattle.keep_catalog.specs.Ordered.{in_order, keyed}
+use Rattle.keep_catalog.proofs.Ordered.{find_append, found_key, here, keys_keyed}
+use Rattle.keep_change.specs.Lists.{file_names}
 use Rattle.keep_change.specs.NamedBytes.{NamedBytes}
 use Rattle.keep_plan.specs.Marks.{AreMarks}
-use Rattle.keep_plan.specs.Settling.{absent_files, absent_of, file_names, in_order, is_in, is_there, keyed, marks_on, names_there, pack_mark, under_name}
+use Rattle.keep_plan.specs.Settling.{absent_files, absent_of, is_in, is_there, marks_on, names_there, pack_mark, under_name}
 
 -- ---- entries one after the other
-
-or_or : {A : Type 0} (a b c : Option A) → option_or (option_or a b) c ≡ option_or a (option_or b c)
-or_or None b c = refl
-or_or (Some x) b c = refl
 
 or_none : {A : Type 0} (a : Option A) → a ≡ option_or a None
 or_none None = refl
 or_none (Some x) = refl
-
-first_or : {A : Type 0} (b : Bool) (x : A) (a c : Option A) → cond b (Some x) (option_or a c) ≡ option_or (cond b (Some x) a) c
-first_or true x a c = refl
-first_or false x a c = refl
-
-module _ {K X : Type 0} (R : K → K → Ordering) where
-  find_append : (q : K) (xs ys : List (K × X)) → find R q (xs ++ ys) ≡ option_or (find R q xs) (find R q ys)
-  find_append q [] ys = refl
-  find_append q (x ∷ xs) ys =
-      ap (cond (eq_by_cmp R q x.0) (Some x.1)) (find_append q xs ys) ∙ first_or (eq_by_cmp R q x.0) x.1 (find R q xs) (find R q ys)
 
 -- of two entries with one key the first stays
 module _ {K X : Type 0} {R : K → K → Ordering} (total : IsTotalOrder R) (exact : IsAntisymmetric R) (old : BTreeMap K X) (k : K) (x : X) where
@@ -98,10 +88,7 @@ module _ (r : Repository) where
   there_more first old new files file name so step =
       step ∙ ap (λ t. t || list_any (eq_by_cmp name_cmp name) (names_there r (file ∷ []))) so
       ∙ or_assoc first _ _
-      ∙ ap (λ t. first || t) (sym (ap (list_any (eq_by_cmp name_cmp name)) (names_there-append files (file ∷ [])) ∙ list_any-append (eq_by_cmp name_cmp name) (names_there r files) (names_there r (file ∷ [])))) where
-        or_assoc : (a b c : Bool) → (a || b || c) ≡ (a || (b || c))
-        or_assoc true b c = refl
-        or_assoc false b c = refl
+      ∙ ap (λ t. first || t) (sym (ap (list_any (eq_by_cmp name_cmp name)) (names_there-append files (file ∷ [])) ∙ list_any-append (eq_by_cmp name_cmp name) (names_there r files) (names_there r (file ∷ []))))
 
   -- a file that is there, and one that isn't
   pub there_is : (file : NamedBytes) → is_there r file.name ≡ true → names_there r (file ∷ []) ≡ file.name ∷ []
@@ -118,22 +105,6 @@ module _ {K X : Type 0} {R : K → K → Ordering} (total : IsTotalOrder R) (exa
   entries_are m made ordered same =
       sym (entries_made total m.entries ordered)
       ∙ ap entries (same_map total exact (from_entries m.entries) made (λ q. get_made total m.entries q ∙ same q))
-
-abbrev pub here : Option (Unit {0})
-here = Some tt
-
-either : (a b : Bool) → cond a here (cond b here None) ≡ cond (a || b) here None
-either true b = refl
-either false b = refl
-
-module _ {K : Type 0} (R : K → K → Ordering) where
-  pub found_key : (q : K) (ks : List K) → find R q (map keyed ks) ≡ cond (list_any (eq_by_cmp R q) ks) here None
-  found_key q [] = refl
-  found_key q (k ∷ ks) = ap (cond (eq_by_cmp R q k) here) (found_key q ks) ∙ either (eq_by_cmp R q k) (list_any (eq_by_cmp R q) ks)
-
-  keys_keyed : (ks : List K) → keys_of (map keyed ks) ≡ ks
-  keys_keyed [] = refl
-  keys_keyed (k ∷ ks) = ap (λ xs. k ∷ xs) (keys_keyed ks)
 
 module _ {K : Type 0} {R : K → K → Ordering} (total : IsTotalOrder R) (exact : IsAntisymmetric R) where
   -- a set's keys are those that it answers for, in order

@@ -4,7 +4,6 @@ use Rattle.std.specs.FinMap as finite
 use Rattle.std.specs.List.{list_any}
 use Rattle.std.specs.List.Sorted.{IsStrictlySortedBy}
 use Rattle.std.specs.Ordering.{eq_by_cmp}
-use Rattle.std.specs.declared.cmp.Ordering.{Ordering}
 use Rattle.keep_names.specs.FileName.{named}
 use Rattle.keep_names.specs.Orders.{id_cmp, name_cmp}
 use Rattle.keep_names.specs.declared.blob.BlobId.{BlobId}
@@ -14,17 +13,15 @@ use Rattle.keep_names.specs.declared.id.Id.{Id}
 use Rattle.keep_repo.specs.Repository.{Repository}
 use Rattle.keep_repo.specs.declared.facet.Mark.{Mark}
 use Rattle.keep_change.specs.Form.{AreNamedByBytes}
+use Rattle.keep_change.specs.Lists.{file_names, marked_packs}
 use Rattle.keep_change.specs.declared.change.PackMark.{PackMark}
 use Rattle.keep_change.specs.NamedBytes.{NamedBytes}
 use Rattle.keep_repo.specs.Kinds.{ids_among}
+use Rattle.keep_catalog.specs.Ordered.{in_order}
 use Rattle.keep_catalog.specs.Places.{is_unmarked}
 use Rattle.keep_catalog.specs.declared.spot.Spot.{Spot}
 use Rattle.keep_plan.specs.Reuse.{reused_files, reused_packs}
 use Rattle.keep_plan.specs.declared.stored.Stored.{Stored}
-
--- the names of files
-abbrev pub file_names : List NamedBytes → List FileName
-file_names files = map (λ file. file.name) files
 
 -- whether there is a file of this name
 abbrev pub is_there : Repository → FileName → Bool
@@ -49,6 +46,7 @@ names_there r files = filter (is_there r) (file_names files)
 abbrev pub packs_among : List NamedBytes → List Id
 packs_among files = ids_among Pack (file_names files)
 
+-- whether the id is one of these
 abbrev pub is_in : List Id → Id → Bool
 is_in ids id = list_any (eq_by_cmp id_cmp id) ids
 
@@ -62,13 +60,6 @@ marks_on r packs = map pack_mark (finite.entries (finite.retain_keys r.marks (is
 -- those of the packs that have none
 abbrev pub unmarked_of : Repository → List Id → List Id
 unmarked_of r packs = filter (is_unmarked r) packs
-
--- these keys in their order, each once
-abbrev pub keyed : {K : Type 0} → K → K × Unit {0}
-keyed key = (key, tt)
-
-abbrev pub in_order : {K : Type 0} → (K → K → Ordering) → List K → List K
-in_order R keys = finite.keys (finite.from_entries {R = R} (map keyed keys))
 
 -- What becomes of these built files, where these blobs are used where they are. The files that are absent are
 -- added, and the marks of the packs among them cleared. To be present are the other files, and the packs and
@@ -85,7 +76,7 @@ settled r used built = record {
 -- by their bytes and aren't there, each mark to be cleared is there, and what has to be present or unmarked is.
 pub record CanBeMade (r : Repository) (stored : Stored) : Type 0 where
   pub adds_in_order : IsStrictlySortedBy name_cmp (file_names stored.adds)
-  pub clears_in_order : IsStrictlySortedBy id_cmp (map (λ m. m.pack) stored.clears)
+  pub clears_in_order : IsStrictlySortedBy id_cmp (marked_packs stored.clears)
   pub present_in_order : IsStrictlySortedBy name_cmp stored.present
   pub unmarked_in_order : IsStrictlySortedBy id_cmp stored.unmarked
   pub named : AreNamedByBytes stored.adds

@@ -1,7 +1,7 @@
 ghost use Rattle.std.specs.Prelude.{◌≡◌, [], ◌∷◌};
 ghost use Rattle.keep_plan.specs.Files as spec;
 
-use keep_names::{FileName, Id, Kind};
+use keep_names::{FileName, Id};
 use std::alloc::{AllocError, Global};
 use std::collections::BTreeSet;
 
@@ -50,13 +50,5 @@ impl Reuses {
 fn files_used(pack: Id, index: Id) -> (FileName, FileName)
     ensures { result.0 ∷ result.1 ∷ [] ≡ spec.files_used (pack, index) }
 {
-    let pack_file = FileName {
-        kind: Kind::Pack,
-        id: pack,
-    };
-    let index_file = FileName {
-        kind: Kind::Index,
-        id: index,
-    };
-    (pack_file, index_file)
+    (FileName::pack(pack), FileName::index(index))
 }

@@ -199,10 +199,7 @@ fn what_cannot_be_restored_says_why(rt: HostRuntime) -> Result<(), Fail> {
     let mut changed = Repo::new(alloc);
     one_file(alloc, &mut changed, "Hello")?;
     let unread = Unread {
-        name: FileName {
-            kind: Kind::Snapshot,
-            id: late,
-        },
+        name: FileName::snapshot(late),
         refusal: FileError::Snap(SnapError::BadTime),
     };
     let hello = id_of(b"hello");
@@ -244,16 +241,10 @@ fn an_audit_finds_all_that_is_wrong(rt: HostRuntime) -> Result<(), Fail> {
     let late = put_snapshot(alloc, &mut repo, snapshot, "late")?;
     let hello = id_of(b"hello");
     let unread = Unread {
-        name: FileName {
-            kind: Kind::Snapshot,
-            id: late,
-        },
+        name: FileName::snapshot(late),
         refusal: FileError::Snap(SnapError::BadTime),
     };
-    let wrong = FileName {
-        kind: Kind::Pack,
-        id: first,
-    };
+    let wrong = FileName::pack(first);
     let blob = BlobId {
         id: hello,
         blob_type: BlobType::Content,

@@ -20,7 +20,7 @@ module _ {K X : Type 0} (R : K → K → Ordering) where
   put_first k v [] h = refl
   put_first k v (e ∷ es) h = rw h.0
 
-  no_entries : entries (empty {X = X} {R = R}) ≡ []
+  pub no_entries : entries (empty {X = X} {R = R}) ≡ []
   no_entries = nil_from_length _ (sym (len-entries empty) ∙ len-empty R X)
 
 module _ {K X : Type 0} {R : K → K → Ordering} (total : IsTotalOrder R) where

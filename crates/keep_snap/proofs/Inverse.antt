@@ -1,7 +1,7 @@
 -- What is read as a snapshot is one that a document can hold.
-use Rattle.std.proofs.Common.{◌≡◌, ℕ, ◌<◌, ◌≤◌, All, Bool, true, false, cond, List, [], ◌∷◌, Option, None, Some, option_map, option_and_then, ok_or, Result, Ok, Err, IfOk, IfSome, IsSome, IsUtf8, codes, refl, sym, ap, subst, arith}
+use Rattle.std.proofs.Common.{◌≡◌, ℕ, ◌<◌, ◌≤◌, All, Bool, true, false, cond, List, [], ◌∷◌, Option, None, Some, option_map, option_and_then, ok_or, Result, Ok, Err, IfOk, IfSome, IsSome, IsUtf8, codes, refl, sym, subst, arith}
 use Rattle.std.proofs.lemmas.List.Elements.{All-from_recursion}
-use Rattle.std.proofs.lemmas.Option.{option_and_then_some}
+use Rattle.std.proofs.lemmas.Option.{option_and_then_some, same_Some}
 use Rattle.std.specs.List.{AllByRecursion}
 use Rattle.std.specs.Option.{is_none, is_some}
 use Rattle.serde_json.specs.Data.{Data, depth, members_depth}
@@ -15,6 +15,7 @@ use Rattle.keep_docs.specs.Lists.{texts_in}
 use Rattle.keep_docs.specs.Readable.{IsReadable}
 use Rattle.keep_docs.specs.declared.doc.DocError.{DocError}
 use Rattle.keep_docs.specs.declared.doc.DocError.TheVariants.{Memory}
+use Rattle.keep_docs.proofs.Answered.{found_from_ok}
 use Rattle.keep_docs.proofs.Parts.{HasReadable-other_members, IsDigest-as_id, IsDigest-field, IsReadable-get, IsUtf8-as_str, IsUtf8-field, depth-get, depth-other_members}
 use Rattle.keep_docs.proofs.Parts.{each_read, map_parts, others-other_members, readable-list, readable-list_field, then_parts}
 use Rattle.keep_docs.proofs.Reading.{document-doc_of}
@@ -24,7 +25,6 @@ use Rattle.keep_snap.specs.Time.{time_in}
 use Rattle.keep_snap.specs.declared.snap.Snap.{Snap}
 use Rattle.keep_snap.specs.declared.snap.SnapError.{SnapError}
 use Rattle.keep_snap.specs.declared.snap.SnapError.TheVariants.{BadSnapshot, BadTime, Doc}
-use Rattle.keep_snap.proofs.Told.{found_from_ok}
 
 -- ---- fields
 
@@ -87,18 +87,7 @@ made_whole d s readable nests is_time e =
     option_and_then_some _ (optional (codes "username") as_str d) s e4 (λ username has_username e5.
     option_and_then_some _ (tags_in d) s e5 (λ tags has_tags e6.
     option_and_then_some _ (optional (codes "original") as_id d) s e6 (λ original has_original e7.
-    let made : SnapData = record {
-      time = time;
-      tree = tree;
-      paths = paths;
-      hostname = hostname;
-      username = username;
-      tags = tags;
-      original = original;
-      dir = get (codes "dir") d;
-      others = other_members named d;
-    } in
-    let same : made ≡ s = cc in
+    let same = same_Some _ s e7 in
     let low : members_depth (other_members named d) ≤ 126 = depth-other_members named d 126 nests in
     subst IsSnap same (record {
       timed = subst (λ (x : SnapData). IsSome (time_in x.time)) (sym same) is_time;

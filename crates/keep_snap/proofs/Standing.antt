@@ -1,21 +1,19 @@
 -- What can stand in a document that is written: whole numbers, nested not too deep.
-use Rattle.std.proofs.Common.{◌≡◌, ℕ, ◌<◌, ◌≤◌, max, Bool, true, false, ◌||◌, cond, List, [], ◌∷◌, map, Option, None, Some, option_map, IfSome, Ok, Err, Ordering, Less, Equal, Greater, refl, sym, ap, subst, arith}
+use Rattle.std.proofs.Common.{◌≡◌, ℕ, ◌<◌, ◌≤◌, max, Bool, true, false, ◌||◌, List, [], ◌∷◌, map, Option, None, Some, option_map, IfSome, Ordering, Less, Equal, Greater, refl, ap, arith}
 use Rattle.std.specs.Cmp.Lexicographic.{slice_cmp}
-use Rattle.std.specs.List.{AllByRecursion, list_any}
+use Rattle.std.specs.List.{AllByRecursion}
 use Rattle.std.specs.Ordering.{nat_cmp, match_ordering}
-use Rattle.std.specs.Str.{bytes_eq, is_utf8}
-use Rattle.serde_json.specs.Data.{Data, null, boolean, number, string, array, object, Members, no_members, member, put, depth, items_depth, members_depth}
-use Rattle.serde_json.specs.Find.{get, get_member}
-use Rattle.serde_json.specs.Read.{max_depth, read}
+use Rattle.serde_json.specs.Data.{Data, string, object, Members, no_members, member, put, depth, items_depth, members_depth}
+use Rattle.serde_json.specs.Read.{max_depth}
 use Rattle.serde_json.specs.View.{items_of}
 use Rattle.serde_json.specs.Written.{has_float, items_have_float, members_have_float}
 use Rattle.keep_names.specs.declared.id.Id.{Id}
-use Rattle.keep_docs.specs.Fields.{id_data, other_members, others}
+use Rattle.keep_docs.specs.Fields.{id_data}
 use Rattle.keep_docs.specs.Lists.{texts_data}
 use Rattle.keep_docs.specs.Readable.{IsReadable}
 use Rattle.keep_docs.proofs.ReadBack.{has_float-IsReadable}
 use Rattle.keep_snap.specs.Shape.{IsSnap}
-use Rattle.keep_snap.specs.Snap.{SnapData, named}
+use Rattle.keep_snap.specs.Snap.{SnapData}
 use Rattle.keep_snap.specs.Written.{CanStand, CanStandAmong, IsCarried, fields, put_if, snap_data, tags_data, text_data, with_fields}
 
 -- ---- members

@@ -1,16 +1,12 @@
 -- The facts of a snapshot.
-use Rattle.std.proofs.Common.{◌≡◌, ℕ, List, [], Option, None, Some, Ok, ok_or, unwrap_or}
+use Rattle.std.proofs.Common.{◌≡◌, ℕ, List, [], Some, Ok, ok_or, unwrap_or}
 use Rattle.keep_names.specs.declared.id.Id.{Id}
+use Rattle.keep_docs.proofs.Answered.{found_from_ok}
 use Rattle.keep_snap.specs.Facts.{facts_of}
 use Rattle.keep_snap.specs.Snap.{SnapData}
 use Rattle.keep_snap.specs.Time.{time_in}
 use Rattle.keep_snap.specs.declared.snap.SnapError.TheVariants.{BadTime}
 use Rattle.keep_snap.specs.declared.time.Time.{Time}
-
--- a value that was read
-pub found_from_ok : {A E : Type 0} (o : Option A) (e : E) (x : A) → ok_or o e ≡ Ok x → o ≡ Some x
-found_from_ok None e x h = cc
-found_from_ok (Some y) e x h = cc
 
 pub facts_told : (name : Id) (s : SnapData) (t : Time) (host user : List ℕ) (paths tags : List (List ℕ)) → ok_or (time_in s.time) BadTime ≡ Ok t
     → host ≡ unwrap_or s.hostname [] → user ≡ unwrap_or s.username [] → paths ≡ s.paths → tags ≡ s.tags

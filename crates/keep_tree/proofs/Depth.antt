@@ -1,7 +1,7 @@
 -- How deep trees nest that are written.
-use Rattle.std.proofs.Common.{ℕ, ◌≤◌, List, [], ◌∷◌, map, codes, arith}
+use Rattle.std.proofs.Common.{◌≤◌, List, [], ◌∷◌, map, codes, arith}
 use Rattle.std.specs.List.{AllByRecursion}
-use Rattle.serde_json.specs.Data.{Data, string, Members, put, depth, items_depth, members_depth}
+use Rattle.serde_json.specs.Data.{string, Members, put, depth, items_depth, members_depth}
 use Rattle.serde_json.specs.Read.{max_depth}
 use Rattle.serde_json.specs.View.{items_of}
 use Rattle.keep_names.specs.declared.id.Id.{Id}

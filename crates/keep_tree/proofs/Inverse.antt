@@ -1,5 +1,5 @@
 -- What is read as a tree is one that a document can hold.
-use Rattle.std.proofs.Common.{◌≡◌, ◌≢◌, ℕ, ◌≤◌, Bool, true, false, cond, List, [], ◌∷◌, Option, None, Some, option_map, option_and_then, ok_or, Ok, Err, IfOk, IsUtf8, Result, codes, refl, subst}
+use Rattle.std.proofs.Common.{◌≡◌, ◌≢◌, ℕ, ◌≤◌, Bool, true, false, cond, List, [], ◌∷◌, Some, option_map, option_and_then, ok_or, Ok, Err, IfOk, IsUtf8, Result, codes, refl, subst}
 use Rattle.std.proofs.lemmas.List.Elements.{All-from_recursion}
 use Rattle.std.proofs.lemmas.Option.{option_and_then_some}
 use Rattle.std.proofs.lemmas.Slice.Eq.{bytes_eq-Decides}
@@ -23,7 +23,7 @@ use Rattle.keep_tree.specs.Shape.{IsKind, IsNode, IsTree}
 use Rattle.keep_tree.specs.declared.tree.Tree.{Tree}
 use Rattle.keep_tree.specs.declared.tree.TreeError.{TreeError}
 use Rattle.keep_tree.specs.declared.tree.TreeError.TheVariants.{BadTree, Doc}
-use Rattle.keep_tree.proofs.Answered.{found_from_ok}
+use Rattle.keep_docs.proofs.Answered.{found_from_ok}
 
 -- ---- kinds, nodes, trees
 

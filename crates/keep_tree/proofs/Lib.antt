@@ -1,4 +1,3 @@
-pub mod Answered
 pub mod Depth
 pub mod Distinct
 pub mod Inverse

@@ -1,19 +1,19 @@
 -- The snapshots that are known, told without the opening.
-use Rattle.std.proofs.Common.{◌≡◌, ℕ, zero, suc, ◌+◌, ◌<◌, ◌≤◌, Bool, true, false, ◌||◌, ◌&&◌, cond, nat_lt, List, [], ◌∷◌, ◌++◌, map, take, length, get_or, Option, Some, None, Result, is_some, inl, inr, nat_le, refl, sym, ap, ap₂, ◌∙◌, arith}
+use Rattle.std.proofs.Common.{◌≡◌, ℕ, zero, suc, ◌+◌, ◌<◌, Bool, true, false, ◌||◌, ◌&&◌, cond, nat_lt, List, [], ◌∷◌, ◌++◌, map, take, length, get_or, Option, Some, None, Result, is_some, refl, sym, ap, ap₂, ◌∙◌, arith}
 use Rattle.std.specs.Cmp.{eq_by_cmp_equiv}
 use Rattle.std.specs.BTreeSet.{BTreeSet, contains}
 use Rattle.std.specs.FinMap as finite
 use Rattle.std.specs.FinSet as set
 use Rattle.std.specs.List.{filter, flat_map, list_all, list_any}
-use Rattle.std.specs.Option.{option_map, option_map_or}
+use Rattle.std.specs.Option.{option_map}
 use Rattle.std.specs.Ordering.{eq_by_cmp}
 use Rattle.std.specs.Result.{IfOk}
-use Rattle.std.proofs.Math.Bool.{or_assoc}
-use Rattle.std.proofs.lemmas.Bool.{cases_lt, le-ltb}
+use Rattle.std.proofs.Math.Bool.{or_assoc, or-false, or-true}
 use Rattle.std.proofs.lemmas.List.Folds.{list_all-append, list_any-append, list_any_more}
 use Rattle.std.proofs.lemmas.Result.{IfOk-weaker}
 use Rattle.keep_names.proofs.Orders.{id_exact, id_total}
-use Rattle.keep_names.specs.Orders.{id_cmp}
+use Rattle.keep_names.specs.FileName.{named}
+use Rattle.keep_names.specs.Orders.{id_cmp, name_cmp}
 use Rattle.keep_names.specs.declared.file_name.FileName.{FileName}
 use Rattle.keep_names.specs.declared.file_name.Kind.{Kind}
 use Rattle.keep_names.specs.declared.file_name.Kind.TheVariants.{Pack, Index, Snapshot}
@@ -27,6 +27,7 @@ use Rattle.keep_change.specs.Change.{Holding, added, asked, dropped, is_as_asked
 use Rattle.keep_change.specs.Fold.{Numbered, first_break, fold_of}
 use Rattle.keep_change.specs.Form.{HasNoFacetTwice}
 use Rattle.keep_change.specs.Law.{HaveNoFacetTwice}
+use Rattle.keep_change.specs.Lists.{file_names}
 use Rattle.keep_change.specs.NamedBytes.{NamedBytes}
 use Rattle.keep_change.specs.Result.{result_of}
 use Rattle.keep_change.specs.Touch.{writes}
@@ -36,26 +37,17 @@ use Rattle.keep_change.proofs.Carry.{held-result_of, writes_once}
 use Rattle.keep_change.proofs.Law.{no_break, unwritten}
 use Rattle.keep_change.proofs.Records.{and_first, and_second}
 use Rattle.keep_change.proofs.Touching.{list_any-written}
-use Rattle.keep_journal.specs.History.{IsNumbered, change_of, committed, final_number, is_in_force, last_change}
+use Rattle.keep_journal.specs.History.{committed, final_number, is_in_force}
 use Rattle.keep_journal.specs.Journal.{Journal}
-use Rattle.keep_journal.specs.Kept.{above, is_kept, kept, kept_change, later, unfinal}
-use Rattle.keep_journal.proofs.Commits.{no_change, some_change}
-use Rattle.keep_journal.proofs.Kept.{above-below, above-next, above-past, kept_later, later_none}
+use Rattle.keep_journal.specs.Kept.{is_kept, kept, later, unfinal}
+use Rattle.keep_journal.proofs.Kept.{kept_later}
 use Rattle.keep_journal.specs.Opening.{IsOpen}
-use Rattle.keep_journal.proofs.Later.{later_with, later_without, no_facet_twice}
+use Rattle.keep_journal.proofs.Later.{no_facet_twice}
 use Rattle.keep_repo.specs.Kinds.{ids_among}
+use Rattle.keep_catalog.specs.Files.{ids_in}
 use Rattle.keep_view.specs.Shown.{added_by, known_of}
-use Rattle.keep_view.specs.Telling.{has_snapshot, is_named_in, is_told_by, snapshot_file}
-
--- ---- tests
-
-or_true : (a : Bool) → (a || true) ≡ true
-or_true true = refl
-or_true false = refl
-
-or_false : (a : Bool) → (a || false) ≡ a
-or_false true = refl
-or_false false = refl
+use Rattle.keep_view.specs.Telling.{has_snapshot, snapshot_file}
+use Rattle.keep_view.proofs.Told.{adds_it, told_above}
 
 -- ---- a list that is learnt
 
@@ -135,15 +127,15 @@ dropped_there c h name met drops =
 
 one_more : (adds drops was made dropped added left : Bool) → (drops ≡ true → was ≡ true) → (adds ≡ false → drops ≡ false → made ≡ was)
     → ((left || dropped) || added) ≡ (made || added) → ((left || (drops || dropped)) || (adds || added)) ≡ (was || (adds || added))
-one_more true drops was made dropped added left there same rest = or_true _ ∙ sym (or_true was)
-one_more false true was made dropped added left there same rest = rw (there refl, or_true left) refl
+one_more true drops was made dropped added left there same rest = or-true _ ∙ sym (or-true was)
+one_more false true was made dropped added left there same rest = rw (there refl, or-true left) refl
 one_more false false was made dropped added left there same rest = rest ∙ ap (λ b. b || added) (same refl refl)
 
 -- what is left of them, or was dropped or added by one, was there before or was added
 known_fold : (name : FileName) (ns : List Numbered) (r : Repository) → HaveNoFacetTwice ns → first_break ns r ≡ None
     → ((is_filled (fold_of ns r) (File name) || list_any (λ n. has_file name n.change.drops) ns) || list_any (λ n. has_file name n.change.adds) ns)
     ≡ (is_filled r (File name) || list_any (λ n. has_file name n.change.adds) ns)
-known_fold name [] r once none = ap (λ b. b || false) (or_false (is_filled r (File name)))
+known_fold name [] r once none = ap (λ b. b || false) (or-false (is_filled r (File name)))
 known_fold name (n ∷ ns) r once none =
     let c = n.change in
     let parts = no_break (is_met (held r) c) (first_break ns (result_of c r)) n.number none in
@@ -165,14 +157,43 @@ kept_are_unfinal test f g (n ∷ ns) e = split (f n.number) (g n.number) e (kept
     first true _ = refl
     first false k = rest k
   split true false h rest = rest h
-  split false true h rest = rw (rest h) (or_true (test n))
+  split false true h rest = rw (rest h) (or-true (test n))
   split false false h rest = rest h
 
 with_others : (left dropped added all was : Bool) → ((left || dropped) || added) ≡ (was || added) → (added ≡ true → all ≡ true)
     → (left || (all || dropped)) ≡ (was || all)
-with_others left dropped added true was same more = or_true left ∙ sym (or_true was)
+with_others left dropped added true was same more = or-true left ∙ sym (or-true was)
 with_others left dropped true false was same more = cc (more refl)
-with_others left dropped false false was same more = sym (or_false (left || dropped)) ∙ same
+with_others left dropped false false was same more = sym (or-false (left || dropped)) ∙ same
+
+-- ---- the snapshots among files
+
+one_named : (id x : Id) (kind : Kind) (names : List FileName) → list_any (eq_by_cmp id_cmp id) (ids_among Snapshot names) ≡ list_any (eq_by_cmp name_cmp (named Snapshot id)) names
+    → list_any (eq_by_cmp id_cmp id) (ids_among Snapshot (record { kind = kind; id = x } ∷ names)) ≡ list_any (eq_by_cmp name_cmp (named Snapshot id)) (record { kind = kind; id = x } ∷ names)
+one_named id x Pack names rest = rest
+one_named id x Index names rest = rest
+one_named id x Snapshot names rest = ap (λ b. eq_by_cmp id_cmp id x || b) rest
+
+-- the snapshots among names are those whose names are there
+among_named : (id : Id) (names : List FileName) → list_any (eq_by_cmp id_cmp id) (ids_among Snapshot names) ≡ list_any (eq_by_cmp name_cmp (named Snapshot id)) names
+among_named id [] = refl
+among_named id (name ∷ names) = one_named id name.id name.kind names (among_named id names)
+
+snapshot_among : (r : Repository) (id : Id) → list_any (eq_by_cmp id_cmp id) (ids_in r Snapshot) ≡ is_filled r (snapshot_file id)
+snapshot_among r id =
+    among_named id (finite.keys r.files)
+    ∙ sym (some_stored (finite.get r.files (named Snapshot id)) ∙ finite.contains_key-keys r.files (named Snapshot id))
+  where
+    some_stored : (o : Option (List ℕ)) → is_some (option_map Stored o) ≡ is_some o
+    some_stored None = refl
+    some_stored (Some bytes) = refl
+
+added_among : (id : Id) (files : List NamedBytes) → list_any (eq_by_cmp id_cmp id) (ids_among Snapshot (file_names files)) ≡ has_snapshot files id
+added_among id files = among_named id (file_names files) ∙ by_file files
+  where
+    by_file : (files : List NamedBytes) → list_any (eq_by_cmp name_cmp (named Snapshot id)) (file_names files) ≡ has_snapshot files id
+    by_file [] = refl
+    by_file (f ∷ files) = ap (λ b. facet_eq (snapshot_file id) (File f.name) || b) (by_file files)
 
 -- ---- what is known
 
@@ -180,11 +201,6 @@ with_others left dropped false false was same more = sym (or_false (left || drop
 abbrev pub known_in : Repository → List Numbered → Id → Bool
 known_in opening ns id =
     is_filled opening (snapshot_file id) || list_any (λ n. has_snapshot n.change.adds id) ns
-
--- what the changes after n tell: those that are added, and those that a kept one drops
-abbrev pub told_above : Journal → ℕ → Id → Bool
-told_above j n id =
-    list_any (λ n. has_snapshot n.change.adds id) (above j n) || list_any (λ n. has_snapshot n.change.drops id) (later j n)
 
 -- known are the snapshots that are there, and those of which the changes tell
 pub known_without_opening : (opening : Repository) (j : Journal) (live : Repository) (id : Id) → IsOpen opening j live
@@ -198,104 +214,27 @@ known_without_opening opening j live id is =
     ∙ with_others (is_filled (fold_of (kept j) opening) (snapshot_file id)) (drops (kept j)) _ all (is_filled opening (snapshot_file id)) made
     (kept_are_unfinal (λ n. has_snapshot n.change.adds id) (is_in_force j) (nat_lt (final_number j)) (committed j))
 
-filled_by_keys : (live : Repository) (id : Id) → is_filled live (snapshot_file id) ≡ is_named_in (finite.keys live.files) id
-filled_by_keys live id =
-    some_stored (finite.get live.files (record { kind = Snapshot; id = id })) ∙ finite.contains_key-keys live.files (record { kind = Snapshot; id = id })
-  where
-    some_stored : (o : Option (List ℕ)) → is_some (option_map Stored o) ≡ is_some o
-    some_stored None = refl
-    some_stored (Some bytes) = refl
-
 -- where just the snapshots that are there are known, the changes tell the others
-pub known_at_first : (opening : Repository) (j : Journal) (live : Repository) (id : Id) → IsOpen opening j live → (known none : Bool) (names : List FileName) (n : ℕ)
-    → none ≡ false → names ≡ finite.keys live.files → n ≡ final_number j → known ≡ (none || is_named_in names id)
+pub known_at_first : (opening : Repository) (j : Journal) (live : Repository) (id : Id) → IsOpen opening j live → (known : Bool) (n : ℕ)
+    → n ≡ final_number j → known ≡ list_any (eq_by_cmp id_cmp id) (ids_in live Snapshot)
     → (known || told_above j n id) ≡ known_in opening (unfinal j) id
-known_at_first opening j live id is known none names n nothing listed final learnt =
-    let there = learnt ∙ ap (λ b. b || is_named_in names id) nothing
-    ∙ ap (λ ns. is_named_in ns id) listed ∙ sym (filled_by_keys live id) in
-    ap (λ b. b || told_above j n id) there ∙ ap (λ m. is_filled live (snapshot_file id) || told_above j m id) final
-    ∙ known_without_opening opening j live id is
-
--- ---- the changes after a number, one by one
-
-none_above : (j : Journal) (n : ℕ) (id : Id) → IsNumbered j → last_change j ≤ n → told_above j n id ≡ false
-none_above j n id numbered end = rw (above-past j n numbered end, later_none j n numbered end) refl
-
-four : (a b c d : Bool) → ((a || b) || (c || d)) ≡ ((a || c) || (b || d))
-four true b c d = refl
-four false true c d = sym (or_true c)
-four false false c d = refl
-
-abbrev adds_it : Id → Numbered → Bool
-adds_it id n = has_snapshot n.change.adds id
-
-abbrev drops_it : Id → Numbered → Bool
-drops_it id n = has_snapshot n.change.drops id
-
-added_next : (j : Journal) (n k : ℕ) (id : Id) → IsNumbered j → k ≡ n + 1 → k ≤ last_change j
-    → list_any (adds_it id) (above j n) ≡ (option_map_or (λ c. has_snapshot c.adds id) (change_of j k) false || list_any (adds_it id) (above j k))
-added_next j n k id numbered next within =
-    let told : Option Change → Bool = λ o. option_map_or (λ c. has_snapshot c.adds id) o false || list_any (adds_it id) (above j k) in
-    elim (cases_lt j.base k) [
-      | inl up ↦
-          let there = some_change j k numbered up within in
-          ap (list_any (adds_it id)) (above-next j n k there.0 numbered next there.1) ∙ ap told (sym there.1)
-      | inr down ↦
-          let absent : (nat_lt j.base k && nat_le k (last_change j)) ≡ false = rw (le-ltb j.base k down) refl in
-          ap (list_any (adds_it id)) (above-below j n k numbered next down) ∙ ap told (sym (no_change j k numbered absent))
-    ]
-
-dropped_next : (j : Journal) (n k : ℕ) (id : Id) → IsNumbered j → k ≡ n + 1 → k ≤ last_change j → (o : Option Change) → kept_change j k ≡ o
-    → list_any (drops_it id) (later j n) ≡ (option_map_or (λ c. has_snapshot c.drops id) o false || list_any (drops_it id) (later j k))
-dropped_next j n k id numbered next within None e = ap (list_any (drops_it id)) (later_without j n k numbered next within e)
-dropped_next j n k id numbered next within (Some c) e = ap (list_any (drops_it id)) (later_with j n k c numbered next e)
-
--- the next one, and those after it
-told_next : (j : Journal) (n k : ℕ) (id : Id) → IsNumbered j → k ≡ n + 1 → k ≤ last_change j → told_above j n id ≡ (is_told_by j k id || told_above j k id)
-told_next j n k id numbered next within =
-    ap₂ ◌||◌ (added_next j n k id numbered next within) (dropped_next j n k id numbered next within (kept_change j k) refl)
-    ∙ four (option_map_or (λ c. has_snapshot c.adds id) (change_of j k) false) (list_any (adds_it id) (above j k))
-    (option_map_or (λ c. has_snapshot c.drops id) (kept_change j k) false) (list_any (drops_it id) (later j k))
-
--- what knew the snapshots before a change and all after it
-pub told_on : (j : Journal) (n k : ℕ) (id : Id) → IsNumbered j → k ≡ n + 1 → k ≤ last_change j → (now then all : Bool)
-    → (now || told_above j n id) ≡ all → then ≡ (now || is_told_by j k id) → (then || told_above j k id) ≡ all
-told_on j n k id numbered next within now then all so step =
-    ap (λ b. b || told_above j k id) step ∙ or_assoc now (is_told_by j k id) (told_above j k id)
-    ∙ ap (λ b. now || b) (sym (told_next j n k id numbered next within)) ∙ so
-
-pub told_all : (j : Journal) (n : ℕ) (id : Id) → IsNumbered j → last_change j ≤ n → (now all : Bool) → (now || told_above j n id) ≡ all → now ≡ all
-told_all j n id numbered end now all so = sym (ap (λ b. now || b) (none_above j n id numbered end) ∙ or_false now) ∙ so
+known_at_first opening j live id is known n final learnt =
+    ap (λ b. b || told_above j n id) (learnt ∙ snapshot_among live id)
+    ∙ ap (λ m. is_filled live (snapshot_file id) || told_above j m id) final ∙ known_without_opening opening j live id is
 
 -- ---- what is known, as a set
-
-one_named : (id x : Id) (kind : Kind) (names : List FileName) → list_any (eq_by_cmp id_cmp id) (ids_among Snapshot names) ≡ is_named_in names id
-    → list_any (eq_by_cmp id_cmp id) (ids_among Snapshot (record { kind = kind; id = x } ∷ names)) ≡ is_named_in (record { kind = kind; id = x } ∷ names) id
-one_named id x Pack names rest = rest
-one_named id x Index names rest = rest
-one_named id x Snapshot names rest = ap (λ b. eq_by_cmp id_cmp id x || b) rest
-
--- the snapshots among names are those whose names are there
-among_named : (id : Id) (names : List FileName) → list_any (eq_by_cmp id_cmp id) (ids_among Snapshot names) ≡ is_named_in names id
-among_named id [] = refl
-among_named id (name ∷ names) = one_named id name.id name.kind names (among_named id names)
-
-named_files : (id : Id) (files : List NamedBytes) → is_named_in (map (λ f. f.name) files) id ≡ has_snapshot files id
-named_files id [] = refl
-named_files id (f ∷ files) = ap (λ b. facet_eq (snapshot_file id) (File f.name) || b) (named_files id files)
 
 all_added : (id : Id) (ns : List Numbered) → list_any (eq_by_cmp id_cmp id) (flat_map added_by ns) ≡ list_any (adds_it id) ns
 all_added id [] = refl
 all_added id (n ∷ ns) =
     list_any-append (eq_by_cmp id_cmp id) (added_by n) (flat_map added_by ns)
-    ∙ ap₂ ◌||◌ (among_named id (map (λ f. f.name) n.change.adds) ∙ named_files id n.change.adds) (all_added id ns)
+    ∙ ap₂ ◌||◌ (added_among id n.change.adds) (all_added id ns)
 
 contains-known_of : (opening : Repository) (ns : List Numbered) (id : Id) → set.contains (known_of opening ns) id ≡ known_in opening ns id
 contains-known_of opening ns id =
-    let own = ids_among Snapshot (finite.keys opening.files) in
-    set.contains-from_list id_total (own ++ flat_map added_by ns) id
-    ∙ list_any-append (eq_by_cmp id_cmp id) own (flat_map added_by ns)
-    ∙ ap₂ ◌||◌ (among_named id (finite.keys opening.files) ∙ sym (filled_by_keys opening id)) (all_added id ns)
+    set.contains-from_list id_total (ids_in opening Snapshot ++ flat_map added_by ns) id
+    ∙ list_any-append (eq_by_cmp id_cmp id) (ids_in opening Snapshot) (flat_map added_by ns)
+    ∙ ap₂ ◌||◌ (snapshot_among opening id) (all_added id ns)
 
 -- a set of ids that has just those that are known is the set that is known
 pub known_set : (opening : Repository) (ns : List Numbered) (known : BTreeSet Id) → ((id : Id) → contains id_cmp known id ≡ known_in opening ns id)

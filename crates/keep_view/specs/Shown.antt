@@ -1,5 +1,5 @@
 -- What planners and readers are shown of a repository under its history.
-use Rattle.std.specs.Prelude.{ℕ, List, ◌++◌, map, refl}
+use Rattle.std.specs.Prelude.{ℕ, List, ◌++◌, refl}
 use Rattle.std.specs.Coded.{Coded, code_by, coded_ℕ, coded×}
 use Rattle.std.specs.FinSet as set
 use Rattle.std.specs.List.{flat_map}
@@ -8,6 +8,7 @@ use Rattle.keep_names.specs.declared.file_name.Kind.TheVariants.{Snapshot}
 use Rattle.keep_names.specs.declared.id.Id.{Id}
 use Rattle.keep_repo.specs.Repository.{Repository, coded_repository}
 use Rattle.keep_change.specs.Fold.{Numbered}
+use Rattle.keep_change.specs.Lists.{file_names}
 use Rattle.keep_journal.specs.History.{length_of}
 use Rattle.keep_journal.specs.Journal.{Journal}
 use Rattle.keep_journal.specs.Kept.{unfinal}
@@ -22,7 +23,7 @@ pub record Shown : Type 0 where
 
 -- the snapshots that a change adds
 abbrev pub added_by : Numbered → List Id
-added_by n = ids_among Snapshot (map (λ f. f.name) n.change.adds)
+added_by n = ids_among Snapshot (file_names n.change.adds)
 
 -- the snapshots of an opening, and those that one of these changes adds
 abbrev pub known_of : Repository → List Numbered → set.FinSet id_cmp

@@ -3,7 +3,6 @@ use Rattle.std.specs.Prelude.{ℕ, Bool, false, ◌||◌, List}
 use Rattle.std.specs.List.{list_any}
 use Rattle.std.specs.Option.{option_map_or}
 use Rattle.keep_names.specs.FileName.{named}
-use Rattle.keep_names.specs.declared.file_name.FileName.{FileName}
 use Rattle.keep_names.specs.declared.file_name.Kind.TheVariants.{Snapshot}
 use Rattle.keep_names.specs.declared.id.Id.{Id}
 use Rattle.keep_repo.specs.Facet.{facet_eq}
@@ -17,10 +16,6 @@ use Rattle.keep_journal.specs.Kept.{kept_change}
 -- the file of a snapshot
 abbrev pub snapshot_file : Id → Facet
 snapshot_file id = File (named Snapshot id)
-
--- whether the snapshot's is one of these names
-abbrev pub is_named_in : List FileName → Id → Bool
-is_named_in names id = list_any (λ name. facet_eq (snapshot_file id) (File name)) names
 
 -- whether the snapshot is one of these files
 abbrev pub has_snapshot : List NamedBytes → Id → Bool

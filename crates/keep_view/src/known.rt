@@ -8,7 +8,7 @@ ghost use Rattle.keep_repo.specs.declared.facet.Facet.TheVariants.{File};
 ghost use Rattle.keep_journal.specs.Kept.{unfinal};
 ghost use Rattle.keep_journal.specs.Opening.{IsOpen, opening_under};
 ghost use Rattle.keep_view.specs.Shown.{known_of};
-ghost use Rattle.keep_view.specs.Telling.{has_snapshot, is_named_in, is_told_by, snapshot_file};
+ghost use Rattle.keep_view.specs.Telling.{has_snapshot, is_told_by, snapshot_file};
 
 use keep_change::StoredFile;
 use keep_journal::History;
@@ -31,9 +31,8 @@ pub(crate) fn known_snapshots(
     ensures { let opening = opening_under history.now.journal live.now in
         IfOk result (λ known. set.from_list known.keys ≡ known_of opening (unfinal history.now.journal)) }
 {
-    let mut known = BTreeSet::new(alloc);
-    let (names, _) = live.list()?;
-    learn_names(&mut known, &names)?;
+    let ids = live.ids(Kind::Snapshot)?;
+    let mut known: BTreeSet<Id> = ids.into_iter().collect(alloc)?;
     for before in history.final_number()..history.last_change() {
         learn_change(&mut known, history, before + 1)?;
     }
@@ -60,16 +59,6 @@ fn learn_files(known: &mut BTreeSet<Id>, files: &[StoredFile]) -> Result<(), All
 {
     for file in files {
         learn(known, file.name())?;
-    }
-    Ok(())
-}
-
-fn learn_names(known: &mut BTreeSet<Id>, names: &[FileName]) -> Result<(), AllocError>
-    ensures { OnOk result ((id : the_id.Id) → contains id_cmp known.new id
-        ≡ (contains id_cmp known.old id || is_named_in names.now id)) }
-{
-    for name in names {
-        learn(known, *name)?;
     }
     Ok(())
 }

@@ -3,7 +3,7 @@ use Rattle.std.proofs.lemmas.List.Sorted.{IsPermutation-map, answers_always, ran
 use Rattle.std.proofs.lemmas.Result.{err_from_is_err_and}
 use Rattle.std.specs.Cmp.Lexicographic.{slice_cmp}
 use Rattle.std.specs.List.Sorted.{IsSortedBy}
-use Rattle.keep_tree.proofs.Answered.{found_from_ok}
+use Rattle.keep_docs.proofs.Answered.{found_from_ok}
 use Rattle.keep_backup.specs.Files.{file_view, given_view, names_view, paths_seen}
 use Rattle.keep_backup.specs.Paths.{StandInOrder, any_clash, path_cmp}
 use Rattle.keep_backup.specs.declared.paths.PathFile.{PathFile}

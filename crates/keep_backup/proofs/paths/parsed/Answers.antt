@@ -2,7 +2,7 @@ use Rattle.std.proofs.Common.{◌≡◌, ◌∷◌, [], map, ok_or, Err, sym, ap
 use Rattle.std.proofs.lemmas.List.{map-append}
 use Rattle.std.proofs.lemmas.Result.{err_from_is_err_and}
 use Rattle.keep_docs.proofs.Each.{each_end, each_next, each_refused}
-use Rattle.keep_tree.proofs.Answered.{found_from_ok, none_from_err}
+use Rattle.keep_docs.proofs.Answered.{found_from_ok, none_from_err}
 use Rattle.keep_backup.specs.Files.{file_view, given_view}
 use Rattle.keep_backup.specs.Paths.{given_file}
 use Rattle.keep_plan.specs.declared.plan_error.PlanError.TheVariants.{BadPath}

@@ -5,7 +5,7 @@ use Rattle.serde_json.specs.View.{view}
 use Rattle.keep_docs.proofs.Each.{each_next, each_refused}
 use Rattle.keep_tree.specs.Tree.{node_in, node_view}
 use Rattle.keep_tree.specs.declared.tree.TreeError.TheVariants.{BadTree}
-use Rattle.keep_tree.proofs.Answered.{found_from_ok, none_from_err}
+use Rattle.keep_docs.proofs.Answered.{found_from_ok, none_from_err}
 use Rattle.keep_tree.proofs.node.nodes_in.Goals as goal
 
 pub returns-in_err-node : goal.returns-in_err-node

@@ -1,14 +1,25 @@
 -- What is there is known first, and then what each change tells.
-use Rattle.std.proofs.Common.{◌∙◌, ◌+◌, refl, arith, rules}
+use Rattle.std.proofs.Common.{◌∙◌, ◌+◌, Ok, ap, refl, arith}
+use Rattle.std.proofs.lemmas.Iterator.Adapters.{YieldsList-from_vec, fact_from_collect}
+use Rattle.std.specs.BTreeSet.{IsFromIterResult}
+use Rattle.std.specs.List.{list_any}
+use Rattle.std.specs.Ordering.{eq_by_cmp}
+use Rattle.std.specs.declared.alloc.AllocError.{AllocError}
+use Rattle.keep_names.specs.Orders.{id_cmp}
 use Rattle.keep_journal.specs.Kept.{unfinal}
 use Rattle.keep_journal.specs.Opening.{opening_under}
-use Rattle.keep_view.proofs.Knowing.{known_at_first, known_set, told_all, told_on}
+use Rattle.keep_view.proofs.Knowing.{known_at_first, known_set}
+use Rattle.keep_view.proofs.Told.{told_all, told_on}
 use Rattle.keep_view.proofs.known.known_snapshots.Goals as goal
 
 pub loop-before-init : goal.loop-before-init
 loop-before-init c id =
-    known_at_first _ c.args.history.now.journal c.args.live.now id c.requires _ _ c.deref.result.now c.final_number-before.result
-    (search rules) (c.deref.ensures.value ∙ c.in_ok-names.ensures.files) c.final_number-before.ensures (c.in_ok-learn_names.ensures id)
+    let ids = c.in_ok-ids.ids in
+    let known : IsFromIterResult id_cmp ids.items c.in_ok-known.known =
+    fact_from_collect {E = AllocError} (IsFromIterResult id_cmp) (Ok c.in_ok-known.known) c.in_ok-known.ensures.ran
+    (YieldsList-from_vec {s = c.into_iter.result} ids.items c.into_iter.ensures.rest (c.into_iter.ensures.len ∙ ids.ok.0)) in
+    known_at_first _ c.args.history.now.journal c.args.live.now id c.requires _ c.final_number-before.result
+    c.final_number-before.ensures (known.0 id ∙ ap (list_any (eq_by_cmp id_cmp id)) c.in_ok-ids.ensures)
 
 pub loop-before-preserved : goal.loop-before-preserved
 loop-before-preserved c id =

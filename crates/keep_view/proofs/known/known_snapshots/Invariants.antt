@@ -5,7 +5,8 @@ use Rattle.keep_names.specs.Orders.{id_cmp}
 use Rattle.keep_names.specs.declared.id.Id.{Id}
 use Rattle.keep_journal.specs.Kept.{unfinal}
 use Rattle.keep_journal.specs.Opening.{opening_under}
-use Rattle.keep_view.proofs.Knowing.{known_in, told_above}
+use Rattle.keep_view.proofs.Knowing.{known_in}
+use Rattle.keep_view.proofs.Told.{told_above}
 use Rattle.keep_view.proofs.known.known_snapshots.Given as goal
 
 abbrev pub invariant-loop-before : goal.invariant-loop-before

@@ -1,0 +1,81 @@
+-- Lists of entries and of keys, and the finite maps that they make.
+use Rattle.std.proofs.Common.{◌≡◌, Bool, true, false, ◌&&◌, ◌||◌, cond, List, [], ◌∷◌, ◌++◌, map, Option, None, Some, is_some, refl, sym, ap, ◌∙◌, T, Ordering, Less, Equal, Greater}
+use Rattle.std.specs.Cmp.{IsTotalOrder}
+use Rattle.std.specs.FinMap.{FinMap, contains_key-keys, entries_sorted, entries, find, from_entries, get, get-from_entries, is_sorted, keys}
+use Rattle.std.specs.FinMap.Entries.{below_all}
+use Rattle.std.specs.List.{AllByRecursion, list_any}
+use Rattle.std.specs.List.Sorted.{IsStrictlySortedBy}
+use Rattle.std.specs.Map.{keys_of}
+use Rattle.std.specs.Option.{option_or}
+use Rattle.std.specs.Ordering.{eq_by_cmp, is_lt}
+use Rattle.keep_catalog.specs.Ordered.{in_order, keyed}
+
+pub first_of_both : (a b : Bool) → T (a && b) → T a
+first_of_both true b h = tt
+first_of_both false b h = h
+
+pub second_of_both : (a b : Bool) → T (a && b) → T b
+second_of_both true b h = h
+second_of_both false b h = absurd h
+
+pub less : (o : Ordering) → T (is_lt o) → o ≡ Less
+less Less h = refl
+less Equal h = absurd h
+less Greater h = absurd h
+
+module _ {K X : Type 0} (R : K → K → Ordering) where
+  pub all_above : (k : K) (es : List (K × X)) → T (below_all R k es) → AllByRecursion (λ y. R k y ≡ Less) (keys_of es)
+  all_above k [] h = tt
+  all_above k (e ∷ es) h = (less (R k e.0) (first_of_both (is_lt (R k e.0)) (below_all R k es) h), all_above k es (second_of_both (is_lt (R k e.0)) (below_all R k es) h))
+
+  keys_rise : (es : List (K × X)) → T (is_sorted R es) → IsStrictlySortedBy R (keys_of es)
+  unfolding IsStrictlySortedBy
+  keys_rise [] h = tt
+  keys_rise (e ∷ es) h = (all_above e.0 es (first_of_both (below_all R e.0 es) (is_sorted R es) h), keys_rise es (second_of_both (below_all R e.0 es) (is_sorted R es) h))
+
+  -- the keys of a map are in order
+  pub keys_in_order : (m : FinMap R X) → IsStrictlySortedBy R (keys m)
+  keys_in_order m = keys_rise (entries m) (entries_sorted m)
+
+-- ---- entries one after the other
+
+first_or : {A : Type 0} (b : Bool) (x : A) (a c : Option A) → cond b (Some x) (option_or a c) ≡ option_or (cond b (Some x) a) c
+first_or true x a c = refl
+first_or false x a c = refl
+
+module _ {K X : Type 0} (R : K → K → Ordering) where
+  pub find_append : (q : K) (xs ys : List (K × X)) → find R q (xs ++ ys) ≡ option_or (find R q xs) (find R q ys)
+  find_append q [] ys = refl
+  find_append q (x ∷ xs) ys =
+      ap (cond (eq_by_cmp R q x.0) (Some x.1)) (find_append q xs ys) ∙ first_or (eq_by_cmp R q x.0) x.1 (find R q xs) (find R q ys)
+
+-- ---- keys with nothing at them
+
+abbrev pub here : Option (Unit {0})
+here = Some tt
+
+either : (a b : Bool) → cond a here (cond b here None) ≡ cond (a || b) here None
+either true b = refl
+either false b = refl
+
+some_here : (b : Bool) → is_some {T = Unit {0}} (cond b here None) ≡ b
+some_here true = refl
+some_here false = refl
+
+module _ {K : Type 0} (R : K → K → Ordering) where
+  pub found_key : (q : K) (ks : List K) → find R q (map keyed ks) ≡ cond (list_any (eq_by_cmp R q) ks) here None
+  found_key q [] = refl
+  found_key q (k ∷ ks) = ap (cond (eq_by_cmp R q k) here) (found_key q ks) ∙ either (eq_by_cmp R q k) (list_any (eq_by_cmp R q) ks)
+
+  pub keys_keyed : (ks : List K) → keys_of (map keyed ks) ≡ ks
+  keys_keyed [] = refl
+  keys_keyed (k ∷ ks) = ap (λ xs. k ∷ xs) (keys_keyed ks)
+
+module _ {K : Type 0} {R : K → K → Ordering} (total : IsTotalOrder R) where
+  -- a map of these keys has something at each of them
+  pub is_some-keyed : (q : K) (ks : List K) → is_some (get (from_entries {R = R} (map keyed ks)) q) ≡ list_any (eq_by_cmp R q) ks
+  is_some-keyed q ks = ap is_some (get-from_entries total (map keyed ks) q ∙ found_key R q ks) ∙ some_here (list_any (eq_by_cmp R q) ks)
+
+  -- keys in order, each once, are the keys
+  pub in_order-same : (q : K) (ks : List K) → list_any (eq_by_cmp R q) (in_order R ks) ≡ list_any (eq_by_cmp R q) ks
+  in_order-same q ks = sym (contains_key-keys (from_entries {R = R} (map keyed ks)) q) ∙ is_some-keyed q ks
