@@ -18,7 +18,7 @@ use Rattle.keep_backup.specs.Blobs.{BlobData, blob_id_of, is_new, is_of, is_same
 use Rattle.keep_backup.specs.Kept.{IsKept, is_built}
 use Rattle.keep_backup.specs.Packs.{packs_of}
 use Rattle.keep_backup.specs.Stored.{built, stored_of}
-use Rattle.keep_backup.proofs.Cut.{are_cut}
+use Rattle.keep_backup.proofs.CutPacks.{are_cut}
 
 module _ (name : BlobId) where
   abbrev is_it : BlobData → Bool

@@ -4,7 +4,7 @@ pub mod Building
 pub mod Clashes
 pub mod Committed
 pub mod Components
-pub mod Cut
+pub mod CutPacks
 pub mod Cutting
 pub mod Deep
 pub mod Firsts

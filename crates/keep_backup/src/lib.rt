@@ -1,6 +1,7 @@
 //! Backups: what is stored of blobs and files, and what that relies on.
 #![tactic(auto)]
 
+mod cut;
 mod laws;
 mod packs;
 mod paths;
@@ -18,6 +19,7 @@ mod walk;
 #[cfg(test)]
 mod walk_tests;
 
+pub use cut::Cut;
 pub use laws::{a_planned_backup_can_be_made, each_blob_is_kept, packs_are_cut_when_full};
 pub use plan::plan_backup;
 pub use snapshot::BackupFacts;

@@ -1,4 +1,4 @@
-ghost use Rattle.std.specs.Prelude.{◌≡◌, ◌≤◌, ◌<◌, true, IfOk, is_none, map};
+ghost use Rattle.std.specs.Prelude.{◌≡◌, true, IfOk, is_none, map};
 ghost use Rattle.keep_docs.specs.Doc.{Answers};
 ghost use Rattle.keep_repo.specs.Repository.{held};
 ghost use Rattle.keep_change.specs.Change.{is_met};
@@ -10,6 +10,7 @@ ghost use Rattle.keep_backup.specs.Files.{file_view, given_view, paths_seen};
 ghost use Rattle.keep_backup.specs.Paths.{AreNamed, StandInOrder};
 ghost use Rattle.keep_plan.specs.declared.plan_error.PlanError.TheVariants as the_error;
 
+use crate::cut::Cut;
 use crate::paths::{PathFile, files_in_order};
 use crate::snapshot::{BackupFacts, snapshot_file};
 use crate::storing::Storing;
@@ -22,8 +23,7 @@ use keep_snap::parse_time;
 use keep_view::View;
 use std::alloc::{AllocError, Global};
 
-/// The change that backs up these files, given by the texts of their absolute paths and their bytes, cut
-/// every `cut` bytes. What the repository has is reused.
+/// The change that backs up these files, given by the texts of their absolute paths and their bytes. What the repository has is reused.
 ///
 /// The refusals in their order: `BadPath`, `SamePathTwice`, `BadTime`, `Unread`, `TooDeep`, `Full`,
 /// `SnapshotThere`.
@@ -32,12 +32,10 @@ pub fn plan_backup(
     view: &View,
     files: &[(String, Vec<u8>)],
     facts: &BackupFacts,
-    cut: u32,
+    cut: Cut,
 ) -> Result<Planned, PlanError>
-    requires some { 0 < cut }
-    requires most { cut ≤ 8_388_608 }
     ensures change { Answers the_error.Memory (λ planned. planned.change)
-        (backup_change view.now.repo (facts_view facts.now) cut (map given_view files.now)) result }
+        (backup_change view.now.repo (facts_view facts.now) cut.bytes (map given_view files.now)) result }
     ensures seen { IfOk result (λ planned. planned.seen ≡ view.now.length) }
     ensures well_formed { IfOk result (λ planned. IsWellFormed planned.change) }
     ensures met { IfOk result (λ planned. is_met (held view.now.repo) planned.change ≡ true) }
@@ -70,13 +68,12 @@ fn store_files<'a>(
     alloc: Global,
     view: &View<'a>,
     files: &[PathFile<'a>],
-    cut: u32,
+    cut: Cut,
 ) -> Result<(Id, Stored), PlanError>
-    requires cut { 0 < cut }
     requires in_order { StandInOrder (paths_seen 0 files.now) }
     requires named { AreNamed (paths_seen 0 files.now) }
     ensures { Answers the_error.Memory (λ made. made)
-        (stored_files_of view.now.repo cut (map file_view files.now)) result }
+        (stored_files_of view.now.repo cut.bytes (map file_view files.now)) result }
 {
     let catalog = view.catalog(alloc)?;
     let mut storing = Storing::new(alloc, catalog);

@@ -1,6 +1,4 @@
-ghost use Rattle.std.specs.Prelude.{◌<◌, ◌≤◌};
-
-use crate::{BackupFacts, plan_backup};
+use crate::{BackupFacts, Cut, plan_backup};
 use keep_change::Planned;
 use keep_journal::History;
 use keep_names::{FileName, Kind, id_of};
@@ -29,11 +27,8 @@ fn plan_of(
     repo: Repo,
     files: &[(String, Vec<u8>)],
     time: &str,
-    cut: u32,
-) -> Result<Planned, PlanError>
-    requires some { 0 < cut }
-    requires most { cut ≤ 8_388_608 }
-{
+    cut: Cut,
+) -> Result<Planned, PlanError> {
     let history = History::new(alloc, 0);
     let view = View::without_events(&repo, &history);
     plan_backup(alloc, &view, files, &facts(alloc, time)?, cut)
@@ -51,7 +46,7 @@ pub(crate) fn planned(
         let bytes = Vec::from_slice(alloc, text.as_bytes())?;
         files.push((String::from_str(alloc, path)?, bytes))?;
     }
-    plan_of(alloc, repo, &files, time, 4)
+    plan_of(alloc, repo, &files, time, Cut::after(4))
 }
 
 // Five files of 8 MiB, each of one byte all over.
@@ -140,7 +135,7 @@ fn a_backup_adds_packs_an_index_and_a_snapshot(rt: HostRuntime) -> Result<(), Fa
 fn forty_mebibytes_are_three_packs_and_a_tree(rt: HostRuntime) -> Result<(), Fail> {
     let alloc = rt.alloc();
     let files = large_files(alloc)?;
-    let plan = plan_of(alloc, Repo::new(alloc), &files, TIME, 8_388_608)?;
+    let plan = plan_of(alloc, Repo::new(alloc), &files, TIME, Cut::after(8_388_608))?;
     assert_eq!(rt;
         shown(alloc, &plan)?.as_str(),
         "pack 16777294, pack 8388649, pack 16777294, pack 582, index 1051, snapshot 150, \

@@ -11,6 +11,7 @@ ghost use Rattle.keep_backup.specs.Paths.{AreNamed, HasOtherName, HaveNames, Hav
 ghost use Rattle.keep_backup.specs.Walk.{Took, blobs_below, blobs_of, id_of, nodes_of, pieces_of, walk_refusal, root_tree, tree_blob};
 ghost use Rattle.keep_plan.specs.declared.plan_error.PlanError.TheVariants.{Full, Memory};
 
+use crate::cut::Cut;
 use crate::paths::PathFile;
 use crate::storing::Storing;
 use keep_names::{BlobType, Id};
@@ -20,22 +21,21 @@ use std::alloc::Global;
 use std::borrow::CowSlice;
 
 /// Offers the pieces of these files and the trees of their folders, and tells the id of the root's tree.
-/// Files are cut every `cut` bytes. Where one is too deep, nothing is offered.
+/// Where one is too deep, nothing is offered.
 pub(crate) fn walk<'a>(
     alloc: Global,
     files: &[PathFile<'a>],
-    cut: u32,
+    cut: Cut,
     storing: &mut Storing<'a>,
 ) -> Result<Id, PlanError>
-    requires cut { 0 < cut }
     requires in_order { StandInOrder (paths_seen 0 files.now) }
     requires named { AreNamed (paths_seen 0 files.now) }
     ensures within { IfOk result (λ _. list_any is_too_deep (paths_seen 0 files.now) ≡ false) }
     ensures took { OnOk result
-        (Took (blobs_of cut (root_folder (map file_view files.now))) storing.old storing.new) }
-    ensures root { IfOk result (λ id. id ≡ id_of (root_tree cut (root_folder (map file_view files.now)))) }
+        (Took (blobs_of cut.bytes (root_folder (map file_view files.now))) storing.old storing.new) }
+    ensures root { IfOk result (λ id. id ≡ id_of (root_tree cut.bytes (root_folder (map file_view files.now)))) }
     ensures refused { IfErr result (λ error. error ≢ Memory
-        → walk_refusal cut (map file_view files.now) ≡ Some error) }
+        → walk_refusal cut.bytes (map file_view files.now) ≡ Some error) }
 {
     if files.iter().any(|file| file.names.len() > 256) {
         return Err(PlanError::TooDeep);
@@ -50,18 +50,17 @@ fn walk_folder<'a>(
     alloc: Global,
     files: &[PathFile<'a>],
     depth: usize,
-    cut: u32,
+    cut: Cut,
     storing: &mut Storing<'a>,
 ) -> Result<Id, PlanError>
-    requires cut { 0 < cut }
     requires in_order { StandInOrder (paths_seen depth files.now) }
     requires names { HaveNames (most_levels - depth) (paths_seen depth files.now) }
-    ensures took { OnOk result (Took (blobs_of cut (folder_at (most_levels - depth) (seen depth files.now)))
+    ensures took { OnOk result (Took (blobs_of cut.bytes (folder_at (most_levels - depth) (seen depth files.now)))
         storing.old storing.new) }
     ensures id { IfOk result (λ id. id
-        ≡ id_of (root_tree cut (folder_at (most_levels - depth) (seen depth files.now)))) }
+        ≡ id_of (root_tree cut.bytes (folder_at (most_levels - depth) (seen depth files.now)))) }
     ensures refused { IfErr result (λ error. error ≢ Memory → (error ≡ Full)
-        × (list_any is_full (blobs_of cut (folder_at (most_levels - depth) (seen depth files.now)))
+        × (list_any is_full (blobs_of cut.bytes (folder_at (most_levels - depth) (seen depth files.now)))
         ≡ true)) }
 {
     let mut nodes = Vec::new(alloc);
@@ -82,20 +81,19 @@ fn walk_node<'a>(
     alloc: Global,
     files: &[PathFile<'a>],
     depth: usize,
-    cut: u32,
+    cut: Cut,
     storing: &mut Storing<'a>,
 ) -> Result<Node, PlanError>
-    requires cut { 0 < cut }
     requires in_order { StandInOrder (paths_seen depth files.now) }
     requires names { HaveNames (most_levels - depth) (paths_seen depth files.now) }
     requires some { 0 < length files.now }
     requires one_name { HaveOneName (paths_seen depth files.now) }
     ensures took { OnOk result (Took
-        (blobs_below cut (folder_at (most_levels - depth) (seen depth files.now))) storing.old storing.new) }
+        (blobs_below cut.bytes (folder_at (most_levels - depth) (seen depth files.now))) storing.old storing.new) }
     ensures node { IfOk result (λ node. node_view node ∷ []
-        ≡ nodes_of cut (folder_at (most_levels - depth) (seen depth files.now))) }
+        ≡ nodes_of cut.bytes (folder_at (most_levels - depth) (seen depth files.now))) }
     ensures refused { IfErr result (λ error. error ≢ Memory → (error ≡ Full)
-        × (list_any is_full (blobs_below cut (folder_at (most_levels - depth) (seen depth files.now)))
+        × (list_any is_full (blobs_below cut.bytes (folder_at (most_levels - depth) (seen depth files.now)))
         ≡ true)) }
 {
     let first = &files[0];
@@ -143,17 +141,16 @@ fn put_tree(alloc: Global, nodes: Vec<Node>, storing: &mut Storing) -> Result<Id
 fn put_pieces<'a>(
     alloc: Global,
     bytes: &'a [u8],
-    cut: u32,
+    cut: Cut,
     storing: &mut Storing<'a>,
 ) -> Result<Vec<Id>, PlanError>
-    requires cut { 0 < cut }
-    ensures took { OnOk result (Took (pieces_of cut bytes.now) storing.old storing.new) }
-    ensures ids { IfOk result (λ ids. ids.items ≡ map id_of (pieces_of cut bytes.now)) }
+    ensures took { OnOk result (Took (pieces_of cut.bytes bytes.now) storing.old storing.new) }
+    ensures ids { IfOk result (λ ids. ids.items ≡ map id_of (pieces_of cut.bytes bytes.now)) }
     ensures refused { IfErr result (λ error. error ≢ Memory
-        → (error ≡ Full) × (list_any is_full (pieces_of cut bytes.now) ≡ true)) }
+        → (error ≡ Full) × (list_any is_full (pieces_of cut.bytes bytes.now) ≡ true)) }
 {
     let mut ids = Vec::new(alloc);
-    for piece in bytes.chunks(cut as usize) {
+    for piece in bytes.chunks(cut.piece_length()) {
         let id = storing.put(BlobType::Content, CowSlice::Borrowed(piece))?;
         ids.push(id)?;
     }

@@ -1,3 +1,4 @@
+use crate::Cut;
 use crate::paths::files_in_order;
 use crate::storing::Storing;
 use crate::walk::walk;
@@ -39,7 +40,8 @@ fn walked_in<'a>(
     let files = files_in_order(alloc, given)?;
     let catalog = Catalog::of(alloc, repo)?;
     let mut storing = Storing::new(alloc, catalog);
-    let root = walk(alloc, &files, cut.max(1), &mut storing)?;
+    let cut = Cut::after(cut.clamp(1, 8_388_608));
+    let root = walk(alloc, &files, cut, &mut storing)?;
     let mut text = String::new(alloc);
     for (_, blob) in storing.pieces.iter().chain(storing.trees.iter()) {
         let line = String::from_utf8_lossy(alloc, blob.as_slice())?;

@@ -6,7 +6,7 @@ ghost use Rattle.keep_plan.specs.declared.plan_error.PlanError.TheVariants.{Memo
 ghost use Rattle.keep_bench.specs.Backup.{backed_up_of, bench_facts, bench_file};
 ghost use Rattle.keep_bench.specs.Backup as spec;
 
-use keep_backup::{BackupFacts, plan_backup};
+use keep_backup::{BackupFacts, Cut, plan_backup};
 use keep_change::Change;
 use keep_journal::History;
 use keep_names::Id;
@@ -34,7 +34,7 @@ pub(crate) fn back_up(alloc: Global, bytes: Vec<u8>) -> Result<BackedUp, PlanErr
     let files = files_of(alloc, bytes)?;
     let facts = facts(alloc)?;
     let view = View::without_events(&repo, &history);
-    let plan = plan_backup(alloc, &view, &files, &facts, CUT)?;
+    let plan = plan_backup(alloc, &view, &files, &facts, Cut::after(CUT))?;
     Ok(told_of(&plan.change))
 }
 

@@ -13,7 +13,7 @@ pub struct Told {
 }
 
 /// Why the book refused a request. It prints as it is answered to an operator.
-#[derive(Debug, Drop, Error)]
+#[derive(Debug, PartialEq, Eq, Drop, Error)]
 pub enum Refusal {
     /// The change isn't well formed.
     Malformed,

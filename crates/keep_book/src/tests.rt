@@ -52,25 +52,23 @@ fn clearing(alloc: Global, moment: i64) -> Result<Planned, AllocError> {
     Ok(planned(change, 0))
 }
 
-fn told(reply: Result<Told, Refusal>) -> Option<(u64, u64)> {
-    match reply {
-        Ok(told) => Some((told.number, told.at)),
-        Err(_) => None,
-    }
+/// The reply to an accepted request.
+fn told(number: u64, at: u64) -> Result<Told, Refusal> {
+    Ok(Told { number, at })
 }
 
 #[test]
 fn a_mark_is_set_once_and_taken_back(rt: HostRuntime) -> Result<(), Fail> {
     let alloc = rt.alloc();
     let mut book = Book::new(alloc, Repo::new(alloc));
-    assert_eq!(rt; told(book.commit(marking(alloc, 5)?)), Some((1, 1)));
+    assert_eq!(rt; book.commit(marking(alloc, 5)?), told(1, 1));
     let again = book.commit(marking(alloc, 5)?);
-    assert!(rt; matches!(&again, Err(Refusal::Unmet(_))));
-    assert_eq!(rt; told(book.undo(1)), Some((1, 2)));
+    assert_eq!(rt; again, Err(Refusal::Unmet(Facet::Mark(A))));
+    assert_eq!(rt; book.undo(1), told(1, 2));
     assert_eq!(rt; book.live().mark_count(), 0);
-    assert_eq!(rt; told(book.redo(1)), Some((1, 3)));
-    assert_eq!(rt; told(book.empty(1)), Some((1, 4)));
-    assert!(rt; matches!(&book.undo(1), Err(Refusal::Final)));
+    assert_eq!(rt; book.redo(1), told(1, 3));
+    assert_eq!(rt; book.empty(1), told(1, 4));
+    assert_eq!(rt; book.undo(1), Err(Refusal::Final));
     assert_eq!(rt; book.repo()?.mark_of(A), Some(5));
     Ok(())
 }
@@ -79,14 +77,14 @@ fn a_mark_is_set_once_and_taken_back(rt: HostRuntime) -> Result<(), Fail> {
 fn marks_differ_by_their_moments(rt: HostRuntime) -> Result<(), Fail> {
     let alloc = rt.alloc();
     let mut book = Book::new(alloc, Repo::new(alloc));
-    assert_eq!(rt; told(book.commit(marking(alloc, 5)?)), Some((1, 1)));
+    assert_eq!(rt; book.commit(marking(alloc, 5)?), told(1, 1));
     let other = book.commit(clearing(alloc, 6)?);
-    assert!(rt; matches!(&other, Err(Refusal::Unmet(facet)) if *facet == Facet::Mark(A)));
-    assert_eq!(rt; told(book.undo(1)), Some((1, 2)));
-    assert_eq!(rt; told(book.commit(marking(alloc, 7)?)), Some((2, 3)));
-    assert!(rt; matches!(&book.redo(1), Err(Refusal::Blocked(2))));
-    assert_eq!(rt; told(book.commit(clearing(alloc, 7)?)), Some((3, 4)));
-    assert_eq!(rt; told(book.undo(3)), Some((3, 5)));
+    assert_eq!(rt; other, Err(Refusal::Unmet(Facet::Mark(A))));
+    assert_eq!(rt; book.undo(1), told(1, 2));
+    assert_eq!(rt; book.commit(marking(alloc, 7)?), told(2, 3));
+    assert_eq!(rt; book.redo(1), Err(Refusal::Blocked(2)));
+    assert_eq!(rt; book.commit(clearing(alloc, 7)?), told(3, 4));
+    assert_eq!(rt; book.undo(3), told(3, 5));
     assert_eq!(rt; book.live().mark_of(A), Some(7));
     Ok(())
 }
@@ -96,13 +94,14 @@ fn a_strict_change_is_refused_late(rt: HostRuntime) -> Result<(), Fail> {
     let alloc = rt.alloc();
     let mut book = Book::new(alloc, Repo::new(alloc));
     for byte in 0..5u8 {
+        let number = u64::from(byte) + 1;
         let reply = book.commit(planned(addition(alloc, &[byte])?, 0));
-        assert!(rt; reply.is_ok());
+        assert_eq!(rt; reply, told(number, number));
     }
     let mut strict = addition(alloc, b"late")?;
     strict.strict = true;
     let reply = book.commit(planned(strict, 4));
-    assert!(rt; matches!(&reply, Err(Refusal::Stale(5))));
+    assert_eq!(rt; reply, Err(Refusal::Stale(5)));
     Ok(())
 }
 
@@ -128,11 +127,8 @@ fn a_change_has_at_most_65536_facets(rt: HostRuntime) -> Result<(), Fail> {
     let alloc = rt.alloc();
     let mut book = Book::new(alloc, Repo::new(alloc));
     let reply = book.commit(with_absent(alloc, 65_536)?);
-    assert!(rt; matches!(&reply, Err(Refusal::Full)));
+    assert_eq!(rt; reply, Err(Refusal::Full));
     assert_eq!(rt; book.history().length(), 0);
-    assert_eq!(rt;
-        told(book.commit(with_absent(alloc, 65_535)?)),
-        Some((1, 1))
-    );
+    assert_eq!(rt; book.commit(with_absent(alloc, 65_535)?), told(1, 1));
     Ok(())
 }

@@ -129,9 +129,7 @@ pub(crate) fn why_missing(
     ensures why { result ≡ spec.why_missing repo.now blob spots.now.entries }
     ensures ordered { IsOrdered spot_cmp spots.now }
 {
-    let is_empty = spots.is_empty();
-    let is_honest = some_honest(repo, hashed, blob, spots);
-    if is_empty | is_honest {
+    if some_honest(repo, hashed, blob, spots) || spots.is_empty() {
         ReachError::MissingBlob(blob.id)
     } else {
         ReachError::WrongHash(blob.id)

@@ -1,5 +1,5 @@
 -- The facets of a change, list by list.
-use Rattle.std.proofs.Common.{◌≡◌, Bool, true, false, ◌||◌, map, refl, ap, ◌∙◌}
+use Rattle.std.proofs.Common.{◌≡◌, Bool, true, false, ◌&&◌, ◌||◌, map, refl, sym, ap, ◌∙◌}
 use Rattle.std.specs.List.{list_any}
 use Rattle.std.proofs.lemmas.List.{map-append}
 use Rattle.std.proofs.lemmas.List.Folds.{list_any-append}
@@ -18,6 +18,22 @@ or_assoc false false false d = refl
 or_regroup : (w a b c d : Bool) → (w || (a || (b || (c || d)))) ≡ ((((w || a) || b) || c) || d)
 or_regroup true a b c d = refl
 or_regroup false a b c d = or_assoc a b c d
+
+-- of two tests the first tells, where it holds
+pub by_first : (told one other : Bool) → told ≡ true → told ≡ one → told ≡ (one || other)
+by_first told one other holds is = holds ∙ ap (λ b. b || other) (sym holds ∙ is)
+
+-- and else the second one
+pub by_second : (first told one other : Bool) → first ≡ false → first ≡ one → told ≡ other → told ≡ (one || other)
+by_second first told one other fails was is = is ∙ ap (λ b. b || other) (sym fails ∙ was)
+
+-- two tests hold together: the first tells, where it fails
+pub both_first : (told one other : Bool) → told ≡ false → told ≡ one → told ≡ (one && other)
+both_first told one other fails is = fails ∙ ap (λ b. b && other) (sym fails ∙ is)
+
+-- and else the second one
+pub both_second : (first told one other : Bool) → first ≡ true → first ≡ one → told ≡ other → told ≡ (one && other)
+both_second first told one other holds was is = is ∙ ap (λ b. b && other) (sym holds ∙ was)
 
 pub list_any-written : (p : Facet → Bool) (c : Change) → list_any p (written_facets c) ≡
     (((list_any p (map (λ f. File f.name) c.adds) || list_any p (map (λ f. File f.name) c.drops))

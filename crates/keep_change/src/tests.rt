@@ -4,6 +4,8 @@ use keep_repo::{Bytes, Facet, Mark, Repo};
 use std::alloc::{AllocError, Global};
 use std::test::Fail;
 
+mod well_formed;
+
 /// The SHA-256 of `a`.
 const A: Id = Id([
     0xca, 0x97, 0x81, 0x12, 0xca, 0x1b, 0xbd, 0xca, 0xfa, 0xc2, 0x31, 0xb3, 0x9a, 0x23, 0xdc, 0x4d,
@@ -107,75 +109,6 @@ fn small_repository(alloc: Global) -> Result<Repo, AllocError> {
     repo.insert_file(SNAPSHOT_A, bytes_of(alloc, "a")?)?;
     repo.insert_mark(MARK_A.pack, MARK_A.mark)?;
     Ok(repo)
-}
-
-#[test]
-fn a_file_that_is_made_from_its_bytes_is_named_by_them(rt: HostRuntime) -> Result<(), Fail> {
-    let alloc = rt.alloc();
-    let file = StoredFile::of(alloc, Kind::Index, b"a".to_vec(alloc)?)?;
-    assert_eq!(rt; file.name(), INDEX_A);
-    assert_eq!(rt; file.bytes().as_slice(), b"a".as_slice());
-    let mut files = Vec::new(alloc);
-    files.push(file)?;
-    let mut change = Change::new(alloc);
-    change.adds = Listed::from_vec(files);
-    assert!(rt; change.well_formed());
-    Ok(())
-}
-
-#[test]
-fn malformed_changes_are_told(rt: HostRuntime) -> Result<(), Fail> {
-    for (lists, well_formed, what) in [
-        (
-            Lists {
-                adds: &[(INDEX_A, "a"), (SNAPSHOT_B, "b")],
-                sets: &[MARK_B, MARK_A],
-                ..NONE
-            },
-            true,
-            "files by their names, and two marks",
-        ),
-        (
-            Lists {
-                adds: &[(SNAPSHOT_A, "b")],
-                ..NONE
-            },
-            false,
-            "a file under another's name",
-        ),
-        (
-            Lists {
-                drops: &[(SNAPSHOT_A, "a"), (SNAPSHOT_B, "b")],
-                ..NONE
-            },
-            false,
-            "drops out of order",
-        ),
-        (
-            Lists {
-                adds: &[(SNAPSHOT_A, "a")],
-                absent: &[SNAPSHOT_A],
-                ..NONE
-            },
-            false,
-            "a file in two lists",
-        ),
-        (
-            Lists {
-                present: &[INDEX_A],
-                absent: &[SNAPSHOT_B],
-                marked: &[A],
-                unmarked: &[B],
-                ..NONE
-            },
-            false,
-            "nothing written",
-        ),
-    ] {
-        let change = change_of(rt.alloc(), lists)?;
-        assert_eq!(rt; change.well_formed(), well_formed, "{what}");
-    }
-    Ok(())
 }
 
 #[test]

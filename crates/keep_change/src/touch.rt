@@ -16,11 +16,10 @@ impl Change {
         requires { ListsInOrder self.now }
         ensures { result ≡ writes self.now facet }
     {
-        let adds = contains(self.adds.as_slice(), facet);
-        let drops = contains(self.drops.as_slice(), facet);
-        let sets = contains(self.sets.as_slice(), facet);
-        let clears = contains(self.clears.as_slice(), facet);
-        adds | drops | sets | clears
+        contains(self.adds.as_slice(), facet)
+            || contains(self.drops.as_slice(), facet)
+            || contains(self.sets.as_slice(), facet)
+            || contains(self.clears.as_slice(), facet)
     }
 
     /// Whether the facet stands in one of the eight lists. It takes log n steps for n facets.
@@ -28,11 +27,11 @@ impl Change {
         requires { ListsInOrder self.now }
         ensures { result ≡ touches self.now facet }
     {
-        let present = contains(self.present.as_slice(), facet);
-        let absent = contains(self.absent.as_slice(), facet);
-        let marked = contains(self.marked.as_slice(), facet);
-        let unmarked = contains(self.unmarked.as_slice(), facet);
-        self.writes(facet) | present | absent | marked | unmarked
+        self.writes(facet)
+            || contains(self.present.as_slice(), facet)
+            || contains(self.absent.as_slice(), facet)
+            || contains(self.marked.as_slice(), facet)
+            || contains(self.unmarked.as_slice(), facet)
     }
 
     /// How many facets the change touches, at most `usize::MAX`.
@@ -63,11 +62,10 @@ impl Change {
         requires { ListsInOrder self.now }
         ensures { result ≡ leans_on self.now other.now }
     {
-        let adds = self.touches_some(other.adds.as_slice());
-        let drops = self.touches_some(other.drops.as_slice());
-        let sets = self.touches_some(other.sets.as_slice());
-        let clears = self.touches_some(other.clears.as_slice());
-        adds | drops | sets | clears
+        self.touches_some(other.adds.as_slice())
+            || self.touches_some(other.drops.as_slice())
+            || self.touches_some(other.sets.as_slice())
+            || self.touches_some(other.clears.as_slice())
     }
 
     /// Whether the change drops the file, or clears the mark.
@@ -75,9 +73,7 @@ impl Change {
         requires { IsWellFormed self.now }
         ensures { result ≡ is_some (before_of self.now facet) }
     {
-        let drops = contains(self.drops.as_slice(), facet);
-        let clears = contains(self.clears.as_slice(), facet);
-        drops | clears
+        contains(self.drops.as_slice(), facet) || contains(self.clears.as_slice(), facet)
     }
 
     /// Whether the change drops the file of this name with just these bytes.

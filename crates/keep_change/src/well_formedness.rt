@@ -16,27 +16,23 @@ impl Change {
     pub fn well_formed(&self) -> bool
         ensures { IsTrue result ↔ IsWellFormed self.now }
     {
-        if !self.lists_in_order() {
-            return false;
-        }
-        let once = self.has_no_facet_twice();
-        let named = are_named_by_bytes(self.adds.as_slice());
-        let writes = self.writes_something();
-        once & named & writes
+        self.lists_in_order()
+            && self.has_no_facet_twice()
+            && are_named_by_bytes(self.adds.as_slice())
+            && self.writes_something()
     }
 
     fn lists_in_order(&self) -> bool
         ensures { IsTrue result ↔ ListsInOrder self.now }
     {
-        let adds = in_order(self.adds.as_slice());
-        let drops = in_order(self.drops.as_slice());
-        let sets = in_order(self.sets.as_slice());
-        let clears = in_order(self.clears.as_slice());
-        let present = in_order(self.present.as_slice());
-        let absent = in_order(self.absent.as_slice());
-        let marked = in_order(self.marked.as_slice());
-        let unmarked = in_order(self.unmarked.as_slice());
-        adds & drops & sets & clears & present & absent & marked & unmarked
+        in_order(self.adds.as_slice())
+            && in_order(self.drops.as_slice())
+            && in_order(self.sets.as_slice())
+            && in_order(self.clears.as_slice())
+            && in_order(self.present.as_slice())
+            && in_order(self.absent.as_slice())
+            && in_order(self.marked.as_slice())
+            && in_order(self.unmarked.as_slice())
     }
 
     /// How often the facet stands in the lists.
@@ -59,15 +55,14 @@ impl Change {
         requires { ListsInOrder self.now }
         ensures { IsTrue result ↔ HasNoFacetTwice self.now }
     {
-        let adds = self.has_each_once(self.adds.as_slice());
-        let drops = self.has_each_once(self.drops.as_slice());
-        let sets = self.has_each_once(self.sets.as_slice());
-        let clears = self.has_each_once(self.clears.as_slice());
-        let present = self.has_each_once(self.present.as_slice());
-        let absent = self.has_each_once(self.absent.as_slice());
-        let marked = self.has_each_once(self.marked.as_slice());
-        let unmarked = self.has_each_once(self.unmarked.as_slice());
-        adds & drops & sets & clears & present & absent & marked & unmarked
+        self.has_each_once(self.adds.as_slice())
+            && self.has_each_once(self.drops.as_slice())
+            && self.has_each_once(self.sets.as_slice())
+            && self.has_each_once(self.clears.as_slice())
+            && self.has_each_once(self.present.as_slice())
+            && self.has_each_once(self.absent.as_slice())
+            && self.has_each_once(self.marked.as_slice())
+            && self.has_each_once(self.unmarked.as_slice())
     }
 
     fn has_each_once<M: Member>(&self, members: &[M]) -> bool
@@ -85,11 +80,10 @@ impl Change {
     fn writes_something(&self) -> bool
         ensures { IsTrue result ↔ (written self.now ≢ []) }
     {
-        let adds = self.adds.as_slice().is_empty();
-        let drops = self.drops.as_slice().is_empty();
-        let sets = self.sets.as_slice().is_empty();
-        let clears = self.clears.as_slice().is_empty();
-        !(adds & drops & sets & clears)
+        !(self.adds.as_slice().is_empty()
+            && self.drops.as_slice().is_empty()
+            && self.sets.as_slice().is_empty()
+            && self.clears.as_slice().is_empty())
     }
 }
 

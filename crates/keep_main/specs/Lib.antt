@@ -1,3 +1,3 @@
-pub mod Code
+pub mod Ending
 pub mod Option
 pub mod Reading

@@ -1,15 +1,18 @@
 //! The program `keepd`: answers the script on its standard input.
 #![tactic(auto)]
 
+mod ending;
 mod options;
 mod program;
 #[cfg(test)]
 mod tests;
 
+use ending::Ending;
+use keep_script::Status;
 use options::BadOptions;
-use program::{keepd, refuse, without_memory};
+use program::keepd;
 use std::env;
-use std::io::{BufWriter, ErrorKind, Stderr};
+use std::io::{BufWriter, ErrorKind, Write};
 use std::process::ExitCode;
 
 /// The words behind the program's name. One that isn't UTF-8 is no option.
@@ -22,26 +25,22 @@ fn read_words(rt: &HostRuntime) -> Result<Vec<String>, BadOptions> {
 }
 
 /// Runs the program between standard input and output.
-fn serve(rt: &HostRuntime, words: &[String], errors: &mut Stderr) -> u8 {
+fn serve(rt: &HostRuntime, words: &[String]) -> Ending {
     let alloc = rt.alloc();
     let words: Result<Vec<&str>, _> = words.iter().map(|word| word.as_str()).collect(alloc);
     let (Ok(words), Ok(mut writer)) = (words, BufWriter::new(alloc, rt.stdout())) else {
-        return without_memory(errors);
+        return Ending::Ran(Status::NoMemory);
     };
-    keepd(
-        alloc,
-        words.as_slice(),
-        &mut rt.stdin(),
-        &mut writer,
-        errors,
-    )
+    keepd(alloc, words.as_slice(), &mut rt.stdin(), &mut writer)
 }
 
 fn main(rt: HostRuntime) -> ExitCode {
-    let mut errors = rt.stderr();
-    let status = match read_words(&rt) {
-        Ok(words) => serve(&rt, words.as_slice(), &mut errors),
-        Err(error) => refuse(error, &mut errors),
+    let ending = match read_words(&rt) {
+        Ok(words) => serve(&rt, words.as_slice()),
+        Err(error) => Ending::from(error),
     };
-    ExitCode::from(status)
+    if !ending.is_done() {
+        let _ = writeln!(rt.stderr(), "{ending}");
+    }
+    ExitCode::from(ending.code())
 }

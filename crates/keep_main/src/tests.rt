@@ -1,8 +1,10 @@
+use crate::ending::Ending;
 use crate::options::{BadOptions, read_options};
-use crate::program::{keepd, without_memory};
+use crate::program::keepd;
 use std::alloc::Global;
 use std::io::{self, ErrorKind, Read, Write};
 use std::process::Abort;
+use std::test::Fail;
 
 /// Gives some bytes, and then fails.
 #[derive(Drop)]
@@ -63,7 +65,7 @@ impl Write for Full {
     }
 }
 
-/// What the program is to write on the one side and the other, and its exit status.
+/// What the program is to answer, what it says of its end, and its exit status.
 type Wanted = (&'static str, &'static str, u8);
 
 fn expect<R: Read>(
@@ -79,31 +81,35 @@ fn expect<R: Read>(
         room,
         flushes,
     };
-    let mut errors = Vec::new(alloc);
-    let (answers, cause, status) = wanted;
-    let ended = keepd(alloc, words, reader, &mut writer, &mut errors);
-    assert_eq!(rt; ended, status, "before {cause}");
+    let (answers, cause, code) = wanted;
+    let ending = keepd(alloc, words, reader, &mut writer);
+    assert_eq!(rt; ending.code(), code, "before {cause}");
+    assert_eq!(rt; ending.is_done(), cause == DONE);
     assert!(rt;
         writer.held.as_slice() == answers.as_bytes(),
         "not {answers}"
     );
-    assert!(rt; errors.as_slice() == cause.as_bytes(), "not {cause}");
+    let said = format!(in alloc; "{ending}").expect(rt, "memory");
+    assert_eq!(rt; said.as_str(), cause);
 }
 
 const AMPLE: (usize, usize) = (1000, 1000);
 
 const ANSWER: &str = "files 0 marks 0\n";
 
+/// What isn't said of a script that was answered.
+const DONE: &str = "keepd: done";
+
 #[test]
 fn scripts_give_their_status(rt: HostRuntime) {
     let alloc = rt.alloc();
     let bad_line = (
         "files 0 marks 0\nbad line 2\n",
-        "keepd: line 2 is not a command\n",
+        "keepd: line 2: no such command",
         2,
     );
     for (script, wanted) in [
-        ("count", (ANSWER, "", 0)),
+        ("count", (ANSWER, DONE, 0)),
         ("count\nhelp\ncount\n", bad_line),
     ] {
         expect(&rt, alloc, &[], &mut script.as_bytes(), AMPLE, wanted);
@@ -128,7 +134,7 @@ fn words_give_the_options(rt: HostRuntime) {
             words,
             &mut b"count".as_slice(),
             AMPLE,
-            (ANSWER, "", 0),
+            (ANSWER, DONE, 0),
         );
     }
 }
@@ -136,7 +142,7 @@ fn words_give_the_options(rt: HostRuntime) {
 #[test]
 fn other_words_are_bad_options(rt: HostRuntime) {
     let alloc = rt.alloc();
-    let refused = ("", "keepd: bad options\n", 2);
+    let refused = ("", "keepd: bad options; usage: keepd [--cut N] < SCRIPT", 2);
     for words in [
         ["--cut", "0"].as_slice(),
         &["--cut", "8388609"],
@@ -164,8 +170,8 @@ fn other_words_are_bad_options(rt: HostRuntime) {
 #[test]
 fn failures_give_their_status(rt: HostRuntime) {
     let alloc = rt.alloc();
-    let unread = "keepd: cannot read the script, or it is longer than 67,108,864 bytes\n";
-    let unwritten = "keepd: cannot write the answers\n";
+    let unread = "keepd: cannot read the script, or it is longer than 67,108,864 bytes";
+    let unwritten = "keepd: cannot write the answers";
     let mut broken = Broken {
         bytes: b"count\ncou",
     };
@@ -191,9 +197,10 @@ fn failures_give_their_status(rt: HostRuntime) {
 }
 
 #[test]
-fn want_of_memory_is_told(rt: HostRuntime) {
-    let mut errors = Vec::new(rt.alloc());
-    let status = without_memory(&mut errors);
-    assert_eq!(rt; status, 1);
-    assert!(rt; errors.as_slice() == b"keepd: no memory\n".as_slice());
+fn want_of_memory_is_told(rt: HostRuntime) -> Result<(), Fail> {
+    let ending = Ending::from(BadOptions::Memory);
+    let said = format!(in rt.alloc(); "{ending}")?;
+    assert_eq!(rt; ending.code(), 1);
+    assert_eq!(rt; said.as_str(), "keepd: no memory");
+    Ok(())
 }

@@ -1,7 +1,7 @@
-use crate::{Finding, RestoreError, Restored, findings, restoration};
+use crate::{RestoreError, Restored, restoration};
 use keep_catalog::{FileError, ReachError, Unread};
 use keep_journal::History;
-use keep_names::{BlobId, BlobType, FileName, Id, Kind, id_of};
+use keep_names::{BlobType, FileName, Id, Kind, id_of};
 use keep_repo::{Bytes, Mark, Repo};
 use keep_snap::SnapError;
 use keep_view::View;
@@ -9,18 +9,14 @@ use std::alloc::{AllocError, Global};
 use std::str;
 use std::test::Fail;
 
+mod audits;
+
 const TIME: &str = "2024-01-01T10:00:00Z";
 
 // What a restore gives of a repository to which nothing happened.
 fn restore(alloc: Global, repo: &Repo, name: Id) -> Result<Restored, RestoreError> {
     let history = History::new(alloc, 0);
     restoration::restore(alloc, &View::without_events(repo, &history), name)
-}
-
-// What an audit finds in one.
-fn audit(alloc: Global, repo: &Repo) -> Result<Vec<Finding>, AllocError> {
-    let history = History::new(alloc, 0);
-    findings::audit(alloc, &View::without_events(repo, &history))
 }
 
 // Puts these bytes there, under this name.
@@ -227,69 +223,5 @@ fn what_cannot_be_restored_says_why(rt: HostRuntime) -> Result<(), Fail> {
     assert_eq!(rt; restore(alloc, &changed, snapshot).err(), Some(wrong));
     let text = format!(in alloc; "{wrong}")?;
     assert_eq!(rt; text, format!(in alloc; "WrongHash {hello}")?);
-    Ok(())
-}
-
-#[test]
-fn an_audit_finds_all_that_is_wrong(rt: HostRuntime) -> Result<(), Fail> {
-    let alloc = rt.alloc();
-    let mut repo = Repo::new(alloc);
-    let (snapshot, first, second) = one_file(alloc, &mut repo, "hello")?;
-    assert_eq!(rt; audit(alloc, &repo)?.len(), 0);
-    one_file(alloc, &mut repo, "Hello")?;
-    repo.insert_mark(second, Mark { moment: 0 })?;
-    let late = put_snapshot(alloc, &mut repo, snapshot, "late")?;
-    let hello = id_of(b"hello");
-    let unread = Unread {
-        name: FileName::snapshot(late),
-        refusal: FileError::Snap(SnapError::BadTime),
-    };
-    let wrong = FileName::pack(first);
-    let blob = BlobId {
-        id: hello,
-        blob_type: BlobType::Content,
-    };
-    let findings = [
-        (Finding::WrongName(wrong), None),
-        (Finding::Unreadable(unread), Some(11)),
-        (Finding::WrongBlob(first, blob), None),
-        (
-            Finding::Broken(snapshot, ReachError::WrongHash(hello)),
-            Some(35),
-        ),
-    ];
-    let found = audit(alloc, &repo)?;
-    assert_eq!(rt;
-        found.as_slice(),
-        findings.map(|(finding, _)| finding).as_slice()
-    );
-    for (finding, number) in findings {
-        assert_eq!(rt; finding.number(), number);
-    }
-    Ok(())
-}
-
-// So many levels of trees, each naming the next.
-fn put_levels(alloc: Global, repo: &mut Repo, levels: u16) -> Result<Id, AllocError> {
-    let mut tree = put_tree(alloc, repo, "")?;
-    for _ in 1..levels {
-        let node = dir(alloc, "d", tree)?;
-        tree = put_tree(alloc, repo, node.as_str())?;
-    }
-    Ok(tree)
-}
-
-#[test]
-fn trees_at_level_257_are_too_deep(rt: HostRuntime) -> Result<(), Fail> {
-    let alloc = rt.alloc();
-    let mut repo = Repo::new(alloc);
-    let tree = put_levels(alloc, &mut repo, 257)?;
-    let snapshot = put_snapshot(alloc, &mut repo, tree, TIME)?;
-    let found = audit(alloc, &repo)?;
-    let broken = Finding::Broken(snapshot, ReachError::TooDeep);
-    assert_eq!(rt; found.as_slice(), [broken].as_slice());
-    assert_eq!(rt; broken.number(), Some(14));
-    let refusal = RestoreError::Reach(ReachError::TooDeep);
-    assert_eq!(rt; restore(alloc, &repo, snapshot).err(), Some(refusal));
     Ok(())
 }

@@ -23,6 +23,14 @@ struct Walked {
     bare: BTreeSet<Id>,
 }
 
+// A walk over the trees of a catalog, whose blobs were found where they were reached.
+#[derive(Clone, Copy)]
+struct Walk<'a> {
+    alloc: Global,
+    catalog: &'a Catalog<'a>,
+    reached: &'a Reached,
+}
+
 // What stands below the tree, which isn't refused.
 pub(crate) fn contents_of(
     alloc: Global,
@@ -35,85 +43,81 @@ pub(crate) fn contents_of(
     ensures { IfOk result (λ contents.
         map content_view contents.items ≡ contents_at catalog.now spec.most_levels tree) }
 {
+    let walk = Walk {
+        alloc,
+        catalog,
+        reached,
+    };
     let mut walked = Walked {
         contents: Vec::new(alloc),
         bare: BTreeSet::new(alloc),
     };
-    walk(alloc, catalog, reached, levels(), "", tree, &mut walked)?;
+    walk.add_tree(levels(), "", tree, &mut walked)?;
     let Walked { contents, bare: _ } = walked;
     Ok(contents)
 }
 
-// Adds what stands below the tree at this path. A tree below which nothing stands is walked once.
-#[cycle(walking)]
-fn walk(
-    alloc: Global,
-    catalog: &Catalog,
-    reached: &Reached,
-    levels: u16,
-    path: &str,
-    tree: Id,
-    walked: &mut Walked,
-) -> Result<(), AllocError>
-    requires found { IsFound catalog.now reached.now levels (tree_at tree) }
-    requires had { refusal_at (named_by catalog.now) levels (tree_at tree) ≡ None }
-    requires before { AreBare catalog.now walked.old.bare }
-    ensures contents { OnOk result (map content_view walked.new.contents.items
-        ≡ map content_view walked.old.contents.items
-        ++ map (under path.now) (contents_at catalog.now levels tree)) }
-    ensures bare { OnOk result (AreBare catalog.now walked.new.bare) }
-{
-    if walked.bare.contains(&tree) {
-        return Ok(());
-    }
-    let nodes = nodes_in(alloc, catalog, reached, tree)?;
-    let before = walked.contents.len();
-    for node in &nodes {
-        walk_node(alloc, catalog, reached, levels - 1, path, node, walked)?;
-    }
-    if walked.contents.len() == before {
-        walked.bare.insert(tree)?;
-    }
-    Ok(())
-}
-
-// Adds what the node is, at its name below the path, and what stands below it.
-#[cycle(walking)]
-fn walk_node(
-    alloc: Global,
-    catalog: &Catalog,
-    reached: &Reached,
-    levels: u16,
-    path: &str,
-    node: &Node,
-    walked: &mut Walked,
-) -> Result<(), AllocError>
-    requires found { AreFound catalog.now reached.now levels (named_of (node_view node.now)) }
-    requires had { first_of (refusal_at (named_by catalog.now) levels) (named_of (node_view node.now))
-        ≡ None }
-    requires before { AreBare catalog.now walked.old.bare }
-    ensures contents { OnOk result (map content_view walked.new.contents.items
-        ≡ map content_view walked.old.contents.items
-        ++ map (under path.now)
-        (contents_of catalog.now (contents_at catalog.now levels) (node_view node.now))) }
-    ensures bare { OnOk result (AreBare catalog.now walked.new.bare) }
-{
-    let path = path_below(alloc, path, node.name.as_str())?;
-    match &node.kind {
-        NodeKind::Dir { subtree } => walk(
-            alloc,
-            catalog,
-            reached,
-            levels,
-            path.as_str(),
-            *subtree,
-            walked,
-        ),
-        NodeKind::File { content } => {
-            let bytes = joined(alloc, catalog, reached, content)?;
-            add(&mut walked.contents, path, Some(bytes))
+impl Walk<'_> {
+    // Adds what stands below the tree at this path. A tree below which nothing stands is walked once.
+    #[cycle(walking)]
+    fn add_tree(
+        &self,
+        levels: u16,
+        path: &str,
+        tree: Id,
+        walked: &mut Walked,
+    ) -> Result<(), AllocError>
+        requires found { IsFound self.now.catalog.now self.now.reached.now levels (tree_at tree) }
+        requires had { refusal_at (named_by self.now.catalog.now) levels (tree_at tree) ≡ None }
+        requires before { AreBare self.now.catalog.now walked.old.bare }
+        ensures contents { OnOk result (map content_view walked.new.contents.items
+            ≡ map content_view walked.old.contents.items
+            ++ map (under path.now) (contents_at self.now.catalog.now levels tree)) }
+        ensures bare { OnOk result (AreBare self.now.catalog.now walked.new.bare) }
+    {
+        if walked.bare.contains(&tree) {
+            return Ok(());
         }
-        NodeKind::Other { type_name: _ } => add(&mut walked.contents, path, None),
+        let nodes = nodes_in(self.alloc, self.catalog, self.reached, tree)?;
+        let before = walked.contents.len();
+        for node in &nodes {
+            self.add_node(levels - 1, path, node, walked)?;
+        }
+        if walked.contents.len() == before {
+            walked.bare.insert(tree)?;
+        }
+        Ok(())
+    }
+
+    // Adds what the node is, at its name below the path, and what stands below it.
+    #[cycle(walking)]
+    fn add_node(
+        &self,
+        levels: u16,
+        path: &str,
+        node: &Node,
+        walked: &mut Walked,
+    ) -> Result<(), AllocError>
+        requires found { AreFound self.now.catalog.now self.now.reached.now levels
+            (named_of (node_view node.now)) }
+        requires had { first_of (refusal_at (named_by self.now.catalog.now) levels)
+            (named_of (node_view node.now)) ≡ None }
+        requires before { AreBare self.now.catalog.now walked.old.bare }
+        ensures contents { OnOk result (map content_view walked.new.contents.items
+            ≡ map content_view walked.old.contents.items
+            ++ map (under path.now)
+            (contents_of self.now.catalog.now (contents_at self.now.catalog.now levels) (node_view node.now))) }
+        ensures bare { OnOk result (AreBare self.now.catalog.now walked.new.bare) }
+    {
+        let path = path_below(self.alloc, path, node.name.as_str())?;
+        match &node.kind {
+            NodeKind::Dir { subtree } => self.add_tree(levels, path.as_str(), *subtree, walked),
+            NodeKind::File { content } => {
+                let bytes = joined(self.alloc, self.catalog, self.reached, content)?;
+                add(&mut walked.contents, path, Some(bytes))
+            }
+            NodeKind::Other { type_name: _ } => add(&mut walked.contents, path, None),
+        }
     }
 }
 

@@ -47,7 +47,7 @@ Counted-whole (Some xs) (Some ys) (Some zs) first then last bytes more taken nex
 
 -- a run that stops isn't done
 pub StopsAt-Done : (a b : Option (List ℕ)) (number : ℕ) (stop : Stop) → StopsAt a b number stop Done → ⊥
-StopsAt-Done a b number BadLine h = h
+StopsAt-Done a b number (BadLine why) h = h
 StopsAt-Done a b number ReadFailed h = cc h.0
 StopsAt-Done a b number WriteFailed h = cc h.0
 StopsAt-Done a b number NoMemory h = cc h.0

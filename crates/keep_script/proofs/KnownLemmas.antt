@@ -2,9 +2,10 @@
 use Rattle.std.proofs.Common.{◌≡◌, ℕ, List, [], ◌∷◌, ◌++◌, ◌∙◌, take, drop, Result, Ok, Err, refl, sym, ap, subst, append_assoc, append-nil}
 use Rattle.std.proofs.lemmas.List.{take-append-drop}
 use Rattle.std.proofs.KnownBytes.{Appends-trans, Appends-nil}
-use Rattle.std.specs.Prelude.{Option, None, Some}
+use Rattle.std.specs.Prelude.{IfSome, Option, None, Some}
 use Rattle.std.specs.Io.KnownBytes.{Appends, IsAtEnd, prepend_known}
 use Rattle.keep_script.specs.Known.{AppendsPart, Puts}
+use Rattle.keep_script.specs.Line.{line}
 use Rattle.keep_script.specs.declared.status.Stop.{Stop}
 use Rattle.keep_script.specs.declared.status.Stop.TheVariants.{BadLine, ReadFailed, WriteFailed, NoMemory}
 
@@ -35,10 +36,15 @@ AppendsPart-taken a b bytes n h = record { part = take n bytes; rest = drop n by
 pub Puts-none : (a b : Option (List ℕ)) (text : List ℕ) (r : Result (Unit {0}) Stop) → r ≡ Err NoMemory → AppendsPart a b text → Puts a b text r
 Puts-none a b text r e h = rw e h
 
+-- not even a line could be made of what was to be printed
+pub Puts-unmade : (o : Option (List ℕ)) (a : Option (List ℕ)) (r : Result (Unit {0}) Stop) → r ≡ Err NoMemory → IfSome o (λ text. Puts a a (line text) r)
+Puts-unmade None a r e = tt
+Puts-unmade (Some text) a r e = Puts-none a a (line text) r e (AppendsPart-none a (line text))
+
 -- it failed at the next part of the text
 pub Puts-failed : (a b c : Option (List ℕ)) (all done next rest : List ℕ) (stop : Stop) (r : Result (Unit {0}) Stop)
     → all ≡ done ++ (next ++ rest) → Appends a b done → Puts b c next (Err stop) → r ≡ Err stop → Puts a c all r
-Puts-failed a b c all done next rest BadLine r e h k same = absurd k
+Puts-failed a b c all done next rest (BadLine why) r e h k same = absurd k
 Puts-failed a b c all done next rest ReadFailed r e h k same = absurd k
 Puts-failed a b c all done next rest WriteFailed r e h k same = rw same (AppendsPart-more a b c all done next rest e h k)
 Puts-failed a b c all done next rest NoMemory r e h k same = rw same (AppendsPart-more a b c all done next rest e h k)

@@ -1,13 +1,11 @@
 pub mod AnswerLemmas
-pub mod BackupWords
 pub mod CountLemmas
 pub mod FirstLine
-pub mod HexWord
 pub mod KnownLemmas
 pub mod LineLemmas
+pub mod ListLines
 pub mod NextLine
 pub mod RestoreLemmas
 pub mod RunLemmas
 pub mod StatusLemmas
 pub mod StepLemmas
-pub mod WordLemmas

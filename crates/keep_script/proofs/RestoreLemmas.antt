@@ -19,16 +19,14 @@ use Rattle.keep_read.specs.declared.restore_error.RestoreError.{RestoreError}
 use Rattle.keep_read.specs.declared.restore_error.RestoreError.TheVariants.{NoSnapshot, Reach, Unread}
 use Rattle.keep_catalog.specs.declared.reach_error.ReachError.TheVariants.{BadTree, Memory, MissingBlob, TooDeep, WrongHash}
 use Rattle.keep_read.specs.declared.restored.Restored.{Restored}
-use Rattle.keep_script.specs.Answer as script
-use Rattle.keep_script.specs.Answer.{Reads}
+use Rattle.keep_script.specs.Answer.{Tells}
 use Rattle.keep_script.specs.Known.{Puts}
-use Rattle.keep_script.specs.Plan.{file_meant}
+use Rattle.keep_script.specs.RawFile.{file_meant}
 use Rattle.keep_script.specs.State.{State}
-use Rattle.keep_script.specs.Text.{audit_count, audit_text, audit_reply_text, finding_line, no_memory_text, restore_reply_text, restored_counts, restored_line, restored_text}
-use Rattle.keep_script.specs.declared.command.Command.{Command}
-use Rattle.keep_script.specs.declared.command.Command.TheVariants.{Audit, Restore}
+use Rattle.keep_script.specs.Text.{audit_answer, audit_last, finding_line, found_answer, no_memory_answer, restore_answer, restored_answer, restored_last, restored_line}
+use Rattle.keep_lines.specs.declared.question.Question.TheVariants.{Audit, Restore}
 use Rattle.keep_script.specs.declared.status.Stop.{Stop}
-use Rattle.keep_script.specs.declared.word.Target.{Target}
+use Rattle.keep_lines.specs.declared.word.Target.{Target}
 
 -- the entries as contracts see them
 abbrev pub pairs : List (String Global × Vec ℕ Global) → List (List ℕ × List ℕ)
@@ -49,17 +47,17 @@ module _ (es : List (String Global × Vec ℕ Global)) (sorted : IsStrictlySorte
   files_counted = len_made nat_list_cmp_total (pairs es) (sorted_pairs es sorted) ∙ length-map es _
 
   -- the counts that were written are those of the files
-  pub Puts-counts : (a b : Option (List ℕ)) (skipped count : ℕ) (text : List ℕ) (r : Result (Unit {0}) Stop) → count ≡ length es → text ≡ restored_counts count skipped
-      → Puts a b text r → Puts a b (restored_counts (finite.len (finite.from_entries {R = path_cmp} (pairs es))) skipped) r
+  pub Puts-counts : (a b : Option (List ℕ)) (skipped count : ℕ) (text : List ℕ) (r : Result (Unit {0}) Stop) → count ≡ length es → text ≡ restored_last count skipped
+      → Puts a b text r → Puts a b (restored_last (finite.len (finite.from_entries {R = path_cmp} (pairs es))) skipped) r
   Puts-counts a b skipped count text r counted told puts =
-      subst (λ t. Puts a b t r) (told ∙ ap (λ n. restored_counts n skipped) (counted ∙ sym files_counted)) puts
+      subst (λ t. Puts a b t r) (told ∙ ap (λ n. restored_last n skipped) (counted ∙ sym files_counted)) puts
 
   -- the lines of the files, as far as they were written, and then the rest
   pub restored_split : (skipped : ℕ) (written rest : List ℕ) → written ++ rest ≡ flat_map restored_line (pairs es)
-      → restored_text (record { files = finite.from_entries (pairs es); skipped = skipped })
-      ≡ written ++ (rest ++ restored_counts (finite.len (finite.from_entries {R = path_cmp} (pairs es))) skipped)
+      → restored_answer (record { files = finite.from_entries (pairs es); skipped = skipped })
+      ≡ written ++ (rest ++ restored_last (finite.len (finite.from_entries {R = path_cmp} (pairs es))) skipped)
   restored_split skipped written rest split =
-      let counts : List ℕ = restored_counts (finite.len (finite.from_entries {R = path_cmp} (pairs es))) skipped in
+      let counts : List ℕ = restored_last (finite.len (finite.from_entries {R = path_cmp} (pairs es))) skipped in
       ap (λ files. flat_map restored_line files ++ counts) (entries_made nat_list_cmp_total (pairs es) (sorted_pairs es sorted))
       ∙ ap (λ l. l ++ counts) (sym split) ∙ append_assoc written rest counts
 
@@ -79,38 +77,23 @@ last_split all left written none split = ap (λ es. written ++ flat_map restored
 
 -- the lines of the findings, as far as they were written, and then the rest
 pub audit_split : (findings : List Finding) (written rest : List ℕ) → written ++ rest ≡ flat_map finding_line findings
-    → audit_text findings ≡ written ++ (rest ++ audit_count (length findings))
-audit_split findings written rest split = ap (λ l. l ++ audit_count (length findings)) (sym split) ∙ append_assoc written rest (audit_count (length findings))
+    → found_answer findings ≡ written ++ (rest ++ audit_last (length findings))
+audit_split findings written rest split = ap (λ l. l ++ audit_last (length findings)) (sym split) ∙ append_assoc written rest (audit_last (length findings))
 
 -- what a restore told is what it has to tell, or that memory ran out
 pub restore_told : (due : Result RestoredData RestoreError) (outcome : Result Restored RestoreError) → Answers (Reach Memory) restored_view due outcome
-    → (restore_reply_text (result_map_both restored_view (λ e. e) outcome) ≡ restore_reply_text due) ⊎ (restore_reply_text (result_map_both restored_view (λ e. e) outcome) ≡ no_memory_text)
-restore_told due (Ok restored) h = inl (ap restore_reply_text (sym h))
-restore_told due (Err NoSnapshot) h = inl (ap restore_reply_text (sym (h (λ e. cc e))))
-restore_told due (Err (Unread file)) h = inl (ap restore_reply_text (sym (h (λ e. cc e))))
+    → (restore_answer (result_map_both restored_view (λ e. e) outcome) ≡ restore_answer due) ⊎ (restore_answer (result_map_both restored_view (λ e. e) outcome) ≡ no_memory_answer)
+restore_told due (Ok restored) h = inl (ap restore_answer (sym h))
+restore_told due (Err NoSnapshot) h = inl (ap restore_answer (sym (h (λ e. cc e))))
+restore_told due (Err (Unread file)) h = inl (ap restore_answer (sym (h (λ e. cc e))))
 restore_told due (Err (Reach Memory)) h = inr refl
-restore_told due (Err (Reach TooDeep)) h = inl (ap restore_reply_text (sym (h (λ e. cc e))))
-restore_told due (Err (Reach BadTree)) h = inl (ap restore_reply_text (sym (h (λ e. cc e))))
-restore_told due (Err (Reach (MissingBlob blob))) h = inl (ap restore_reply_text (sym (h (λ e. cc e))))
-restore_told due (Err (Reach (WrongHash blob))) h = inl (ap restore_reply_text (sym (h (λ e. cc e))))
+restore_told due (Err (Reach TooDeep)) h = inl (ap restore_answer (sym (h (λ e. cc e))))
+restore_told due (Err (Reach BadTree)) h = inl (ap restore_answer (sym (h (λ e. cc e))))
+restore_told due (Err (Reach (MissingBlob blob))) h = inl (ap restore_answer (sym (h (λ e. cc e))))
+restore_told due (Err (Reach (WrongHash blob))) h = inl (ap restore_answer (sym (h (λ e. cc e))))
 
-Reads-told : (state : State) (shown told : List ℕ) → (told ≡ shown) ⊎ (told ≡ no_memory_text) → Reads state shown told state
-Reads-told state shown told (inl e) = inl (record { text = e; same = refl })
-Reads-told state shown told (inr e) = inr (record { text = e; same = refl })
-
--- a restore of a snapshot that is named was answered
-pub Restored-answer : (state : State) (command : Command) (target : Target) (name : FileName) (outcome : Result Restored RestoreError) → command ≡ Restore target
+-- so a restore of a snapshot that is named was answered
+pub Restored-tells : (state : State) (target : Target) (name : FileName) (outcome : Result Restored RestoreError)
     → file_meant state.book.events Snapshot target ≡ Some name → Answers (Reach Memory) restored_view (restored state.book.live name.id) outcome
-    → script.AnswersTo state command (restore_reply_text (result_map_both restored_view (λ e. e) outcome)) state
-Restored-answer state command target name outcome is meant told =
-    rw is (name, meant, Reads-told state _ _ (restore_told (restored state.book.live name.id) outcome told))
-
-pub NamesNothing-snapshot : (state : State) (command : Command) (target : Target) → command ≡ Restore target → file_meant state.book.events Snapshot target ≡ None → script.NamesNothing state command
-NamesNothing-snapshot state command target e h = rw e h
-
--- what an audit told is what it has to tell, or that memory ran out
-pub Audited-answer : {E : Type 0} (state : State) (command : Command) (outcome : Result (Vec Finding Global) E) → command ≡ Audit
-    → IfOk outcome (λ findings. findings.items ≡ findings_in state.book.live)
-    → script.AnswersTo state command (audit_reply_text (result_map_both (λ findings. findings.items) (λ e. e) outcome)) state
-Audited-answer state command (Ok findings) is found = rw is (inl (record { text = ap audit_text found; same = refl }))
-Audited-answer state command (Err e) is found = rw is (inr (record { text = refl; same = refl }))
+    → Tells state (Restore target) (restore_answer (result_map_both restored_view (λ e. e) outcome))
+Restored-tells state target name outcome meant told = (name, meant, restore_told (restored state.book.live name.id) outcome told)

@@ -12,7 +12,8 @@ use Rattle.keep_script.specs.Line.{HasLineEnd, ended, lines_of}
 use Rattle.keep_script.specs.Run.{Answer, BreaksOff, Ends, IsAnswer, ReadUpTo, Refuses, StopsAt}
 use Rattle.keep_script.specs.State.{State}
 use Rattle.keep_script.specs.Step.{AnswersLast, AnswersNext, BeginsAnswer, BeginsWith}
-use Rattle.keep_script.specs.Text.{bad_line_text}
+use Rattle.keep_script.specs.Text.{bad_line_answer}
+use Rattle.keep_lines.specs.declared.mistake.Mistake.{Mistake}
 use Rattle.keep_script.specs.declared.status.Status.{Status}
 use Rattle.keep_script.specs.declared.status.Status.TheVariants as ended_as
 use Rattle.keep_script.specs.declared.status.Stop.{Stop}
@@ -165,17 +166,17 @@ Breaks known left old new newer begun now after number t so_far h appended = (
 
 -- ---- a bad line
 
-bad-next : (known left old new : Option (List ℕ)) (begun now after : State) (number : ℕ) (so_far : Progress known left old new begun now number)
-    → BeginsWith left (IsBad now) → after ≡ now → IfSome left (λ bytes. Answer begun 1 (so_far.lines ++ lines_of bytes) (so_far.text ++ bad_line_text number) (ended_as.BadLine number) after)
-bad-next known None old new begun now after number so_far h same = tt
-bad-next known (Some bytes) old new begun now after number so_far (line, more, first, bad) same =
-    rw first (so_far.goes_on (line ∷ more) (bad_line_text number) (ended_as.BadLine number) after (inl (record { bad = bad; text = refl; ended = refl; same = same })))
+bad-next : (known left old new : Option (List ℕ)) (begun now after : State) (number : ℕ) (why : Mistake) (so_far : Progress known left old new begun now number)
+    → BeginsWith left (λ line. IsBad now line why) → after ≡ now → IfSome left (λ bytes. Answer begun 1 (so_far.lines ++ lines_of bytes) (so_far.text ++ bad_line_answer number) (ended_as.BadLine number why) after)
+bad-next known None old new begun now after number why so_far h same = tt
+bad-next known (Some bytes) old new begun now after number why so_far (line, more, first, bad) same =
+    rw first (so_far.goes_on (line ∷ more) (bad_line_answer number) (ended_as.BadLine number why) after (inl (record { why = why; bad = bad; text = refl; ended = refl; same = same })))
 
-bad-known : (known left old new : Option (List ℕ)) (begun now after : State) (number : ℕ) (so_far : Progress known left old new begun now number)
-    → BeginsWith left (IsBad now) → after ≡ now → IsAnswer begun known (so_far.text ++ bad_line_text number) (ended_as.BadLine number) after
-bad-known known left old new begun now after number so_far h same =
-    known-lines known left so_far.lines (λ ls. Answer begun 1 ls (so_far.text ++ bad_line_text number) (ended_as.BadLine number) after) so_far.each so_far.read
-    (bad-next known left old new begun now after number so_far h same)
+bad-known : (known left old new : Option (List ℕ)) (begun now after : State) (number : ℕ) (why : Mistake) (so_far : Progress known left old new begun now number)
+    → BeginsWith left (λ line. IsBad now line why) → after ≡ now → IsAnswer begun known (so_far.text ++ bad_line_answer number) (ended_as.BadLine number why) after
+bad-known known left old new begun now after number why so_far h same =
+    known-lines known left so_far.lines (λ ls. Answer begun 1 ls (so_far.text ++ bad_line_answer number) (ended_as.BadLine number why) after) so_far.each so_far.read
+    (bad-next known left old new begun now after number why so_far h same)
 
 -- an answer of which a first part was written
 pub broken-part : (known : Option (List ℕ)) (begun after : State) (text part rest whole : List ℕ) (status : Status) → whole ≡ part ++ rest → IsAnswer begun known (text ++ whole) status after
@@ -190,23 +191,23 @@ broken-part (Some script) begun after text part rest whole status split h = reco
   answer = subst (λ t. Answer begun 1 (lines_of script) t status after) (ap (λ l. text ++ l) split ∙ sym (append_assoc text part rest)) h;
 }
 
-pub Ends-bad : (known left left' old new newer newest : Option (List ℕ)) (begun now after : State) (number : ℕ) (t : List ℕ) (status : Status)
-    → Progress known left old new begun now number → BeginsWith left (IsBad now) → Shows now [] t after → Appends new newer t → Refuses newer newest number status
+pub Ends-bad : (known left left' old new newer newest : Option (List ℕ)) (begun now after : State) (number : ℕ) (why : Mistake) (t : List ℕ) (status : Status)
+    → Progress known left old new begun now number → BeginsWith left (λ line. IsBad now line why) → Shows now [] t after → Appends new newer t → Refuses newer newest number why status
     → Writes old newest (λ text. Ends begun known left' text status after)
-Ends-bad known left left' old new newer newest begun now after number t ended_as.Done so_far h shown appended wrote = absurd wrote
-Ends-bad known left left' old new newer newest begun now after number t (ended_as.BadLine k) so_far h shown appended (same, wrote) =
+Ends-bad known left left' old new newer newest begun now after number why t ended_as.Done so_far h shown appended wrote = absurd wrote
+Ends-bad known left left' old new newer newest begun now after number why t (ended_as.BadLine k told) so_far h shown appended (same, cause, wrote) =
     let written = Appends-nothing old new newer so_far.text t so_far.written appended shown.text in
-    let whole = bad-known known left old new begun now after number so_far h shown.same in
-    (so_far.text ++ bad_line_text number, Appends-trans old newer newest so_far.text (bad_line_text number) written wrote, rw same whole)
-Ends-bad known left left' old new newer newest begun now after number t ended_as.ReadFailed so_far h shown appended wrote = absurd wrote
-Ends-bad known left left' old new newer newest begun now after number t ended_as.WriteFailed so_far h shown appended wrote =
+    let whole = bad-known known left old new begun now after number why so_far h shown.same in
+    (so_far.text ++ bad_line_answer number, Appends-trans old newer newest so_far.text (bad_line_answer number) written wrote, rw (same, cause) whole)
+Ends-bad known left left' old new newer newest begun now after number why t ended_as.ReadFailed so_far h shown appended wrote = absurd wrote
+Ends-bad known left left' old new newer newest begun now after number why t ended_as.WriteFailed so_far h shown appended wrote =
     let written = Appends-nothing old new newer so_far.text t so_far.written appended shown.text in
-    let whole = bad-known known left old new begun now after number so_far h shown.same in
-    (so_far.text ++ wrote.part, Appends-trans old newer newest so_far.text wrote.part written wrote.appended, broken-part known begun after so_far.text wrote.part wrote.rest (bad_line_text number) (ended_as.BadLine number) wrote.split whole)
-Ends-bad known left left' old new newer newest begun now after number t ended_as.NoMemory so_far h shown appended wrote =
+    let whole = bad-known known left old new begun now after number why so_far h shown.same in
+    (so_far.text ++ wrote.part, Appends-trans old newer newest so_far.text wrote.part written wrote.appended, broken-part known begun after so_far.text wrote.part wrote.rest (bad_line_answer number) (ended_as.BadLine number why) wrote.split whole)
+Ends-bad known left left' old new newer newest begun now after number why t ended_as.NoMemory so_far h shown appended wrote =
     let written = Appends-nothing old new newer so_far.text t so_far.written appended shown.text in
-    let whole = bad-known known left old new begun now after number so_far h shown.same in
-    (so_far.text ++ wrote.part, Appends-trans old newer newest so_far.text wrote.part written wrote.appended, broken-part known begun after so_far.text wrote.part wrote.rest (bad_line_text number) (ended_as.BadLine number) wrote.split whole)
+    let whole = bad-known known left old new begun now after number why so_far h shown.same in
+    (so_far.text ++ wrote.part, Appends-trans old newer newest so_far.text wrote.part written wrote.appended, broken-part known begun after so_far.text wrote.part wrote.rest (bad_line_answer number) (ended_as.BadLine number why) wrote.split whole)
 
 -- ---- another end
 
@@ -236,7 +237,7 @@ broken-read (Some xs) (Some ys) begun after text h = record {
 
 pub Ends-broken : (known left : Option (List ℕ)) (begun after : State) (text : List ℕ) (status : Status) → Ends begun known left text status after → IfSome known (λ script. BreaksOff begun (lines_of script) text after)
 Ends-broken known left begun after text ended_as.Done h = broken-whole known begun after text ended_as.Done h.1
-Ends-broken known left begun after text (ended_as.BadLine k) h = broken-whole known begun after text (ended_as.BadLine k) h
+Ends-broken known left begun after text (ended_as.BadLine k told) h = broken-whole known begun after text (ended_as.BadLine k told) h
 Ends-broken known left begun after text ended_as.ReadFailed h = broken-read known left begun after text h
 Ends-broken known left begun after text ended_as.WriteFailed h = h
 Ends-broken known left begun after text ended_as.NoMemory h = h
@@ -244,8 +245,8 @@ Ends-broken known left begun after text ended_as.NoMemory h = h
 -- a line's failure ends the run
 pub Ends-stop : (known left ahead left' old new newer newest : Option (List ℕ)) (begun now after : State) (number : ℕ) (stop : Stop) (status : Status) → Progress known left old new begun now number
     → Writes new newer (λ t. AnswersNext now left ahead left' t (Err stop) after) → StopsAt newer newest number stop status → Writes old newest (λ text. Ends begun known left' text status after)
-Ends-stop known left ahead left' old new newer newest begun now after number BadLine status so_far (t, appended, (bad, shown)) wrote =
-    Ends-bad known left left' old new newer newest begun now after number t status so_far bad shown appended wrote
+Ends-stop known left ahead left' old new newer newest begun now after number (BadLine why) status so_far (t, appended, (bad, shown)) wrote =
+    Ends-bad known left left' old new newer newest begun now after number why t status so_far bad shown appended wrote
 Ends-stop known left ahead left' old new newer newest begun now after number ReadFailed status so_far (t, appended, (piece, none, lost, shown)) (same, kept) =
     rw same (Ends-ReadFailed known left left' old new newest begun now after number t so_far (piece, none, lost) shown (Appends-kept new newer newest t appended kept))
 Ends-stop known left ahead left' old new newer newest begun now after number WriteFailed status so_far (t, appended, h) (same, kept) =

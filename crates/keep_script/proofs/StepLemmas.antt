@@ -5,10 +5,13 @@ use Rattle.std.specs.Io.KnownBytes.{Appends, Keeps}
 use Rattle.std.specs.List.{before_first}
 use Rattle.keep_script.proofs.AnswerLemmas.{Shows-nothing}
 use Rattle.keep_script.proofs.LineLemmas.{Starts, lines_of-first}
-use Rattle.keep_script.specs.Answer.{Answered, IsBad, NoLine}
+use Rattle.keep_lines.specs.declared.mistake.Mistake.{Mistake}
+use Rattle.keep_lines.specs.declared.mistake.Mistake.TheVariants.{TooLong}
+use Rattle.keep_script.specs.Answer.{Answered, IsBad}
 use Rattle.keep_script.specs.Input.{LosesPiece}
 use Rattle.keep_script.specs.Known.{Writes}
-use Rattle.keep_script.specs.Line.{is_line_end, longest_line}
+use Rattle.keep_lines.specs.Line.{longest_line}
+use Rattle.keep_script.specs.Line.{is_line_end}
 use Rattle.keep_script.specs.State.{State}
 use Rattle.keep_script.specs.Step.{AnswersLast, AnswersLine, AnswersNext, BeginsAnswer, BeginsWith}
 use Rattle.keep_script.specs.declared.status.Stop.{Stop}
@@ -27,18 +30,20 @@ BeginsWith-from None line P start holds = tt
 BeginsWith-from (Some bytes) line P start holds = (line, start.0, start.1, holds)
 
 -- a line that is too long isn't one of the language
-IsBad-long : (state : State) (left : Option (List ℕ)) → IfSome left (λ bytes. longest_line < length (before_first is_line_end bytes)) → BeginsWith left (IsBad state)
+IsBad-long : (state : State) (left : Option (List ℕ)) → IfSome left (λ bytes. longest_line < length (before_first is_line_end bytes)) → BeginsWith left (λ line. IsBad state line TooLong)
 IsBad-long state None long = tt
 IsBad-long state (Some []) long = absurd (omega arith)
 IsBad-long state (Some (b ∷ bytes)) long =
     let first = lines_of-first b bytes in
-    (before_first is_line_end (b ∷ bytes), first.0, first.1, NoLine (λ whole. let short = whole.0 in omega (arith, short, long)))
+    (before_first is_line_end (b ∷ bytes), first.0, first.1, inl (inl (refl, long)))
 
 -- the next line can't be read
 pub AnswersNext-unread : (a b : Option (List ℕ)) (state : State) (left ahead left' : Option (List ℕ)) (stop : Stop) (r : Result Bool Stop) → Keeps a b
-    → (stop ≡ BadLine → IfSome left (λ bytes. longest_line < length (before_first is_line_end bytes))) → (stop ≡ ReadFailed → LosesPiece left left')
+    → ((why : Mistake) → stop ≡ BadLine why → (why ≡ TooLong) × IfSome left (λ bytes. longest_line < length (before_first is_line_end bytes))) → (stop ≡ ReadFailed → LosesPiece left left')
     → r ≡ Err stop → Writes a b (λ t. AnswersNext state left ahead left' t r state)
-AnswersNext-unread a b state left ahead left' BadLine r kept long failed same = rw same ([], Appends-none a b kept, (IsBad-long state left (long refl), Shows-nothing state))
+AnswersNext-unread a b state left ahead left' (BadLine why) r kept long failed same =
+    let cause = long why refl in
+    rw (same, cause.0) ([], Appends-none a b kept, (IsBad-long state left cause.1, Shows-nothing state))
 AnswersNext-unread a b state left ahead left' ReadFailed r kept long failed same =
     let lost = failed refl in
     rw same ([], Appends-none a b kept, (lost.0, lost.1, lost.2, Shows-nothing state))
@@ -48,8 +53,8 @@ AnswersNext-unread a b state left ahead left' NoMemory r kept long failed same =
 -- the line was read, and its answer failed
 pub AnswersNext-failed : (a b c : Option (List ℕ)) (state after : State) (line : List ℕ) (left ahead left' : Option (List ℕ)) (stop : Stop) (r : Result Bool Stop) → Keeps a b → Starts left line
     → Writes b c (λ t. AnswersLine state line t (Err stop) after) → r ≡ Err stop → Writes a c (λ t. AnswersNext state left ahead left' t r after)
-AnswersNext-failed a b c state after line left ahead left' BadLine r kept start (t, h, answer) same =
-    rw same (Writes-after a b c (λ t. AnswersNext state left ahead left' t (Err BadLine) after) kept (t, h, (BeginsWith-from left line (IsBad state) start answer.0, answer.1)))
+AnswersNext-failed a b c state after line left ahead left' (BadLine why) r kept start (t, h, answer) same =
+    rw same (Writes-after a b c (λ t. AnswersNext state left ahead left' t (Err (BadLine why)) after) kept (t, h, (BeginsWith-from left line (λ l. IsBad state l why) start answer.0, answer.1)))
 AnswersNext-failed a b c state after line left ahead left' ReadFailed r kept start (t, h, answer) same = absurd answer
 AnswersNext-failed a b c state after line left ahead left' WriteFailed r kept start (t, h, answer) same =
     rw same (Writes-after a b c (λ t. AnswersNext state left ahead left' t (Err WriteFailed) after) kept (t, h, inr (BeginsWith-from left line (λ l. BeginsAnswer state l t after) start answer)))

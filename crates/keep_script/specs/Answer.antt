@@ -1,9 +1,12 @@
 -- The answer to a line, by the state that the lines before leave.
-use Rattle.std.specs.Prelude.{◌≡◌, ℕ, Bool, IsTrue, ◌↔◌, ◌⊎◌, List, [], Some, None, Result, Ok, Err}
+use Rattle.std.specs.Prelude.{◌≡◌, ℕ, Bool, IsTrue, ◌↔◌, ◌⊎◌, List, [], Option, Some, None, Result, Ok, Err}
 use Rattle.keep_repo.specs.Repository.{Repository}
 use Rattle.keep_names.specs.declared.file_name.FileName.{FileName}
 use Rattle.keep_names.specs.declared.file_name.Kind.TheVariants.{Snapshot}
 use Rattle.keep_change.specs.declared.change.Change.{Change}
+use Rattle.keep_journal.specs.History.{length_of}
+use Rattle.keep_view.specs.Shown.{Shown, shown_of}
+use Rattle.keep_book.specs.BookState.{BookState}
 use Rattle.keep_book.specs.Reply.{Replies, state_after}
 use Rattle.keep_book.specs.declared.reply.Refusal.{Refusal}
 use Rattle.keep_book.specs.Request.{Request}
@@ -12,13 +15,36 @@ use Rattle.keep_book.specs.declared.reply.Told.{Told}
 use Rattle.keep_plan.specs.declared.plan_error.PlanError.{PlanError}
 use Rattle.keep_read.specs.Findings.{findings_in}
 use Rattle.keep_read.specs.Restored.{restored}
-use Rattle.keep_script.specs.Command.{Asks, IsNoCommand}
-use Rattle.keep_script.specs.Line.{IsLine, IsPassedOver}
-use Rattle.keep_script.specs.Plan.{added_file, backed_up, commit_of, dropped_file, file_meant}
+use Rattle.keep_jobs.specs.Job.{job_change}
+use Rattle.keep_lines.specs.Command.{Asks}
+use Rattle.keep_lines.specs.Line.{IsLine, IsPassedOver}
+use Rattle.keep_lines.specs.Mistake.{IsMistake}
+use Rattle.keep_lines.specs.Reply.{sizes_of, told_text}
+use Rattle.keep_lines.specs.declared.command.Command.{Command}
+use Rattle.keep_lines.specs.declared.command.Command.TheVariants.{Job, RawFile, Revision, Question, Note}
+use Rattle.keep_lines.specs.declared.mistake.Mistake.{Mistake}
+use Rattle.keep_lines.specs.declared.mistake.Mistake.TheVariants.{NoFile, NoNote}
+use Rattle.keep_lines.specs.declared.question.Question as the_question
+use Rattle.keep_lines.specs.declared.question.Question.TheVariants.{List as ListFiles, Count, History, Same, Restore, Audit}
+use Rattle.keep_lines.specs.declared.revision.Revision as the_revision
+use Rattle.keep_lines.specs.declared.revision.Revision.TheVariants.{Undo, Redo, Empty}
+use Rattle.keep_script.specs.RawFile.{file_change, file_meant}
 use Rattle.keep_script.specs.State.{State, noted_under}
-use Rattle.keep_script.specs.Text.{audit_text, commit_text, count_text, history_text, list_text, no_memory_text, noted_text, reply_text, restore_reply_text, same_text, sizes_of, told_text, unplanned_text}
-use Rattle.keep_script.specs.declared.command.Command.{Command}
-use Rattle.keep_script.specs.declared.command.Command.TheVariants.{Add, Drop, Undo, Redo, Empty, List as ListFiles, Count, Note, Same, History, Restore, Audit, Backup}
+use Rattle.keep_script.specs.Text.{audit_answer, commit_text, count_answer, found_answer, history_answer, list_answer, no_memory_answer, note_answer, reply_answer, restore_answer, same_answer, unplanned_answer}
+
+-- what the book shows
+abbrev pub shown_by : BookState → Shown
+shown_by book = shown_of book.opening book.events book.live
+
+-- to commit the change, planned on the book as it is
+abbrev pub commit_of : BookState → Change → Request
+commit_of book change = request.Commit (record { change = change; seen = length_of book.events })
+
+-- what the book is asked about an earlier change
+abbrev pub request_of : the_revision.Revision → Request
+request_of (Undo n) = request.Undo n
+request_of (Redo n) = request.Redo n
+request_of (Empty n) = request.Empty n
 
 -- this is written, and nothing changes
 pub record Shows (state : State) (shown written : List ℕ) (after : State) : Type 0 where
@@ -30,12 +56,8 @@ pub record Asked (state : State) (request : Request) (accepted : Told → List �
     (written : List ℕ) (after : State) : Type 0 where
   pub reply : Result Told Refusal
   pub replies : Replies state.book request reply
-  pub text : written ≡ reply_text accepted reply
+  pub text : written ≡ reply_answer accepted reply
   pub left : after ≡ record state { book = state_after state.book request reply }
-
--- this is written, or that memory ran out, and nothing changes
-abbrev pub Reads : State → List ℕ → List ℕ → State → Type 0
-Reads state shown written after = Shows state shown written after ⊎ Shows state no_memory_text written after
 
 -- the change is planned on the present state, and its commit follows at once
 abbrev pub Committed : State → Change → List ℕ → State → Type 0
@@ -45,50 +67,49 @@ Committed state change text after =
 -- a planned change is committed, or its planner's refusal is written and nothing changes
 abbrev pub CommittedOrRefused : State → Result Change PlanError → List ℕ → State → Type 0
 CommittedOrRefused state (Ok change) text after = Committed state change text after
-CommittedOrRefused state (Err refusal) text after = Shows state (unplanned_text refusal) text after
+CommittedOrRefused state (Err refusal) text after = Shows state (unplanned_answer refusal) text after
 
--- the answer to a command, and the state that it leaves
-abbrev pub AnswersTo : State → Command → List ℕ → State → Type 0
-AnswersTo state (Add kind bytes) text after = Committed state (added_file kind bytes.items) text after
-AnswersTo state (Drop kind target) text after =
-    (name : FileName) × (file_meant state.book.events kind target ≡ Some name)
-    × Committed state (dropped_file state.book.live name) text after
-AnswersTo state (Undo n) text after = Asked state (request.Undo n) told_text text after
-AnswersTo state (Redo n) text after = Asked state (request.Redo n) told_text text after
-AnswersTo state (Empty n) text after = Asked state (request.Empty n) told_text text after
-AnswersTo state ListFiles text after = Shows state (list_text state.book.live) text after
-AnswersTo state Count text after = Shows state (count_text state.book.live) text after
-AnswersTo state (Note name) text after =
-    (text ≡ noted_text name.now)
-    × (after ≡ record state { notes = noted_under name.now state.book.live state.notes })
-AnswersTo state (Same name) text after =
+-- what a question is answered
+abbrev pub Tells : State → the_question.Question → List ℕ → Type 0
+Tells state ListFiles text = text ≡ list_answer state.book.live
+Tells state Count text = text ≡ count_answer state.book.live
+Tells state History text = text ≡ history_answer state.book.events
+Tells state (Same name) text =
     (noted : Repository) × (state.notes name.now ≡ Some noted)
-    × (same : Bool) × (IsTrue same ↔ (state.book.live ≡ noted))
-    × Shows state (same_text name.now same) text after
-AnswersTo state History text after = Shows state (history_text state.book.events) text after
-AnswersTo state (Restore target) text after =
+    × (same : Bool) × (IsTrue same ↔ (state.book.live ≡ noted)) × (text ≡ same_answer name.now same)
+Tells state (Restore target) text =
     (name : FileName) × (file_meant state.book.events Snapshot target ≡ Some name)
-    × Reads state (restore_reply_text (restored state.book.live name.id)) text after
-AnswersTo state Audit text after = Reads state (audit_text (findings_in state.book.live)) text after
-AnswersTo state (Backup backup) text after =
-    CommittedOrRefused state (backed_up state.book.live state.cut backup) text after
-    ⊎ Shows state no_memory_text text after
+    × ((text ≡ restore_answer (restored state.book.live name.id)) ⊎ (text ≡ no_memory_answer))
+Tells state Audit text = (text ≡ found_answer (findings_in state.book.live)) ⊎ (text ≡ no_memory_answer)
 
--- a command names what isn't there: a file by a change that added none of its kind, or no note
-abbrev pub NamesNothing : State → Command → Type 0
-NamesNothing state (Drop kind target) = file_meant state.book.events kind target ≡ None
-NamesNothing state (Same name) = state.notes name.now ≡ None
-NamesNothing state (Restore target) = file_meant state.book.events Snapshot target ≡ None
-NamesNothing state (Add kind bytes) = ⊥
-NamesNothing state (Undo n) = ⊥
-NamesNothing state (Redo n) = ⊥
-NamesNothing state (Empty n) = ⊥
-NamesNothing state ListFiles = ⊥
-NamesNothing state Count = ⊥
-NamesNothing state (Note name) = ⊥
-NamesNothing state History = ⊥
-NamesNothing state Audit = ⊥
-NamesNothing state (Backup backup) = ⊥
+-- the answer to a command, and the state that it leaves: a job is planned and committed, a file by itself committed, a revision asked of the book; a question changes nothing; a note is kept
+abbrev pub AnswersTo : State → Command → List ℕ → State → Type 0
+AnswersTo state (Job job) text after =
+    CommittedOrRefused state (job_change (shown_by state.book) state.settings job) text after
+    ⊎ Shows state no_memory_answer text after
+AnswersTo state (RawFile file) text after =
+    (change : Change) × (file_change state.book file ≡ Some change) × Committed state change text after
+AnswersTo state (Revision revision) text after = Asked state (request_of revision) told_text text after
+AnswersTo state (Question question) text after = Tells state question text × (after ≡ state)
+AnswersTo state (Note name) text after =
+    Shows (record state { notes = noted_under name.now state.book.live state.notes }) (note_answer name.now) text after
+
+-- a question names what isn't there, which is told so: no note, or no snapshot of the change
+abbrev pub FindsNothing : State → the_question.Question → Mistake → Type 0
+FindsNothing state ListFiles why = ⊥
+FindsNothing state Count why = ⊥
+FindsNothing state History why = ⊥
+FindsNothing state (Same name) why = (state.notes name.now ≡ None) × (why ≡ NoNote)
+FindsNothing state (Restore target) why = (file_meant state.book.events Snapshot target ≡ None) × (why ≡ NoFile)
+FindsNothing state Audit why = ⊥
+
+-- a command names what isn't there: so does a question, or a drop of what a change added
+abbrev pub NamesNothing : State → Command → Mistake → Type 0
+NamesNothing state (Job job) why = ⊥
+NamesNothing state (RawFile file) why = (file_change state.book file ≡ None) × (why ≡ NoFile)
+NamesNothing state (Revision revision) why = ⊥
+NamesNothing state (Question question) why = FindsNothing state question why
+NamesNothing state (Note name) why = ⊥
 
 -- the answer to a line: none where it is passed over, and else that to its command
 pub data Answered (state : State) (line text : List ℕ) (after : State) : Type 0 where
@@ -96,8 +117,7 @@ pub data Answered (state : State) (line text : List ℕ) (after : State) : Type 
   Done : IsLine line → (command : Command) → Asks line command → AnswersTo state command text after
       → Answered state line text after
 
--- a line isn't one of the language: it is too long or no text, it asks for no command, or its command names what isn't there
-pub data IsBad (state : State) (line : List ℕ) : Type 0 where
-  NoLine : (IsLine line → ⊥) → IsBad state line
-  NoCommand : (IsPassedOver line → ⊥) → IsNoCommand line → IsBad state line
-  NoName : (command : Command) → Asks line command → NamesNothing state command → IsBad state line
+-- a line isn't one of the language, for this cause: it is no command's, or its command names what isn't there
+abbrev pub IsBad : State → List ℕ → Mistake → Type 0
+IsBad state line why =
+    IsMistake line why ⊎ ((command : Command) × Asks line command × NamesNothing state command why)

@@ -14,7 +14,7 @@ pub record AppendsPart (old new : Option (List ℕ)) (text : List ℕ) : Type 0 
 -- known bytes grow by the text, and at a failure by a first part of it
 abbrev pub Puts : Option (List ℕ) → Option (List ℕ) → List ℕ → Result (Unit {0}) Stop → Type 0
 Puts old new text (Ok _) = Appends old new text
-Puts old new text (Err BadLine) = ⊥
+Puts old new text (Err (BadLine why)) = ⊥
 Puts old new text (Err ReadFailed) = ⊥
 Puts old new text (Err WriteFailed) = AppendsPart old new text
 Puts old new text (Err NoMemory) = AppendsPart old new text

@@ -1,13 +1,10 @@
 pub mod Answer
-pub mod BackupLine
-pub mod Command
 pub mod Input
 pub mod Known
 pub mod Line
-pub mod Plan
+pub mod RawFile
 pub mod Run
 pub mod State
 pub mod Status
 pub mod Step
 pub mod Text
-pub mod Word

@@ -1,10 +1,6 @@
 -- The lines of a script, as bytes.
-use Rattle.std.specs.Prelude.{◌≡◌, ℕ, ◌<◌, ◌≤◌, ◌==◌, nat_le, Bool, if◌then◌else◌, List, [], ◌∷◌, ◌++◌, length, slice_index, IsUtf8, codes}
-use Rattle.std.specs.List.{AllPass, flat_map, position_or_len}
-
--- how many bytes a line has at most, before its end
-abbrev pub longest_line : ℕ
-longest_line = 1048576
+use Rattle.std.specs.Prelude.{◌≡◌, ℕ, ◌<◌, ◌==◌, Bool, if◌then◌else◌, List, [], ◌∷◌, ◌++◌, length, codes}
+use Rattle.std.specs.List.{flat_map, position_or_len}
 
 -- how many bytes a run reads at most
 abbrev pub longest_script : ℕ
@@ -28,22 +24,10 @@ abbrev pub lines_of : List ℕ → List (List ℕ)
 lines_of [] = []
 lines_of (b ∷ bytes) = if is_line_end b then [] ∷ lines_of bytes else onto_first b (lines_of bytes)
 
+-- a text with a line end
+abbrev pub line : List ℕ → List ℕ
+line text = text ++ codes "\n"
+
 -- lines, each with its end
 abbrev pub ended : List (List ℕ) → List ℕ
-ended lines = flat_map (λ line. line ++ codes "\n") lines
-
--- whether b is no control character below the space
-abbrev pub is_printed : ℕ → Bool
-is_printed b = nat_le 32 b
-
--- UTF-8 without control characters below the space
-abbrev pub IsText : List ℕ → Type 0
-IsText line = IsUtf8 line × AllPass is_printed line
-
--- nothing, or what begins with the sign of a comment
-abbrev pub IsPassedOver : List ℕ → Type 0
-IsPassedOver text = (0 < length text) → (slice_index text 0 ≡ 35)
-
--- a text that isn't too long
-abbrev pub IsLine : List ℕ → Type 0
-IsLine line = (length line ≤ longest_line) × IsText line
+ended lines = flat_map line lines

@@ -2,11 +2,12 @@
 use Rattle.std.specs.Prelude.{◌≡◌, ℕ, ◌+◌, ◌⊎◌, List, [], ◌∷◌, ◌++◌, Option, IfSome}
 use Rattle.std.specs.Io.KnownBytes.{Appends, Consumes, IsAtEnd, Keeps}
 use Rattle.std.specs.List.{AllByRecursion}
+use Rattle.keep_lines.specs.declared.mistake.Mistake.{Mistake}
 use Rattle.keep_script.specs.Answer.{Answered, IsBad}
 use Rattle.keep_script.specs.Known.{AppendsPart}
 use Rattle.keep_script.specs.Line.{HasLineEnd, ended, lines_of}
 use Rattle.keep_script.specs.State.{State}
-use Rattle.keep_script.specs.Text.{bad_line_text}
+use Rattle.keep_script.specs.Text.{bad_line_answer}
 use Rattle.keep_script.specs.declared.status.Stop.{Stop}
 use Rattle.keep_script.specs.declared.status.Stop.TheVariants as stop
 use Rattle.keep_script.specs.declared.status.Status.{Status}
@@ -15,9 +16,10 @@ use Rattle.keep_script.specs.declared.status.Status.TheVariants.{Done, BadLine, 
 -- the run ends at a bad line of this number
 pub record Stops (state : State) (number : ℕ) (line written : List ℕ)
     (status : Status) (after : State) : Type 0 where
-  pub bad : IsBad state line
-  pub text : written ≡ bad_line_text number
-  pub ended : status ≡ BadLine number
+  pub why : Mistake
+  pub bad : IsBad state line why
+  pub text : written ≡ bad_line_answer number
+  pub ended : status ≡ BadLine number why
   pub same : after ≡ state
 
 -- the text for these lines, the first of this number, how a run over them ends, and the state that it leaves
@@ -55,7 +57,7 @@ pub record BreaksOff (state : State) (script : List (List ℕ)) (text : List ℕ
 -- what is written by a run from this state, over a reader that had the known bytes, by how it ended
 abbrev pub Ends : State → Option (List ℕ) → Option (List ℕ) → List ℕ → Status → State → Type 0
 Ends state known left text Done after = IsAtEnd left × IsAnswer state known text Done after
-Ends state known left text (BadLine number) after = IsAnswer state known text (BadLine number) after
+Ends state known left text (BadLine number why) after = IsAnswer state known text (BadLine number why) after
 Ends state known left text ReadFailed after = ReadUpTo state known left text after
 Ends state known left text WriteFailed after =
     IfSome known (λ script. BreaksOff state (lines_of script) text after)
@@ -63,16 +65,16 @@ Ends state known left text NoMemory after =
     IfSome known (λ script. BreaksOff state (lines_of script) text after)
 
 -- what is written at a bad line, and how the run ends then
-abbrev pub Refuses : Option (List ℕ) → Option (List ℕ) → ℕ → Status → Type 0
-Refuses old new number (BadLine k) = (k ≡ number) × Appends old new (bad_line_text number)
-Refuses old new number WriteFailed = AppendsPart old new (bad_line_text number)
-Refuses old new number NoMemory = AppendsPart old new (bad_line_text number)
-Refuses old new number Done = ⊥
-Refuses old new number ReadFailed = ⊥
+abbrev pub Refuses : Option (List ℕ) → Option (List ℕ) → ℕ → Mistake → Status → Type 0
+Refuses old new number why (BadLine k told) = (k ≡ number) × (told ≡ why) × Appends old new (bad_line_answer number)
+Refuses old new number why WriteFailed = AppendsPart old new (bad_line_answer number)
+Refuses old new number why NoMemory = AppendsPart old new (bad_line_answer number)
+Refuses old new number why Done = ⊥
+Refuses old new number why ReadFailed = ⊥
 
 -- how a run ends that stops at the line of this number, and what is written then
 abbrev pub StopsAt : Option (List ℕ) → Option (List ℕ) → ℕ → Stop → Status → Type 0
-StopsAt old new number stop.BadLine status = Refuses old new number status
+StopsAt old new number (stop.BadLine why) status = Refuses old new number why status
 StopsAt old new number stop.ReadFailed status = (status ≡ ReadFailed) × Keeps old new
 StopsAt old new number stop.WriteFailed status = (status ≡ WriteFailed) × Keeps old new
 StopsAt old new number stop.NoMemory status = (status ≡ NoMemory) × Keeps old new

@@ -4,11 +4,13 @@ use Rattle.std.specs.BTreeMap.{get_by_text}
 use Rattle.std.specs.Str.{bytes_eq}
 use Rattle.keep_repo.specs.Repository.{Repository, empty_repository}
 use Rattle.keep_book.specs.BookState.{BookState, new_book}
+use Rattle.keep_jobs.specs.Job.{SettingsData, settings_view}
 use Rattle.keep_script.specs.declared.notes.Notes.{Notes}
+use Rattle.keep_script.specs.declared.session.Session.{Session}
 
--- after how many bytes backups cut files, a book, and under each name the repository that was noted last
+-- what jobs go by, a book, and under each name the repository that was noted last
 pub record State : Type 0 where
-  pub cut : ℕ
+  pub settings : SettingsData
   pub book : BookState
   pub notes : List ℕ → Option Repository
 
@@ -16,9 +18,9 @@ pub record State : Type 0 where
 abbrev pub no_notes : List ℕ → Option Repository
 no_notes name = None
 
--- a book, and no notes
+-- a book, and no notes, where backups cut files after so many bytes
 abbrev pub begun_over : ℕ → BookState → State
-begun_over cut book = record { cut = cut; book = book; notes = no_notes }
+begun_over cut book = record { settings = record { cut = cut }; book = book; notes = no_notes }
 
 -- a book over a repository without files and marks, and no notes
 abbrev pub begun : ℕ → State
@@ -33,5 +35,6 @@ abbrev pub notes_of : Notes → List ℕ → Option Repository
 notes_of notes name = get_by_text notes.held name
 
 -- the state that these are
-abbrev pub state_of : ℕ → BookState → Notes → State
-state_of cut book notes = record { cut = cut; book = book; notes = notes_of notes }
+abbrev pub state_of : Session → BookState → State
+state_of session book =
+    record { settings = settings_view session.settings; book = book; notes = notes_of session.notes }

@@ -1,13 +1,20 @@
 -- How a run ends.
 use Rattle.std.specs.Prelude.{ℕ, Result, Ok, Err}
+use Rattle.keep_lines.specs.declared.command.LineError.{LineError}
+use Rattle.keep_lines.specs.declared.command.LineError.TheVariants.{Bad, Memory}
 use Rattle.keep_script.specs.declared.status.Status.{Status}
 use Rattle.keep_script.specs.declared.status.Status.TheVariants as ended
 use Rattle.keep_script.specs.declared.status.Stop.{Stop}
 use Rattle.keep_script.specs.declared.status.Stop.TheVariants.{BadLine, ReadFailed, WriteFailed, NoMemory}
 
+-- a run stops at a line that isn't parsed
+abbrev pub stop_of : LineError → Stop
+stop_of (Bad why) = BadLine why
+stop_of Memory = NoMemory
+
 -- the status of a run that stops at the line of this number, and why
 abbrev pub status_at : Stop → ℕ → Status
-status_at BadLine number = ended.BadLine number
+status_at (BadLine why) number = ended.BadLine number why
 status_at ReadFailed number = ended.ReadFailed
 status_at WriteFailed number = ended.WriteFailed
 status_at NoMemory number = ended.NoMemory

@@ -4,7 +4,7 @@ use Rattle.std.specs.Io.KnownBytes.{Consumes, IsAtEnd}
 use Rattle.keep_script.specs.Answer.{Answered, AnswersTo, IsBad, NamesNothing, Shows}
 use Rattle.keep_script.specs.Line.{HasLineEnd, lines_of}
 use Rattle.keep_script.specs.State.{State}
-use Rattle.keep_script.specs.declared.command.Command.{Command}
+use Rattle.keep_lines.specs.declared.command.Command.{Command}
 use Rattle.keep_script.specs.declared.status.Stop.{Stop}
 use Rattle.keep_script.specs.declared.status.Stop.TheVariants.{BadLine, ReadFailed, WriteFailed, NoMemory}
 
@@ -16,7 +16,7 @@ BeginsCommand state command text after =
 -- what is written for a command, and the state after it
 abbrev pub AnswersCommand : State → Command → List ℕ → Result (Unit {0}) Stop → State → Type 0
 AnswersCommand state command text (Ok _) after = AnswersTo state command text after
-AnswersCommand state command text (Err BadLine) after = NamesNothing state command × Shows state [] text after
+AnswersCommand state command text (Err (BadLine why)) after = NamesNothing state command why × Shows state [] text after
 AnswersCommand state command text (Err ReadFailed) after = ⊥
 AnswersCommand state command text (Err WriteFailed) after = BeginsCommand state command text after
 AnswersCommand state command text (Err NoMemory) after = BeginsCommand state command text after
@@ -29,7 +29,7 @@ BeginsAnswer state line text after =
 -- what is written for a line, and the state after it
 abbrev pub AnswersLine : State → List ℕ → List ℕ → Result (Unit {0}) Stop → State → Type 0
 AnswersLine state line text (Ok _) after = Answered state line text after
-AnswersLine state line text (Err BadLine) after = IsBad state line × Shows state [] text after
+AnswersLine state line text (Err (BadLine why)) after = IsBad state line why × Shows state [] text after
 AnswersLine state line text (Err ReadFailed) after = ⊥
 AnswersLine state line text (Err WriteFailed) after = BeginsAnswer state line text after
 AnswersLine state line text (Err NoMemory) after = BeginsAnswer state line text after
@@ -53,8 +53,8 @@ AnswersNext state left ahead left' text (Ok true) after =
 AnswersNext state left ahead left' text (Ok false) after =
     (line : List ℕ) × (HasLineEnd line → ⊥) × Consumes left ahead line × IsAtEnd ahead
     × AnswersLast state line text after
-AnswersNext state left ahead left' text (Err BadLine) after =
-    BeginsWith left (IsBad state) × Shows state [] text after
+AnswersNext state left ahead left' text (Err (BadLine why)) after =
+    BeginsWith left (λ line. IsBad state line why) × Shows state [] text after
 AnswersNext state left ahead left' text (Err ReadFailed) after =
     (piece : List ℕ) × (HasLineEnd piece → ⊥) × Consumes left left' piece × Shows state [] text after
 AnswersNext state left ahead left' text (Err WriteFailed) after =

@@ -1,10 +1,14 @@
 ghost use Rattle.std.specs.Prelude.{◌≡◌, ◌↔◌, ◌<◌, ◌≤◌, ◌+◌, ◌-◌, ◌++◌, ◌⊎◌, [], Err, IfErr, IfOk, IfSome, IsTrue, Ok, OnOk, length, vec_len, true, false};
 ghost use Rattle.std.specs.Io.KnownBytes.{IsAtEnd, Keeps};
 ghost use Rattle.std.specs.List.{after_first, before_first, position, position_or_len};
-ghost use Rattle.keep_script.specs.Line.{HasLineEnd, is_line_end, longest_line, longest_script};
+ghost use Rattle.keep_lines.specs.Line.{longest_line};
+ghost use Rattle.keep_lines.specs.declared.mistake.Mistake.{Mistake};
+ghost use Rattle.keep_lines.specs.declared.mistake.Mistake.TheVariants.{TooLong};
+ghost use Rattle.keep_script.specs.Line.{HasLineEnd, is_line_end, longest_script};
 
 use crate::output::flush;
 use crate::status::Stop;
+use keep_lines::Mistake;
 use std::alloc::{AllocError, Global};
 use std::io::{ErrorKind, Read, Write};
 
@@ -70,7 +74,8 @@ impl Input {
         ensures short { IfOk result (λ piece. length (bytes_of piece) ≤ longest_line) }
         ensures spent { IfOk result (λ piece. ahead_of self.new + size_of piece ≡ ahead_of self.old) }
         ensures more { IfOk result (λ piece. ends_line piece ≡ false → 0 < ahead_of self.new) }
-        ensures too_long { result ≡ Err Stop.BadLine → IfSome (left_of self.old (R.remaining reader.old))
+        ensures too_long { (why : Mistake) → result ≡ Err (Stop.BadLine why) → (why ≡ TooLong)
+            × IfSome (left_of self.old (R.remaining reader.old))
             (λ bytes. longest_line < length (before_first is_line_end bytes)) }
         ensures failed { result ≡ Err Stop.ReadFailed → LosesPiece
             (left_of self.old (R.remaining reader.old)) (R.remaining reader.new) }
@@ -107,7 +112,7 @@ impl Input {
         ensures more { result ≡ Ok false → 0 < ahead_of self.new }
         ensures failed { result ≡ Err Stop.ReadFailed →
             Keeps (left_of self.old (R.remaining reader.old)) (R.remaining reader.new) }
-        ensures never_bad { (result ≡ Err Stop.BadLine) → ⊥ }
+        ensures never_bad { (why : Mistake) → result ≡ Err (Stop.BadLine why) → ⊥ }
         ensures quiet { Keeps (W.contents writer.old) (W.contents writer.new) }
     {
         if self.is_used_up() {
@@ -125,10 +130,10 @@ impl Input {
             (line.new.items ≡ line.old.items ++ before_first is_line_end (unread_of self.old)) }
         ensures rest { OnOk result (unread_of self.new ≡ after_first is_line_end (unread_of self.old)) }
         ensures short { OnOk result (vec_len line.new ≤ longest_line) }
-        ensures too_long { result ≡ Err Stop.BadLine
+        ensures too_long { result ≡ Err (Stop.BadLine TooLong)
             → longest_line < vec_len line.old + length (before_first is_line_end (unread_of self.old)) }
         ensures same { OnOk result (self.new.bytes_left ≡ self.old.bytes_left) }
-        ensures reason { IfErr result (λ stop. (stop ≡ Stop.BadLine) ⊎ (stop ≡ Stop.NoMemory)) }
+        ensures reason { IfErr result (λ stop. (stop ≡ Stop.BadLine TooLong) ⊎ (stop ≡ Stop.NoMemory)) }
     {
         let unread = &self.chunk.as_slice()[self.used..];
         let length = line_length(unread);
@@ -151,7 +156,7 @@ impl Input {
         ensures more { result ≡ Ok false → 0 < ahead_of self.new }
         ensures failed { result ≡ Err Stop.ReadFailed →
             Keeps (R.remaining reader.old) (R.remaining reader.new) }
-        ensures never_bad { (result ≡ Err Stop.BadLine) → ⊥ }
+        ensures never_bad { (why : Mistake) → result ≡ Err (Stop.BadLine why) → ⊥ }
     {
         let mut chunk = [0; CHUNK];
         for _ in 0..MAX_READ {
@@ -209,11 +214,11 @@ fn line_end(bytes: &[u8]) -> Option<usize>
 fn gather(line: &mut Vec<u8>, piece: &[u8]) -> Result<(), Stop>
     ensures ok { OnOk result (line.new.items ≡ line.old.items ++ piece.now) }
     ensures short { OnOk result (vec_len line.new ≤ longest_line) }
-    ensures too_long { (result ≡ Err Stop.BadLine) ↔ (longest_line < vec_len line.old + length piece.now) }
-    ensures reason { IfErr result (λ stop. (stop ≡ Stop.BadLine) ⊎ (stop ≡ Stop.NoMemory)) }
+    ensures too_long { (result ≡ Err (Stop.BadLine TooLong)) ↔ (longest_line < vec_len line.old + length piece.now) }
+    ensures reason { IfErr result (λ stop. (stop ≡ Stop.BadLine TooLong) ⊎ (stop ≡ Stop.NoMemory)) }
 {
     if line.len() > MAX_LINE || piece.len() > MAX_LINE - line.len() {
-        return Err(Stop::BadLine);
+        return Err(Stop::BadLine(Mistake::TooLong));
     }
     line.extend_from_slice(piece)?;
     Ok(())

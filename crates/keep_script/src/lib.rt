@@ -1,22 +1,18 @@
-//! The script language: one command a line, answered in order, from a reader to a writer.
+//! The run of a script: its lines are read, done in order, and answered.
 #![tactic(auto)]
 
-mod answer;
-mod backup_line;
-mod command;
+mod answering;
 mod input;
-mod line;
 mod listing;
 mod notes;
 mod output;
-mod plan;
+mod raw_file;
 mod reply;
 mod script;
 mod session;
 mod status;
 #[cfg(test)]
 mod tests;
-mod word;
 
 pub use script::run;
 pub use status::Status;

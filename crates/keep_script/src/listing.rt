@@ -1,107 +1,165 @@
+ghost use Rattle.std.specs.Prelude.{◌≡◌, length};
 ghost use Rattle.std.specs.FinMap as map;
 ghost use Rattle.keep_read.specs.Restored.{restored_view};
 ghost use Rattle.keep_script.specs.Known.{Puts};
+ghost use Rattle.keep_script.specs.RawFile.{bytes_in};
 ghost use Rattle.keep_script.specs.Text as texts;
 
-use crate::answer::{
-    audit_count, count_text, entry_text, file_text, finding_line, restored_counts, restored_line,
-};
-use crate::output::put_text;
+use crate::output::put_line;
 use crate::status::Stop;
-use keep_journal::History;
+use keep_journal::{Entry, History};
+use keep_lines::{
+    Counts, EventLine, FileLine, Found, FoundCount, RestoredCounts, RestoredFile, print_hex,
+};
+use keep_names::{FileName, Kind};
 use keep_read::{Finding, Restored};
 use keep_repo::Repo;
 use std::alloc::Global;
 use std::io::Write;
 
+// Each line of these answers is made, written and let go before the next one, so an error may come after some.
+
 /// Writes the answer to `list`: each file in the order of names, and then the counts.
-///
-/// Each line is made, written and let go before the next one, so an error may come after some.
 pub(crate) fn write_list<W: Write>(alloc: Global, repo: &Repo, writer: &mut W) -> Result<(), Stop>
-    ensures { Puts (W.contents writer.old) (W.contents writer.new) (texts.list_text repo.now) result }
+    ensures { Puts (W.contents writer.old) (W.contents writer.new) (texts.list_answer repo.now) result }
 {
     let (names, _) = repo.list()?;
     for name in &names {
-        let line = file_text(alloc, repo, *name)?;
-        put_text(writer, line)?;
+        write_file(alloc, repo, *name, writer)?;
     }
     write_count(alloc, repo, writer)
 }
 
+fn write_file<W: Write>(
+    alloc: Global,
+    repo: &Repo,
+    name: FileName,
+    writer: &mut W,
+) -> Result<(), Stop>
+    ensures { Puts (W.contents writer.old) (W.contents writer.new) (texts.file_line repo.now name) result }
+{
+    let length = length_of(repo, name);
+    let marked = is_marked(repo, name);
+    let file = FileLine {
+        name,
+        length,
+        marked,
+    };
+    put_line(alloc, &file, writer)
+}
+
+/// How many bytes the file has, none where it isn't there.
+fn length_of(repo: &Repo, name: FileName) -> usize
+    ensures { result ≡ length (bytes_in repo.now name) }
+{
+    match repo.get(name) {
+        Some(bytes) => bytes.as_slice().len(),
+        None => 0,
+    }
+}
+
+/// Whether the file is a marked pack.
+fn is_marked(repo: &Repo, name: FileName) -> bool
+    ensures { result ≡ texts.is_marked repo.now name }
+{
+    match name.kind {
+        Kind::Pack => repo.is_marked(name.id),
+        _ => false,
+    }
+}
+
 /// Writes the answer to `count`.
 pub(crate) fn write_count<W: Write>(alloc: Global, repo: &Repo, writer: &mut W) -> Result<(), Stop>
-    ensures { Puts (W.contents writer.old) (W.contents writer.new) (texts.count_text repo.now) result }
+    ensures { Puts (W.contents writer.old) (W.contents writer.new) (texts.count_answer repo.now) result }
 {
-    let counts = count_text(alloc, repo)?;
-    put_text(writer, counts)
+    let counts = Counts {
+        files: repo.file_count(),
+        marks: repo.mark_count(),
+    };
+    put_line(alloc, &counts, writer)
 }
 
 /// Writes the answer to `history`: each event with its number, and the number of its change.
-///
-/// Each line is made, written and let go before the next one, so an error may come after some.
 pub(crate) fn write_history<W: Write>(
     alloc: Global,
     history: &History,
     writer: &mut W,
 ) -> Result<(), Stop>
     ensures { Puts (W.contents writer.old) (W.contents writer.new)
-        (texts.history_text history.now.journal) result }
+        (texts.history_answer history.now.journal) result }
 {
     for entry in history.entries() {
-        let line = entry_text(alloc, entry)?;
-        put_text(writer, line)?;
+        write_entry(alloc, entry, writer)?;
     }
     Ok(())
 }
 
+fn write_entry<W: Write>(alloc: Global, entry: &Entry, writer: &mut W) -> Result<(), Stop>
+    ensures { Puts (W.contents writer.old) (W.contents writer.new) (texts.entry_line entry.now) result }
+{
+    let event = EventLine {
+        at: entry.at,
+        what: entry.event.what(),
+        change: entry.event.number(),
+    };
+    put_line(alloc, &event, writer)
+}
+
 /// Writes what a restore gives: each file by path, and then the counts.
-///
-/// Each line is made, written and let go before the next one, so an error may come after some.
 pub(crate) fn write_restored<W: Write>(
     alloc: Global,
     restored: &Restored,
     writer: &mut W,
 ) -> Result<(), Stop>
     ensures { Puts (W.contents writer.old) (W.contents writer.new)
-        (texts.restored_text (restored_view restored.now)) result }
+        (texts.restored_answer (restored_view restored.now)) result }
 {
     for (path, bytes) in &restored.files {
-        let line = restored_line(alloc, path, bytes)?;
-        put_text(writer, line)?;
+        write_restored_file(alloc, path, bytes, writer)?;
     }
     write_counts(alloc, restored, writer)
+}
+
+fn write_restored_file<W: Write>(
+    alloc: Global,
+    path: &str,
+    bytes: &[u8],
+    writer: &mut W,
+) -> Result<(), Stop>
+    ensures { Puts (W.contents writer.old) (W.contents writer.new)
+        (texts.restored_line (path.now, bytes.now)) result }
+{
+    let hex = print_hex(alloc, bytes)?;
+    let file = RestoredFile {
+        path,
+        hex: hex.as_str(),
+    };
+    put_line(alloc, &file, writer)
 }
 
 fn write_counts<W: Write>(alloc: Global, restored: &Restored, writer: &mut W) -> Result<(), Stop>
     ensures { let restored = restored_view restored.now in
         Puts (W.contents writer.old) (W.contents writer.new)
-        (texts.restored_counts (map.len restored.files) restored.skipped) result }
+        (texts.restored_last (map.len restored.files) restored.skipped) result }
 {
-    let counts = restored_counts(alloc, restored.files.len(), restored.skipped)?;
-    put_text(writer, counts)
+    let counts = RestoredCounts {
+        files: restored.files.len(),
+        skipped: restored.skipped,
+    };
+    put_line(alloc, &counts, writer)
 }
 
 /// Writes what an audit finds: each finding, and then their number.
-///
-/// Each line is made, written and let go before the next one, so an error may come after some.
 pub(crate) fn write_findings<W: Write>(
     alloc: Global,
     findings: &[Finding],
     writer: &mut W,
 ) -> Result<(), Stop>
     ensures { Puts (W.contents writer.old) (W.contents writer.new)
-        (texts.audit_text findings.now) result }
+        (texts.found_answer findings.now) result }
 {
     for finding in findings {
-        let line = finding_line(alloc, finding)?;
-        put_text(writer, line)?;
+        put_line(alloc, &Found(finding), writer)?;
     }
-    write_found(alloc, findings.len(), writer)
-}
-
-fn write_found<W: Write>(alloc: Global, count: usize, writer: &mut W) -> Result<(), Stop>
-    ensures { Puts (W.contents writer.old) (W.contents writer.new) (texts.audit_count count) result }
-{
-    let text = audit_count(alloc, count)?;
-    put_text(writer, text)
+    put_line(alloc, &FoundCount(findings.len()), writer)
 }

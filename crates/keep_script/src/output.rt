@@ -1,14 +1,23 @@
-ghost use Rattle.std.specs.Prelude.{◌≡◌, IfErr, string_bytes};
+ghost use Rattle.std.specs.Prelude.{◌≡◌, IfErr, IfSome};
 ghost use Rattle.std.specs.Io.KnownBytes.{Keeps};
 ghost use Rattle.keep_script.specs.Known.{Puts};
+ghost use Rattle.keep_script.specs.Line.{line};
 
 use crate::status::Stop;
+use std::alloc::Global;
+use std::fmt::Display;
 use std::io::{ErrorKind, Write};
 
-/// Writes all of the text, and lets it go.
-pub(crate) fn put_text<W: Write>(writer: &mut W, text: String) -> Result<(), Stop>
-    ensures { Puts (W.contents writer.old) (W.contents writer.new) (string_bytes text) result }
+/// Writes what the answer prints as a line: the whole line is made before any of it is written.
+pub(crate) fn put_line<T: Display, W: Write>(
+    alloc: Global,
+    answer: &T,
+    writer: &mut W,
+) -> Result<(), Stop>
+    ensures { IfSome (T.output answer.now) (λ text.
+        Puts (W.contents writer.old) (W.contents writer.new) (line text) result) }
 {
+    let text = format!(in alloc; "{answer}\n")?;
     put(writer, text.as_str().as_bytes())
 }
 

@@ -1,20 +1,35 @@
 ghost use Rattle.std.specs.Result.{result_map_both};
+ghost use Rattle.keep_lines.specs.Reply.{told_text};
 ghost use Rattle.keep_read.specs.Restored.{restored_view};
 ghost use Rattle.keep_script.specs.Known.{Puts};
 ghost use Rattle.keep_script.specs.Text as texts;
 
-use crate::answer::{
-    Outcome, bad_line_text, commit_text, noted_text, refused_text, same_text, told_text,
-    unplanned_text, unrestored_text,
-};
 use crate::listing::{write_findings, write_restored};
-use crate::output::put_text;
+use crate::output::put_line;
 use crate::status::Stop;
 use keep_book::{Refusal, Told};
+use keep_lines::{Accepted, BadLine, Committed, Refused, Sizes};
 use keep_plan::PlanError;
 use keep_read::{Finding, RestoreError, Restored};
 use std::alloc::{AllocError, Global};
 use std::io::Write;
+
+/// What came of a commit: the book's reply, and how much the change writes.
+pub(crate) type Outcome = (Result<Told, Refusal>, Sizes);
+
+/// Writes the answer to a request to the book about an earlier change.
+pub(crate) fn write_reply<W: Write>(
+    alloc: Global,
+    reply: Result<Told, Refusal>,
+    writer: &mut W,
+) -> Result<(), Stop>
+    ensures { Puts (W.contents writer.old) (W.contents writer.new) (texts.reply_answer told_text reply) result }
+{
+    match reply {
+        Ok(told) => put_line(alloc, &Accepted(told), writer),
+        Err(refusal) => put_line(alloc, &Refused(refusal), writer),
+    }
+}
 
 /// Writes the answer to a change that was to be committed.
 pub(crate) fn write_committed<W: Write>(
@@ -23,61 +38,27 @@ pub(crate) fn write_committed<W: Write>(
     writer: &mut W,
 ) -> Result<(), Stop>
     ensures { Puts (W.contents writer.old) (W.contents writer.new)
-        (texts.reply_text (texts.commit_text outcome.1) outcome.0) result }
+        (texts.reply_answer (texts.commit_text outcome.1) outcome.0) result }
 {
     let (reply, sizes) = outcome;
-    let text = commit_text(alloc, reply, sizes)?;
-    put_text(writer, text)
+    match reply {
+        Ok(told) => put_line(alloc, &Committed { told, sizes }, writer),
+        Err(refusal) => put_line(alloc, &Refused(refusal), writer),
+    }
 }
 
-/// Writes the answer to a backup that was to be planned and committed.
-pub(crate) fn write_backup<W: Write>(
+/// Writes the answer to a job that was to be planned and committed.
+pub(crate) fn write_job<W: Write>(
     alloc: Global,
     outcome: Result<Outcome, PlanError>,
     writer: &mut W,
 ) -> Result<(), Stop>
-    ensures { Puts (W.contents writer.old) (W.contents writer.new)
-        (texts.backup_reply_text outcome) result }
+    ensures { Puts (W.contents writer.old) (W.contents writer.new) (texts.job_answer outcome) result }
 {
     match outcome {
         Ok(committed) => write_committed(alloc, committed, writer),
-        Err(refusal) => {
-            let text = unplanned_text(alloc, refusal)?;
-            put_text(writer, text)
-        }
+        Err(refusal) => put_line(alloc, &Refused(refusal), writer),
     }
-}
-
-/// Writes the answer to `undo`, `redo` and `empty`.
-pub(crate) fn write_told<W: Write>(
-    alloc: Global,
-    outcome: Result<Told, Refusal>,
-    writer: &mut W,
-) -> Result<(), Stop>
-    ensures { Puts (W.contents writer.old) (W.contents writer.new)
-        (texts.reply_text texts.told_text outcome) result }
-{
-    let text = told_text(alloc, outcome)?;
-    put_text(writer, text)
-}
-
-pub(crate) fn write_noted<W: Write>(alloc: Global, name: &str, writer: &mut W) -> Result<(), Stop>
-    ensures { Puts (W.contents writer.old) (W.contents writer.new) (texts.noted_text name.now) result }
-{
-    let text = noted_text(alloc, name)?;
-    put_text(writer, text)
-}
-
-pub(crate) fn write_same<W: Write>(
-    alloc: Global,
-    name: &str,
-    same: bool,
-    writer: &mut W,
-) -> Result<(), Stop>
-    ensures { Puts (W.contents writer.old) (W.contents writer.new) (texts.same_text name.now same) result }
-{
-    let text = same_text(alloc, name, same)?;
-    put_text(writer, text)
 }
 
 /// Writes the answer to `restore`.
@@ -87,14 +68,11 @@ pub(crate) fn write_restore<W: Write>(
     writer: &mut W,
 ) -> Result<(), Stop>
     ensures { Puts (W.contents writer.old) (W.contents writer.new)
-        (texts.restore_reply_text (result_map_both restored_view (λ refusal. refusal) outcome)) result }
+        (texts.restore_answer (result_map_both restored_view (λ refusal. refusal) outcome)) result }
 {
     match outcome {
         Ok(restored) => write_restored(alloc, &restored, writer),
-        Err(refusal) => {
-            let text = unrestored_text(alloc, refusal)?;
-            put_text(writer, text)
-        }
+        Err(refusal) => put_line(alloc, &Refused(refusal), writer),
     }
 }
 
@@ -105,14 +83,11 @@ pub(crate) fn write_audit<W: Write>(
     writer: &mut W,
 ) -> Result<(), Stop>
     ensures { Puts (W.contents writer.old) (W.contents writer.new)
-        (texts.audit_reply_text (result_map_both (λ findings. findings.items) (λ error. error) outcome)) result }
+        (texts.audit_answer (result_map_both (λ findings. findings.items) (λ error. error) outcome)) result }
 {
     match outcome {
         Ok(findings) => write_findings(alloc, &findings, writer),
-        Err(_) => {
-            let text = refused_text(alloc, Refusal::Memory)?;
-            put_text(writer, text)
-        }
+        Err(_) => put_line(alloc, &Refused(Refusal::Memory), writer),
     }
 }
 
@@ -122,8 +97,7 @@ pub(crate) fn write_bad_line<W: Write>(
     number: u64,
     writer: &mut W,
 ) -> Result<(), Stop>
-    ensures { Puts (W.contents writer.old) (W.contents writer.new) (texts.bad_line_text number) result }
+    ensures { Puts (W.contents writer.old) (W.contents writer.new) (texts.bad_line_answer number) result }
 {
-    let text = bad_line_text(alloc, number)?;
-    put_text(writer, text)
+    put_line(alloc, &BadLine(number), writer)
 }

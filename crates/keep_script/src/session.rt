@@ -1,156 +1,120 @@
-ghost use Rattle.std.specs.Prelude.{◌≡◌, ◌≢◌, ◌≤◌, ◌<◌, Err, IfErr, IfOk, Ok, length};
-ghost use Rattle.keep_plan.specs.declared.plan_error.PlanError.TheVariants as plan_error;
-ghost use Rattle.keep_book.specs.Reply.{Replies, state_after};
-ghost use Rattle.keep_book.specs.Request as request;
-ghost use Rattle.keep_change.specs.declared.change.Change.{Change};
+ghost use Rattle.std.specs.Prelude.{◌≡◌, ◌≤◌, ◌<◌, IfOk, IfSome, Ok, OnOk, [], length, true, false};
+ghost use Rattle.keep_jobs.specs.Job.{settings_view};
+ghost use Rattle.keep_script.specs.Input.{Counted, ahead_of, left_of, unread_of};
 ghost use Rattle.keep_script.specs.Known.{Writes};
-ghost use Rattle.keep_script.specs.Line.{longest_line};
-ghost use Rattle.keep_script.specs.Plan.{backed_up, commit_of, file_meant};
-ghost use Rattle.keep_script.specs.State.{state_of};
-ghost use Rattle.keep_script.specs.Step.{AnswersCommand, AnswersLine};
-ghost use Rattle.keep_script.specs.Text.{sizes_of};
+ghost use Rattle.keep_script.specs.Line.{longest_script};
+ghost use Rattle.keep_script.specs.Run.{Ends, Refuses, StopsAt};
+ghost use Rattle.keep_script.specs.State.{no_notes, notes_of, state_of};
+ghost use Rattle.keep_script.specs.Step.{AnswersNext};
 
-use crate::answer::{Outcome, Sizes};
-use crate::backup_line::Backup;
-use crate::command::{Command, parse};
-use crate::listing::{write_count, write_history, write_list};
+use crate::input::{Input, Piece};
 use crate::notes::Notes;
-use crate::plan::{added_by, plan_add, plan_backup, plan_drop};
-use crate::reply::{
-    write_audit, write_backup, write_committed, write_noted, write_restore, write_same, write_told,
-};
-use crate::status::Stop;
-use crate::word::Target;
+use crate::reply::write_bad_line;
+use crate::status::{Status, Stop};
 use keep_book::Book;
-use keep_change::{Change, Planned};
-use keep_journal::History;
-use keep_names::{FileName, Kind};
-use keep_plan::PlanError;
-use keep_read::{audit, restore};
-use std::alloc::Global;
-use std::io::Write;
+use keep_jobs::Settings;
+use keep_lines::Mistake;
+use std::alloc::{AllocError, Global};
+use std::io::{Read, Write};
 
-/// Does what the line asks for, and writes the answer: whole lines, none for a line that is
-/// passed over. A failure may come after some of the lines.
-pub(crate) fn answer_line<W: Write>(
-    alloc: Global,
-    cut: u32,
-    line: &[u8],
-    book: &mut Book,
-    notes: &mut Notes,
-    writer: &mut W,
-) -> Result<(), Stop>
-    requires line { length line.now ≤ longest_line }
-    requires some { 0 < cut }
-    requires most { cut ≤ 8_388_608 }
-    ensures { Writes (W.contents writer.old) (W.contents writer.new) (λ text.
-        AnswersLine (state_of cut book.old notes.old) line.now text result (state_of cut book.new notes.new)) }
-{
-    match parse(alloc, line)? {
-        Some(command) => answer(alloc, cut, command, book, notes, writer),
-        None => Ok(()),
+/// What a run works with beside its book.
+#[derive(Debug, Drop)]
+pub(crate) struct Session {
+    pub alloc: Global,
+    pub settings: Settings,
+    pub input: Input,
+    pub notes: Notes,
+}
+
+impl Session {
+    /// A session that has read nothing and has no notes.
+    pub fn new(alloc: Global, settings: Settings) -> Result<Session, AllocError>
+        ensures settings { IfOk result (λ session. settings_view session.settings ≡ settings_view settings) }
+        ensures notes { IfOk result (λ session. notes_of session.notes ≡ no_notes) }
+        ensures unread { IfOk result (λ session. unread_of session.input ≡ []) }
+        ensures ahead { IfOk result (λ session. ahead_of session.input ≡ longest_script) }
+    {
+        let input = Input::new(alloc)?;
+        let notes = Notes::new(alloc);
+        Ok(Session {
+            alloc,
+            settings,
+            input,
+            notes,
+        })
+    }
+
+    /// Answers all lines over this book, which is left as the last line left it.
+    pub fn answer_all<R: Read, W: Write>(
+        &mut self,
+        book: &mut Book,
+        reader: &mut R,
+        writer: &mut W,
+    ) -> Status
+        requires ahead { ahead_of self.old.input ≤ longest_script }
+        ensures answers { Writes (W.contents writer.old) (W.contents writer.new) (λ text.
+            Ends (state_of self.old book.old) (left_of self.old.input (R.remaining reader.old))
+            (R.remaining reader.new) text result (state_of self.new book.new)) }
+        ensures limit { result ≡ Status.Done →
+            IfSome (left_of self.old.input (R.remaining reader.old)) (λ script. length script < longest_script) }
+    {
+        for number in 1..u64::MAX {
+            match self.answer_next(book, reader, writer) {
+                Ok(true) => {}
+                Ok(false) => return Status::Done,
+                Err(stop) => return stop_at(self.alloc, number, stop, writer),
+            }
+        }
+        unreachable!()
+    }
+
+    /// Answers the next line, and says whether it had an end.
+    fn answer_next<R: Read, W: Write>(
+        &mut self,
+        book: &mut Book,
+        reader: &mut R,
+        writer: &mut W,
+    ) -> Result<bool, Stop>
+        ensures answers { Writes (W.contents writer.old) (W.contents writer.new) (λ text.
+            AnswersNext (state_of self.old book.old) (left_of self.old.input (R.remaining reader.old))
+            (left_of self.new.input (R.remaining reader.new)) (R.remaining reader.new) text result
+            (state_of self.new book.new)) }
+        ensures spent { result ≡ Ok true → ahead_of self.new.input < ahead_of self.old.input }
+        ensures counted { OnOk result (Counted
+            (left_of self.old.input (R.remaining reader.old)) (ahead_of self.old.input)
+            (left_of self.new.input (R.remaining reader.new)) (ahead_of self.new.input)) }
+        ensures more { result ≡ Ok false → 0 < ahead_of self.new.input }
+    {
+        match self.input.next_line(reader, writer)? {
+            Piece::Line(line) => {
+                self.answer_line(line.as_slice(), book, writer)?;
+                Ok(true)
+            }
+            Piece::Last(line) if line.is_empty() => Ok(false),
+            Piece::Last(line) => {
+                self.answer_line(line.as_slice(), book, writer)?;
+                Ok(false)
+            }
+        }
     }
 }
 
-fn answer<W: Write>(
-    alloc: Global,
-    cut: u32,
-    command: Command<'_>,
-    book: &mut Book,
-    notes: &mut Notes,
-    writer: &mut W,
-) -> Result<(), Stop>
-    requires some { 0 < cut }
-    requires most { cut ≤ 8_388_608 }
-    ensures { Writes (W.contents writer.old) (W.contents writer.new) (λ text.
-        AnswersCommand (state_of cut book.old notes.old) command.entry text result
-        (state_of cut book.new notes.new)) }
+/// How the run ends that stops at the line of this number. Of a bad line it says so.
+fn stop_at<W: Write>(alloc: Global, number: u64, stop: Stop, writer: &mut W) -> Status
+    ensures { StopsAt (W.contents writer.old) (W.contents writer.new) number stop result }
 {
-    match command {
-        Command::Add { kind, bytes } => {
-            let change = plan_add(alloc, kind, bytes)?;
-            write_committed(alloc, commit_now(book, change), writer)
-        }
-        Command::Drop { kind, target } => {
-            let name = find(book.history(), kind, target).ok_or(Stop::BadLine)?;
-            let change = plan_drop(alloc, book.live(), name)?;
-            write_committed(alloc, commit_now(book, change), writer)
-        }
-        Command::Undo(n) => write_told(alloc, book.undo(n), writer),
-        Command::Redo(n) => write_told(alloc, book.redo(n), writer),
-        Command::Empty(n) => write_told(alloc, book.empty(n), writer),
-        Command::List => write_list(alloc, book.live(), writer),
-        Command::Count => write_count(alloc, book.live(), writer),
-        Command::Note(name) => {
-            let copy = book.repo()?;
-            notes.insert(name, copy)?;
-            write_noted(alloc, name, writer)
-        }
-        Command::Same(name) => {
-            let noted = notes.get(name).ok_or(Stop::BadLine)?;
-            let same = book.live().same_as(noted);
-            write_same(alloc, name, same, writer)
-        }
-        Command::History => write_history(alloc, book.history(), writer),
-        Command::Restore(target) => {
-            let name = find(book.history(), Kind::Snapshot, target).ok_or(Stop::BadLine)?;
-            let outcome = restore(alloc, &book.view(), name.id);
-            write_restore(alloc, outcome, writer)
-        }
-        Command::Audit => write_audit(alloc, audit(alloc, &book.view()), writer),
-        Command::Backup(backup) => {
-            write_backup(alloc, back_up(alloc, &backup, cut, book), writer)
-        }
+    match stop {
+        Stop::BadLine(why) => refuse(alloc, number, why, writer),
+        stop => stop.status(number),
     }
 }
 
-/// Plans the backup on the present state, and commits it at once.
-fn back_up(
-    alloc: Global,
-    backup: &Backup<'_>,
-    cut: u32,
-    book: &mut Book,
-) -> Result<Outcome, PlanError>
-    requires some { 0 < cut }
-    requires most { cut ≤ 8_388_608 }
-    ensures made { IfOk result (λ made. (change : Change)
-        × (backed_up book.old.live cut backup.now ≡ Ok change)
-        × Replies book.old (commit_of book.old change) made.0
-        × (book.new ≡ state_after book.old (commit_of book.old change) made.0)
-        × (made.1 ≡ sizes_of change)) }
-    ensures refused { IfErr result (λ refusal.
-        refusal ≢ plan_error.Memory → backed_up book.old.live cut backup.now ≡ Err refusal) }
-    ensures same { IfErr result (λ refusal. book.new ≡ book.old) }
+/// Says that the line of this number is bad, which ends the run.
+fn refuse<W: Write>(alloc: Global, number: u64, why: Mistake, writer: &mut W) -> Status
+    ensures { Refuses (W.contents writer.old) (W.contents writer.new) number why result }
 {
-    let planned = plan_backup(alloc, book, backup, cut)?;
-    Ok(commit(book, planned))
-}
-
-/// Commits a change that is planned on the present state, and says how much it writes.
-fn commit_now(book: &mut Book, change: Change) -> Outcome
-    ensures replies { Replies book.old (commit_of book.old change) result.0 }
-    ensures after { book.new ≡ state_after book.old (commit_of book.old change) result.0 }
-    ensures sizes { result.1 ≡ sizes_of change }
-{
-    let seen = book.history().length();
-    commit(book, Planned { change, seen })
-}
-
-/// Commits a planned change, and says how much it writes.
-fn commit(book: &mut Book, planned: Planned) -> Outcome
-    ensures replies { Replies book.old (request.Commit planned) result.0 }
-    ensures after { book.new ≡ state_after book.old (request.Commit planned) result.0 }
-    ensures sizes { result.1 ≡ sizes_of planned.change }
-{
-    let sizes = Sizes::of(&planned.change);
-    (book.commit(planned), sizes)
-}
-
-fn find(history: &History, kind: Kind, target: Target) -> Option<FileName>
-    ensures { result ≡ file_meant history.now.journal kind target }
-{
-    match target {
-        Target::Named(id) => Some(FileName { kind, id }),
-        Target::AddedBy(n) => added_by(history, n, kind),
+    match write_bad_line(alloc, number, writer) {
+        Ok(()) => Status::BadLine(number, why),
+        Err(stop) => stop.status(number),
     }
 }

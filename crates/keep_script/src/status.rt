@@ -2,16 +2,16 @@ ghost use Rattle.std.specs.Prelude.{◌≡◌};
 ghost use Rattle.keep_script.specs.Status.{status_at, status_once_flushed};
 ghost use Rattle.keep_script.specs.declared.status.Stop.TheVariants.{NoMemory};
 
+use keep_lines::{LineError, Mistake};
 use std::alloc::{AllocError, AllocFailed};
-use thiserror::Error;
 
 /// How a run ended.
 #[derive(Clone, Copy, Debug, PartialEq, Eq)]
 pub enum Status {
     /// The script ended, and each line was answered.
     Done,
-    /// The line of this number, from 1, isn't one of the language.
-    BadLine(u64),
+    /// The line of this number, from 1, isn't one of the language, for this cause.
+    BadLine(u64, Mistake),
     /// A read failed, or the script is longer than a run reads.
     ReadFailed,
     /// A write failed, so what is written may break off anywhere.
@@ -34,15 +34,11 @@ impl Status {
 }
 
 /// Why a run ends before its script does.
-#[derive(Clone, Copy, Debug, PartialEq, Eq, Error)]
+#[derive(Clone, Copy, Debug, PartialEq, Eq)]
 pub(crate) enum Stop {
-    #[error("not a line of the language")]
-    BadLine,
-    #[error("the script can't be read on")]
+    BadLine(Mistake),
     ReadFailed,
-    #[error("the answer can't be written")]
     WriteFailed,
-    #[error("no memory")]
     NoMemory,
 }
 
@@ -52,10 +48,23 @@ impl Stop {
         ensures { result ≡ status_at self number }
     {
         match self {
-            Stop::BadLine => Status::BadLine(number),
+            Stop::BadLine(why) => Status::BadLine(number, why),
             Stop::ReadFailed => Status::ReadFailed,
             Stop::WriteFailed => Status::WriteFailed,
             Stop::NoMemory => Status::NoMemory,
+        }
+    }
+}
+
+impl From<LineError> for Stop {
+    ghost use Rattle.keep_script.specs.Status.{stop_of};
+
+    ghost from_gives = { λ error stop. stop ≡ stop_of error };
+
+    fn from(error: LineError) -> Stop {
+        match error {
+            LineError::Bad(why) => Stop::BadLine(why),
+            LineError::Memory => Stop::NoMemory,
         }
     }
 }

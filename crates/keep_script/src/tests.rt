@@ -2,13 +2,10 @@ mod backups;
 mod ends;
 mod rows;
 
-use crate::answer::told_text;
 use crate::{Status, run};
 use backups::{BACKUPS, CUT_AFTER_4};
 use ends::{ByLine, Endless, Flushed, LineByLine, Narrow, Slow};
-use keep_book::Refusal;
-use keep_names::{FileName, Id, Kind};
-use keep_repo::Facet;
+use keep_lines::Mistake;
 use rows::{BAD_LINES, EXAMPLES, LISTED, LISTING, ROWS, Row};
 use std::alloc::{AllocError, Global};
 use std::io::Read;
@@ -79,26 +76,31 @@ fn script_with(alloc: Global, line: &[u8]) -> Result<Vec<u8>, AllocError> {
 #[test]
 fn bad_lines_end_the_run(rt: HostRuntime) -> Result<(), Fail> {
     let alloc = rt.alloc();
-    let answers = "ok 1 at 1 +1 -0 *0 ~0\nbad line 2\n";
-    for line in BAD_LINES {
-        let script = script_with(alloc, line.as_bytes())?;
-        expect(
-            &rt,
-            alloc,
-            &mut script.as_slice(),
-            answers,
-            Status::BadLine(2),
-        );
-    }
-    for line in [b"# \xff".as_slice(), b"\x7f\x1f"] {
+    let answers = b"ok 1 at 1 +1 -0 *0 ~0\nbad line 2\n".as_slice();
+    let lines = BAD_LINES.iter().map(|line| line.as_bytes());
+    for line in lines.chain([b"# \xff".as_slice(), b"\x7f\x1f"]) {
         let script = script_with(alloc, line)?;
-        expect(
-            &rt,
-            alloc,
-            &mut script.as_slice(),
-            answers,
-            Status::BadLine(2),
-        );
+        let mut written = Vec::new(alloc);
+        let ended = run(alloc, &mut script.as_slice(), &mut written, CUT);
+        assert!(rt; matches!(ended, Status::BadLine(2, _)));
+        assert!(rt; written.as_slice() == answers);
+    }
+    Ok(())
+}
+
+#[test]
+fn what_isnt_there_is_told(rt: HostRuntime) -> Result<(), Fail> {
+    let alloc = rt.alloc();
+    let answers = "ok 1 at 1 +1 -0 *0 ~0\nbad line 2\n";
+    for (line, why) in [
+        ("drop index @2", Mistake::NoFile),
+        ("drop snapshot @1", Mistake::NoFile),
+        ("restore @1", Mistake::NoFile),
+        ("same n", Mistake::NoNote),
+    ] {
+        let script = script_with(alloc, line.as_bytes())?;
+        let status = Status::BadLine(2, why);
+        expect(&rt, alloc, &mut script.as_slice(), answers, status);
     }
     Ok(())
 }
@@ -118,9 +120,24 @@ fn limits_are_kept(rt: HostRuntime) -> Result<(), Fail> {
         alloc,
         &mut longer.as_slice(),
         refused,
-        Status::BadLine(2),
+        Status::BadLine(2, Mistake::TooLong),
     );
     expect(&rt, alloc, &mut Endless, "", Status::ReadFailed);
+    Ok(())
+}
+
+#[test]
+fn single_bytes_are_read_on(rt: HostRuntime) -> Result<(), Fail> {
+    let alloc = rt.alloc();
+    let comment = vec![in alloc; b'#'; 120_000]?;
+    let script = script_with(alloc, comment.as_slice())?;
+    let mut slow = Slow {
+        bytes: script.as_slice(),
+        interrupted: false,
+        fails: false,
+    };
+    let answers = "ok 1 at 1 +1 -0 *0 ~0\nfiles 1 marks 0\n";
+    expect(&rt, alloc, &mut slow, answers, Status::Done);
     Ok(())
 }
 
@@ -215,40 +232,4 @@ fn each_answer_is_handed_on_before_the_next_read(rt: HostRuntime) {
         assert_eq!(rt; ended, status, "at {flushes}");
         assert!(rt; writer.lengths.as_slice() == lengths, "at {flushes}");
     }
-}
-
-#[test]
-fn refusals_are_told_by_their_words(rt: HostRuntime) -> Result<(), Fail> {
-    let mark = Facet::Mark(Id([0x61; 32]));
-    let name = FileName {
-        kind: Kind::Index,
-        id: Id([0x0a; 32]),
-    };
-    for (refusal, answer) in [
-        (Refusal::Malformed, "no Malformed\n"),
-        (Refusal::Unknown, "no Unknown\n"),
-        (Refusal::Final, "no Final\n"),
-        (Refusal::NotInForce, "no NotInForce\n"),
-        (Refusal::InForce, "no InForce\n"),
-        (Refusal::Full, "no Full\n"),
-        (Refusal::Stale(5), "no Stale 5\n"),
-        (
-            Refusal::Unmet(Facet::File(name)),
-            "no Unmet index 0a0a0a0a0a0a0a0a0a0a0a0a0a0a0a0a0a0a0a0a0a0a0a0a0a0a0a0a0a0a0a0a\n",
-        ),
-        (
-            Refusal::Unmet(mark),
-            "no Unmet mark 6161616161616161616161616161616161616161616161616161616161616161\n",
-        ),
-        (Refusal::LeanedOn(2), "no LeanedOn 2\n"),
-        (
-            Refusal::Blocked(18_446_744_073_709_551_615),
-            "no Blocked 18446744073709551615\n",
-        ),
-        (Refusal::Memory, "no Memory\n"),
-    ] {
-        let text = told_text(rt.alloc(), Err(refusal))?;
-        assert_eq!(rt; text.as_str(), answer);
-    }
-    Ok(())
 }

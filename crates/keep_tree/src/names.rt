@@ -11,11 +11,7 @@ use std::collections::BTreeSet;
 pub fn is_name(name: &str) -> bool
     ensures { result ≡ spec.is_name name.now }
 {
-    let is_empty = name == "";
-    let is_itself = name == ".";
-    let is_parent = name == "..";
-    let has_never = has_never_in_names(name);
-    !(is_empty | is_itself | is_parent | has_never)
+    !matches!(name, "" | "." | "..") && !has_never_in_names(name)
 }
 
 // Whether the text has NUL or `/`.

@@ -2,7 +2,7 @@ use super::{only, planned};
 use crate::{Book, Refusal, Told};
 use keep_change::{Change, Planned, StoredFile};
 use keep_names::{FileName, Kind, id_of};
-use keep_repo::Repo;
+use keep_repo::{Facet, Repo};
 use std::alloc::{AllocError, Global};
 use std::test::Fail;
 
@@ -16,11 +16,22 @@ struct Step {
     there: bool,
 }
 
-/// All changes, each with whether it is in force, and how many of them are final.
+/// All changes, each with whether it is in force, how many of them are final, and the number of the
+/// last event.
 #[derive(Drop)]
 struct Model {
     steps: Vec<(Step, bool)>,
     last_final: usize,
+    last_event: u64,
+}
+
+type Reply = Result<Told, Refusal>;
+
+/// The first change that can't be made, and the least facet that isn't as it asks.
+#[derive(Clone, Copy, Debug)]
+struct Break {
+    number: u64,
+    unmet: Facet,
 }
 
 /// The files in the order of their names, each with its one byte.
@@ -37,94 +48,112 @@ fn has(files: &Files, letter: u8) -> bool {
     files.iter().any(|file| file.1 == letter)
 }
 
-/// Makes the step of the files, or says that it can't be made.
-fn make(files: &mut Files, step: Step) -> Result<bool, AllocError> {
-    if has(files, step.other) != step.there || has(files, step.letter) == step.puts {
-        return Ok(false);
+/// The least facet that isn't as the step asks.
+fn least_unmet(files: &Files, step: Step) -> Option<Facet> {
+    let written = Facet::File(name_of(step.letter));
+    let read = Facet::File(name_of(step.other));
+    let is_written = has(files, step.letter) == step.puts;
+    let is_otherwise = has(files, step.other) != step.there;
+    match (is_written, is_otherwise) {
+        (true, true) => Some(written.min(read)),
+        (true, false) => Some(written),
+        (false, true) => Some(read),
+        (false, false) => None,
     }
+}
+
+/// Makes the step of the files, for which they are as it asks.
+fn make(files: &mut Files, step: Step) -> Result<(), AllocError> {
     if step.puts {
         files.push((name_of(step.letter), step.letter))?;
         files.sort()?;
     } else {
         files.retain(|file| file.1 != step.letter);
     }
-    Ok(true)
+    Ok(())
 }
 
 impl Model {
-    /// What the steps in force make, or the number of the first that can't be made.
-    fn fold(&self, alloc: Global) -> Result<Result<Files, u64>, AllocError> {
+    /// What the steps in force make, or where that breaks.
+    fn fold(&self, alloc: Global) -> Result<Result<Files, Break>, AllocError> {
         let mut files = Vec::new(alloc);
         for (place, (step, in_force)) in self.steps.iter().enumerate() {
-            if *in_force && !make(&mut files, *step)? {
-                return Ok(Err(place as u64 + 1));
+            if !*in_force {
+                continue;
             }
+            if let Some(unmet) = least_unmet(&files, *step) {
+                let number = place as u64 + 1;
+                return Ok(Err(Break { number, unmet }));
+            }
+            make(&mut files, *step)?;
         }
         Ok(Ok(files))
     }
 
-    fn commit(&mut self, alloc: Global, step: Step) -> Result<(&'static str, u64), AllocError> {
-        self.steps.push((step, true))?;
-        if self.fold(alloc)?.is_err() {
-            self.steps.pop();
-            return Ok(("unmet", 0));
+    /// Tells of one more event, of this change.
+    fn tell(&mut self, n: usize) -> Reply {
+        self.last_event = self.last_event.saturating_add(1);
+        Ok(Told {
+            number: n as u64,
+            at: self.last_event,
+        })
+    }
+
+    /// Where step n stands, if it is there and isn't final.
+    fn place_of(&self, n: usize) -> Result<usize, Refusal> {
+        if n == 0 || self.steps.len() < n {
+            return Err(Refusal::Unknown);
         }
-        Ok(("ok", self.steps.len() as u64))
+        if n <= self.last_final {
+            return Err(Refusal::Final);
+        }
+        Ok(n - 1)
+    }
+
+    fn commit(&mut self, alloc: Global, step: Step) -> Result<Reply, AllocError> {
+        self.steps.push((step, true))?;
+        if let Err(first) = self.fold(alloc)? {
+            self.steps.pop();
+            return Ok(Err(Refusal::Unmet(first.unmet)));
+        }
+        let n = self.steps.len();
+        Ok(self.tell(n))
     }
 
     /// Turns whether step n is in force, where that can be.
-    fn turn(
-        &mut self,
-        alloc: Global,
-        n: usize,
-        in_force: bool,
-    ) -> Result<(&'static str, u64), AllocError> {
-        if n == 0 || self.steps.len() < n {
-            return Ok(("unknown", 0));
-        }
-        if n <= self.last_final {
-            return Ok(("final", 0));
-        }
-        let Some(step) = self.steps.get_mut(n - 1) else {
-            return Ok(("unknown", 0));
+    fn turn(&mut self, alloc: Global, n: usize, in_force: bool) -> Result<Reply, AllocError> {
+        let place = match self.place_of(n) {
+            Ok(place) => place,
+            Err(refusal) => return Ok(Err(refusal)),
+        };
+        let Some(step) = self.steps.get_mut(place) else {
+            return Ok(Err(Refusal::Unknown));
         };
         if step.1 == in_force {
-            return Ok(("as it is", 0));
+            return Ok(Err(if in_force {
+                Refusal::InForce
+            } else {
+                Refusal::NotInForce
+            }));
         }
         step.1 = in_force;
-        match self.fold(alloc)? {
-            Ok(_) => Ok(("ok", n as u64)),
-            Err(first) => {
-                if let Some(step) = self.steps.get_mut(n - 1) {
-                    step.1 = !in_force;
-                }
-                Ok((if in_force { "blocked" } else { "leaned on" }, first))
-            }
+        let Err(first) = self.fold(alloc)? else {
+            return Ok(self.tell(n));
+        };
+        if let Some(step) = self.steps.get_mut(place) {
+            step.1 = !in_force;
         }
+        Ok(Err(if in_force {
+            Refusal::Blocked(first.number)
+        } else {
+            Refusal::LeanedOn(first.number)
+        }))
     }
 
-    fn empty(&mut self, n: usize) -> (&'static str, u64) {
-        if n == 0 || self.steps.len() < n {
-            return ("unknown", 0);
-        }
-        if n <= self.last_final {
-            return ("final", 0);
-        }
+    fn empty(&mut self, n: usize) -> Reply {
+        self.place_of(n)?;
         self.last_final = n;
-        ("ok", n as u64)
-    }
-}
-
-fn shown(reply: Result<Told, Refusal>) -> (&'static str, u64) {
-    match reply {
-        Ok(told) => ("ok", told.number),
-        Err(Refusal::Unmet(_)) => ("unmet", 0),
-        Err(Refusal::Unknown) => ("unknown", 0),
-        Err(Refusal::Final) => ("final", 0),
-        Err(Refusal::InForce) | Err(Refusal::NotInForce) => ("as it is", 0),
-        Err(Refusal::LeanedOn(first)) => ("leaned on", first),
-        Err(Refusal::Blocked(first)) => ("blocked", first),
-        Err(_) => ("another", 0),
+        self.tell(n)
     }
 }
 
@@ -174,20 +203,20 @@ fn ask(
     book: &mut Book,
     model: &mut Model,
     draw: u64,
-) -> Result<((&'static str, u64), (&'static str, u64)), AllocError> {
+) -> Result<(Reply, Reply), AllocError> {
     let above = model.steps.len() as u64 + 1;
     let n = above.saturating_sub(draw / 16 % 9);
     Ok(match draw % 16 {
         0..=6 => {
             let step = step_of(draw / 16);
             let reply = book.commit(change_of(alloc, step)?);
-            (shown(reply), model.commit(alloc, step)?)
+            (reply, model.commit(alloc, step)?)
         }
-        7..=10 => (shown(book.undo(n)), model.turn(alloc, n as usize, false)?),
-        11..=14 => (shown(book.redo(n)), model.turn(alloc, n as usize, true)?),
+        7..=10 => (book.undo(n), model.turn(alloc, n as usize, false)?),
+        11..=14 => (book.redo(n), model.turn(alloc, n as usize, true)?),
         _ => {
             let n = n.saturating_sub(12);
-            (shown(book.empty(n)), model.empty(n as usize))
+            (book.empty(n), model.empty(n as usize))
         }
     })
 }
@@ -201,6 +230,7 @@ fn replies_and_files_are_those_of_the_fold(rt: HostRuntime) -> Result<(), Fail> 
     let mut model = Model {
         steps,
         last_final: 0,
+        last_event: 0,
     };
     let mut seed = 2026u64;
     for _ in 0..300 {

@@ -33,7 +33,7 @@ walk_folder-walk_node-requires t c =
     let rest = from_index c.loop-start.start c.args.files.now in
     let order = (order_parts c.args.depth n rest (rest_order c.args.depth c.loop-start.start c.args.files.now c.requires.in_order)).0 in
     let names = (names_parts (most_levels - c.args.depth) c.args.depth n rest (rest_names (most_levels - c.args.depth) c.args.depth c.loop-start.start c.args.files.now c.requires.names)).0 in
-    (search rules, (c.requires.cut, (order, (names, (some_files n rest c.count_at-count.ensures.some c.count_at-count.ensures.within, c.count_at-count.ensures.one_name)))))
+    (search rules, (order, (names, (some_files n rest c.count_at-count.ensures.some c.count_at-count.ensures.within, c.count_at-count.ensures.one_name))))
 
 pub walk_folder-returns-in_err-node-clause-refused : goal.walk_folder-returns-in_err-node-clause-refused
 walk_folder-returns-in_err-node-clause-refused t c =
@@ -41,14 +41,14 @@ walk_folder-returns-in_err-node-clause-refused t c =
     let files = c.args.files.now in
     let levels = most_levels - c.args.depth in
     let n = c.count_at-count.result in
-    let step = turn c.args.cut levels c.args.depth c.loop-start.start n files c.count_at-count.ensures.some c.count_at-count.ensures.within c.requires.in_order c.requires.names c.count_at-count.ensures.one_name c.count_at-count.ensures.other_name in
-    let all = blobs_below c.args.cut (below c.args.depth 0 files) in
-    let group = blobs_below c.args.cut (folder_at levels (seen c.args.depth (take n (from_index c.loop-start.start files)))) in
-    let later = blobs_below c.args.cut (below c.args.depth (c.loop-start.start + n) files) in
-    let left = blobs_below c.args.cut (below c.args.depth c.loop-start.start files) in
+    let step = turn c.args.cut.bytes levels c.args.depth c.loop-start.start n files c.count_at-count.ensures.some c.count_at-count.ensures.within c.requires.in_order c.requires.names c.count_at-count.ensures.one_name c.count_at-count.ensures.other_name in
+    let all = blobs_below c.args.cut.bytes (below c.args.depth 0 files) in
+    let group = blobs_below c.args.cut.bytes (folder_at levels (seen c.args.depth (take n (from_index c.loop-start.start files)))) in
+    let later = blobs_below c.args.cut.bytes (below c.args.depth (c.loop-start.start + n) files) in
+    let left = blobs_below c.args.cut.bytes (below c.args.depth c.loop-start.start files) in
     rw (due.1, due.2) (λ other.
     let full = c.in_err-node.ensures.refused other in
-    (full.0, full_first all (root_tree c.args.cut (below c.args.depth 0 files) ∷ []) (full_left all group later left c.args.storing.now c.loop-start.storing step.blobs c.loop-start.invariant.taken full.1)))
+    (full.0, full_first all (root_tree c.args.cut.bytes (below c.args.depth 0 files) ∷ []) (full_left all group later left c.args.storing.now c.loop-start.storing step.blobs c.loop-start.invariant.taken full.1)))
 
 pub walk_folder-loop-start-preserved : goal.walk_folder-loop-start-preserved
 walk_folder-loop-start-preserved t c =
@@ -56,18 +56,18 @@ walk_folder-loop-start-preserved t c =
     let start = c.loop-start.start in
     let levels = most_levels - c.args.depth in
     let n = c.count_at-count.result in
-    let step = turn c.args.cut levels c.args.depth start n files c.count_at-count.ensures.some c.count_at-count.ensures.within c.requires.in_order c.requires.names c.count_at-count.ensures.one_name c.count_at-count.ensures.other_name in
-    let all = blobs_below c.args.cut (below c.args.depth 0 files) in
-    let group = blobs_below c.args.cut (folder_at levels (seen c.args.depth (take n (from_index start files)))) in
-    let later = blobs_below c.args.cut (below c.args.depth (start + n) files) in
-    let left = blobs_below c.args.cut (below c.args.depth start files) in
+    let step = turn c.args.cut.bytes levels c.args.depth start n files c.count_at-count.ensures.some c.count_at-count.ensures.within c.requires.in_order c.requires.names c.count_at-count.ensures.one_name c.count_at-count.ensures.other_name in
+    let all = blobs_below c.args.cut.bytes (below c.args.depth 0 files) in
+    let group = blobs_below c.args.cut.bytes (folder_at levels (seen c.args.depth (take n (from_index start files)))) in
+    let later = blobs_below c.args.cut.bytes (below c.args.depth (start + n) files) in
+    let left = blobs_below c.args.cut.bytes (below c.args.depth start files) in
     let within = c.count_at-count.ensures.within in
     let before = c.loop-start.invariant.within in
     let node = c.in_ok-node.node in
     record {
       within = omega (arith, within, before, ap length (take_rest files start), length-drop start files);
-      nodes = nodes_more (nodes_of c.args.cut (below c.args.depth 0 files)) (map node_view c.loop-start.nodes.items) (node_view node ∷ []) (nodes_of c.args.cut (below c.args.depth (start + n) files)) (nodes_of c.args.cut (below c.args.depth start files)) (map node_view c.push.new.self.items) c.loop-start.invariant.nodes
-          (step.nodes ∙ ap (λ ns. ns ++ nodes_of c.args.cut (below c.args.depth (start + n) files)) (sym c.in_ok-node.ensures.node))
+      nodes = nodes_more (nodes_of c.args.cut.bytes (below c.args.depth 0 files)) (map node_view c.loop-start.nodes.items) (node_view node ∷ []) (nodes_of c.args.cut.bytes (below c.args.depth (start + n) files)) (nodes_of c.args.cut.bytes (below c.args.depth start files)) (map node_view c.push.new.self.items) c.loop-start.invariant.nodes
+          (step.nodes ∙ ap (λ ns. ns ++ nodes_of c.args.cut.bytes (below c.args.depth (start + n) files)) (sym c.in_ok-node.ensures.node))
           (ap (map node_view) c.in_ok-push.ensures.items ∙ map-append node_view c.loop-start.nodes.items (node ∷ []));
       taken = more_taken all group later left c.args.storing.now c.loop-start.storing c.walk_node.new.storing step.blobs c.loop-start.invariant.taken c.in_ok-node.ensures.took;
     }
@@ -79,31 +79,31 @@ all_nodes cut depth start files nodes so_far past =
 
 pub walk_folder-put_tree-requires : goal.walk_folder-put_tree-requires
 walk_folder-put_tree-requires t c =
-    let same = all_nodes c.args.cut c.args.depth c.loop-start.start c.args.files.now (map node_view c.loop-start.nodes.items) c.loop-start.invariant.nodes c.loop-start-test.false in
+    let same = all_nodes c.args.cut.bytes c.args.depth c.loop-start.start c.args.files.now (map node_view c.loop-start.nodes.items) c.loop-start.invariant.nodes c.loop-start-test.false in
     let F : List NodeData → Type 0 = λ ns. has_float (tree_data ns) ≡ false in
-    subst F (sym same) (no_floats c.args.cut (below c.args.depth 0 c.args.files.now))
+    subst F (sym same) (no_floats c.args.cut.bytes (below c.args.depth 0 c.args.files.now))
 
 pub walk_folder-returns-clause-took : goal.walk_folder-returns-clause-took
 walk_folder-returns-clause-took t c =
     let files = c.args.files.now in
     let folder = below c.args.depth 0 files in
-    let same = all_nodes c.args.cut c.args.depth c.loop-start.start files (map node_view c.loop-start.nodes.items) c.loop-start.invariant.nodes c.loop-start-test.false in
-    let done = all_taken (blobs_below c.args.cut folder) (blobs_below c.args.cut (below c.args.depth c.loop-start.start files)) c.args.storing.now c.loop-start.storing (ap (blobs_below c.args.cut) (none_left (most_levels - c.args.depth) c.args.depth c.loop-start.start files c.loop-start-test.false)) c.loop-start.invariant.taken in
+    let same = all_nodes c.args.cut.bytes c.args.depth c.loop-start.start files (map node_view c.loop-start.nodes.items) c.loop-start.invariant.nodes c.loop-start-test.false in
+    let done = all_taken (blobs_below c.args.cut.bytes folder) (blobs_below c.args.cut.bytes (below c.args.depth c.loop-start.start files)) c.args.storing.now c.loop-start.storing (ap (blobs_below c.args.cut.bytes) (none_left (most_levels - c.args.depth) c.args.depth c.loop-start.start files c.loop-start-test.false)) c.loop-start.invariant.taken in
     let T : List NodeData → Type 0 = λ ns. OnOk c.put_tree.result (Took (tree_blob ns ∷ []) c.loop-start.storing c.put_tree.new.storing) in
-    on_ok_weaker c.put_tree.result (both_took (blobs_below c.args.cut folder) (root_tree c.args.cut folder ∷ []) c.args.storing.now c.loop-start.storing c.put_tree.new.storing done) (subst T same c.put_tree.ensures.took)
+    on_ok_weaker c.put_tree.result (both_took (blobs_below c.args.cut.bytes folder) (root_tree c.args.cut.bytes folder ∷ []) c.args.storing.now c.loop-start.storing c.put_tree.new.storing done) (subst T same c.put_tree.ensures.took)
 
 pub walk_folder-returns-clause-id : goal.walk_folder-returns-clause-id
 walk_folder-returns-clause-id t c =
-    let same = all_nodes c.args.cut c.args.depth c.loop-start.start c.args.files.now (map node_view c.loop-start.nodes.items) c.loop-start.invariant.nodes c.loop-start-test.false in
+    let same = all_nodes c.args.cut.bytes c.args.depth c.loop-start.start c.args.files.now (map node_view c.loop-start.nodes.items) c.loop-start.invariant.nodes c.loop-start-test.false in
     let I : List NodeData → Type 0 = λ ns. IfOk c.put_tree.result (λ id. id ≡ id_of (tree_blob ns)) in
     subst I same c.put_tree.ensures.id
 
 pub walk_folder-returns-clause-refused : goal.walk_folder-returns-clause-refused
 walk_folder-returns-clause-refused t c =
     let folder = below c.args.depth 0 c.args.files.now in
-    let same = all_nodes c.args.cut c.args.depth c.loop-start.start c.args.files.now (map node_view c.loop-start.nodes.items) c.loop-start.invariant.nodes c.loop-start-test.false in
+    let same = all_nodes c.args.cut.bytes c.args.depth c.loop-start.start c.args.files.now (map node_view c.loop-start.nodes.items) c.loop-start.invariant.nodes c.loop-start-test.false in
     let R : List NodeData → Type 0 = λ ns. IfErr c.put_tree.result (λ error. error ≢ Memory → (error ≡ Full) × (list_any is_full (tree_blob ns ∷ []) ≡ true)) in
-    refused_after c.put_tree.result (blobs_below c.args.cut folder) (root_tree c.args.cut folder ∷ []) (subst R same c.put_tree.ensures.refused)
+    refused_after c.put_tree.result (blobs_below c.args.cut.bytes folder) (root_tree c.args.cut.bytes folder ∷ []) (subst R same c.put_tree.ensures.refused)
 
 -- ---- one node
 
@@ -112,7 +112,7 @@ walk_node-returns-in_err-content-clause-refused t c =
     let due = err_from_is_err_and c.from_residual-in_err-content.result c.from_residual-in_err-content.ensures.1 in
     let files = c.args.files.now in
     let first = c.index-files-0.result in
-    let comes = file_first c.args.cut (most_levels - c.args.depth) c.args.depth files first c.index.result.now c.requires.some c.requires.in_order c.requires.names c.requires.one_name c.index-files-0.is (sym c.len.ensures ∙ c.if-len-depth.true) c.index.ensures in
+    let comes = file_first c.args.cut.bytes (most_levels - c.args.depth) c.args.depth files first c.index.result.now c.requires.some c.requires.in_order c.requires.names c.requires.one_name c.index-files-0.is (sym c.len.ensures ∙ c.if-len-depth.true) c.index.ensures in
     rw (due.1, due.2) (λ other.
     let full = c.in_err-content.ensures.refused other in
     (full.0, ap (list_any is_full) comes.below ∙ full.1))
@@ -121,7 +121,7 @@ pub walk_node-returns-then-len-depth-clause-took : goal.walk_node-returns-then-l
 walk_node-returns-then-len-depth-clause-took t c =
     let files = c.args.files.now in
     let first = c.index-files-0.result in
-    let comes = file_first c.args.cut (most_levels - c.args.depth) c.args.depth files first c.index.result.now c.requires.some c.requires.in_order c.requires.names c.requires.one_name c.index-files-0.is (sym c.len.ensures ∙ c.if-len-depth.true) c.index.ensures in
+    let comes = file_first c.args.cut.bytes (most_levels - c.args.depth) c.args.depth files first c.index.result.now c.requires.some c.requires.in_order c.requires.names c.requires.one_name c.index-files-0.is (sym c.len.ensures ∙ c.if-len-depth.true) c.index.ensures in
     let T : List BlobData → Type 0 = λ bs. Took bs c.args.storing.now c.put_pieces.new.storing in
     subst T (sym comes.below) c.in_ok-content.ensures.took
 
@@ -129,7 +129,7 @@ pub walk_node-returns-then-len-depth-clause-node : goal.walk_node-returns-then-l
 walk_node-returns-then-len-depth-clause-node t c =
     let files = c.args.files.now in
     let first = c.index-files-0.result in
-    let comes = file_first c.args.cut (most_levels - c.args.depth) c.args.depth files first c.index.result.now c.requires.some c.requires.in_order c.requires.names c.requires.one_name c.index-files-0.is (sym c.len.ensures ∙ c.if-len-depth.true) c.index.ensures in
+    let comes = file_first c.args.cut.bytes (most_levels - c.args.depth) c.args.depth files first c.index.result.now c.requires.some c.requires.in_order c.requires.names c.requires.one_name c.index-files-0.is (sym c.len.ensures ∙ c.if-len-depth.true) c.index.ensures in
     ap (λ n. n ∷ []) (c.file.ensures ∙ as_file c.in_ok-name.ensures.ok c.in_ok-content.ensures.ids) ∙ sym comes.nodes
   where
     as_file : {x y : List ℕ} {is js : List Id} → x ≡ y → is ≡ js → ◌≡◌ {A = NodeData} (record { name = x; kind = file is; others = no_members }) (record { name = y; kind = file js; others = no_members })
@@ -138,15 +138,15 @@ walk_node-returns-then-len-depth-clause-node t c =
 pub walk_node-walk_folder-requires : goal.walk_node-walk_folder-requires
 walk_node-walk_folder-requires t c =
     let first = c.index-files-0.result in
-    let folder = folder_first c.args.cut most_levels c.args.depth c.args.files.now first c.index.result.now c.requires.some c.requires.in_order c.requires.names c.requires.one_name c.index-files-0.is (λ e. c.if-len-depth.false (c.len.ensures ∙ e)) c.index.ensures in
+    let folder = folder_first c.args.cut.bytes most_levels c.args.depth c.args.files.now first c.index.result.now c.requires.some c.requires.in_order c.requires.names c.requires.one_name c.index-files-0.is (λ e. c.if-len-depth.false (c.len.ensures ∙ e)) c.index.ensures in
     let deeper = folder.deeper in
-    (search rules, (c.requires.cut, (folder.order, folder.names)))
+    (search rules, (folder.order, folder.names))
 
 pub walk_node-returns-in_err-subtree-clause-refused : goal.walk_node-returns-in_err-subtree-clause-refused
 walk_node-returns-in_err-subtree-clause-refused t c =
     let due = err_from_is_err_and c.from_residual-in_err-subtree.result c.from_residual-in_err-subtree.ensures.1 in
     let first = c.index-files-0.result in
-    let folder = folder_first c.args.cut most_levels c.args.depth c.args.files.now first c.index.result.now c.requires.some c.requires.in_order c.requires.names c.requires.one_name c.index-files-0.is (λ e. c.if-len-depth.false (c.len.ensures ∙ e)) c.index.ensures in
+    let folder = folder_first c.args.cut.bytes most_levels c.args.depth c.args.files.now first c.index.result.now c.requires.some c.requires.in_order c.requires.names c.requires.one_name c.index-files-0.is (λ e. c.if-len-depth.false (c.len.ensures ∙ e)) c.index.ensures in
     rw (due.1, due.2) (λ other.
     let full = c.in_err-subtree.ensures.refused other in
     (full.0, ap (list_any is_full) (folder.comes).below ∙ full.1))
@@ -154,14 +154,14 @@ walk_node-returns-in_err-subtree-clause-refused t c =
 pub walk_node-returns-clause-took : goal.walk_node-returns-clause-took
 walk_node-returns-clause-took t c =
     let first = c.index-files-0.result in
-    let folder = folder_first c.args.cut most_levels c.args.depth c.args.files.now first c.index.result.now c.requires.some c.requires.in_order c.requires.names c.requires.one_name c.index-files-0.is (λ e. c.if-len-depth.false (c.len.ensures ∙ e)) c.index.ensures in
+    let folder = folder_first c.args.cut.bytes most_levels c.args.depth c.args.files.now first c.index.result.now c.requires.some c.requires.in_order c.requires.names c.requires.one_name c.index-files-0.is (λ e. c.if-len-depth.false (c.len.ensures ∙ e)) c.index.ensures in
     let T : List BlobData → Type 0 = λ bs. Took bs c.args.storing.now c.walk_folder.new.storing in
     subst T (sym (folder.comes).below) c.in_ok-subtree.ensures.took
 
 pub walk_node-returns-clause-node : goal.walk_node-returns-clause-node
 walk_node-returns-clause-node t c =
     let first = c.index-files-0.result in
-    let folder = folder_first c.args.cut most_levels c.args.depth c.args.files.now first c.index.result.now c.requires.some c.requires.in_order c.requires.names c.requires.one_name c.index-files-0.is (λ e. c.if-len-depth.false (c.len.ensures ∙ e)) c.index.ensures in
+    let folder = folder_first c.args.cut.bytes most_levels c.args.depth c.args.files.now first c.index.result.now c.requires.some c.requires.in_order c.requires.names c.requires.one_name c.index-files-0.is (λ e. c.if-len-depth.false (c.len.ensures ∙ e)) c.index.ensures in
     ap (λ n. n ∷ []) (c.dir.ensures ∙ as_dir c.in_ok-name.ensures.ok c.in_ok-subtree.ensures.id) ∙ sym (folder.comes).nodes
   where
     as_dir : {x y : List ℕ} {i j : Id} → x ≡ y → i ≡ j → ◌≡◌ {A = NodeData} (record { name = x; kind = dir i; others = no_members }) (record { name = y; kind = dir j; others = no_members })

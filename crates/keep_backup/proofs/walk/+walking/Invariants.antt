@@ -24,6 +24,6 @@ below depth start files = folder_at (most_levels - depth) (seen depth (drop star
 abbrev pub invariant-walk_folder-loop-start : goal.invariant-walk_folder-loop-start
 invariant-walk_folder-loop-start l = record {
   within : l.start ≤ length l.files;
-  nodes : map node_view l.nodes.items ++ nodes_of l.cut (below l.depth l.start l.files) ≡ nodes_of l.cut (below l.depth 0 l.files);
-  taken : HasTaken (blobs_below l.cut (below l.depth 0 l.files)) (blobs_below l.cut (below l.depth l.start l.files)) l.initial.storing l.storing;
+  nodes : map node_view l.nodes.items ++ nodes_of l.cut.bytes (below l.depth l.start l.files) ≡ nodes_of l.cut.bytes (below l.depth 0 l.files);
+  taken : HasTaken (blobs_below l.cut.bytes (below l.depth 0 l.files)) (blobs_below l.cut.bytes (below l.depth l.start l.files)) l.initial.storing l.storing;
 }

@@ -6,7 +6,7 @@ use Rattle.keep_backup.proofs.walk.put_pieces.Given as goal
 
 abbrev pub invariant-loop-piece : goal.invariant-loop-piece
 invariant-loop-piece l = record {
-  size : chunks_size l.piece-iterator ≡ l.cut;
-  ids : map id_of (pieces_of l.cut l.bytes) ≡ l.ids.items ++ map id_of (pieces_of l.cut (chunks_rest l.piece-iterator));
-  taken : HasTaken (pieces_of l.cut l.bytes) (pieces_of l.cut (chunks_rest l.piece-iterator)) l.initial.storing l.storing;
+  size : chunks_size l.piece-iterator ≡ l.fn.cut.bytes;
+  ids : map id_of (pieces_of l.fn.cut.bytes l.bytes) ≡ l.ids.items ++ map id_of (pieces_of l.fn.cut.bytes (chunks_rest l.piece-iterator));
+  taken : HasTaken (pieces_of l.fn.cut.bytes l.bytes) (pieces_of l.fn.cut.bytes (chunks_rest l.piece-iterator)) l.initial.storing l.storing;
 }

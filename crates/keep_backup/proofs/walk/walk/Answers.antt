@@ -24,7 +24,7 @@ returns-then-any-clause-refused c = λ _.
     let deep = sym (deep_files c.args.files.now)
     ∙ sym (any_from_yields_List (λ file. ltb 256 (vec_len file.names)) _ _ _ c.any.ensures.ran (YieldsList-from_slice c.args.files.now c.iter.ensures.rest) (λ x b q k. search (rules, tests)))
     ∙ c.if-any.true in
-    let full = list_any is_full (blobs_of c.args.cut (root_folder (map file_view c.args.files.now))) in
+    let full = list_any is_full (blobs_of c.args.cut.bytes (root_folder (map file_view c.args.files.now))) in
     ap (λ b. cond b (Some TooDeep) (cond full (Some Full) None)) deep
 
 pub walk_folder-requires-clause-names : goal.walk_folder-requires-clause-names
@@ -44,12 +44,12 @@ returns-clause-within c =
 
 pub returns-clause-took : goal.returns-clause-took
 returns-clause-took c =
-    let T : Folder → Type 0 = λ folder. OnOk c.walk_folder.result (Took (blobs_of c.args.cut folder) c.args.storing.now c.walk_folder.new.storing) in
+    let T : Folder → Type 0 = λ folder. OnOk c.walk_folder.result (Took (blobs_of c.args.cut.bytes folder) c.args.storing.now c.walk_folder.new.storing) in
     subst T (root_is c.args.files.now) c.walk_folder.ensures.took
 
 pub returns-clause-root : goal.returns-clause-root
 returns-clause-root c =
-    let I : Folder → Type 0 = λ folder. IfOk c.walk_folder.result (λ id. id ≡ id_of (root_tree c.args.cut folder)) in
+    let I : Folder → Type 0 = λ folder. IfOk c.walk_folder.result (λ id. id ≡ id_of (root_tree c.args.cut.bytes folder)) in
     subst I (root_is c.args.files.now) c.walk_folder.ensures.id
 
 refused_so : {T : Type 0} (r : Result T PlanError) (deep full : Bool) → deep ≡ false → IfErr r (λ error. error ≢ Memory → (error ≡ Full) × (full ≡ true)) → IfErr r (λ error. error ≢ Memory → cond deep (Some TooDeep) (cond full (Some Full) None) ≡ Some error)
@@ -63,5 +63,5 @@ returns-clause-refused c =
     let deep = sym (deep_files c.args.files.now)
     ∙ sym (any_from_yields_List (λ file. ltb 256 (vec_len file.names)) _ _ _ c.any.ensures.ran (YieldsList-from_slice c.args.files.now c.iter.ensures.rest) (λ x b q k. search (rules, tests)))
     ∙ c.if-any.false in
-    let R : Folder → Type 0 = λ folder. IfErr c.walk_folder.result (λ error. error ≢ Memory → (error ≡ Full) × (list_any is_full (blobs_of c.args.cut folder) ≡ true)) in
-    refused_so c.walk_folder.result (list_any is_too_deep (paths_seen 0 c.args.files.now)) (list_any is_full (blobs_of c.args.cut (root_folder (map file_view c.args.files.now)))) deep (subst R (root_is c.args.files.now) c.walk_folder.ensures.refused)
+    let R : Folder → Type 0 = λ folder. IfErr c.walk_folder.result (λ error. error ≢ Memory → (error ≡ Full) × (list_any is_full (blobs_of c.args.cut.bytes folder) ≡ true)) in
+    refused_so c.walk_folder.result (list_any is_too_deep (paths_seen 0 c.args.files.now)) (list_any is_full (blobs_of c.args.cut.bytes (root_folder (map file_view c.args.files.now)))) deep (subst R (root_is c.args.files.now) c.walk_folder.ensures.refused)

@@ -7,8 +7,8 @@ use Rattle.keep_read.specs.Found.{IsFound}
 use Rattle.keep_read.proofs.Walking.{none_bare, under-nothing}
 use Rattle.keep_read.proofs.walk.contents_of.Goals as goal
 
-pub walk-requires : goal.walk-requires
-walk-requires c =
+pub add_tree-requires : goal.add_tree-requires
+add_tree-requires c =
     let r = c.args.catalog.now in
     let F : ℕ → Type 0 = λ n. IsFound r c.args.reached.now n (tree_at c.args.tree) in
     let H : ℕ → Type 0 = λ n. refusal_at (named_by r) n (tree_at c.args.tree) ≡ None in
@@ -22,7 +22,7 @@ walk-requires c =
 pub returns : goal.returns
 returns c =
     let below = contents_at c.args.catalog.now c.levels.result c.args.tree in
-    c.in_ok-walk.ensures.contents
+    c.in_ok-add_tree.ensures.contents
     ∙ ap (λ cs. map content_view cs ++ map (under []) below) c.new.ensures.items
     ∙ under-nothing below
     ∙ ap (λ n. contents_at c.args.catalog.now n c.args.tree) c.levels.ensures.value

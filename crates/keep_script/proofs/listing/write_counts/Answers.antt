@@ -1,6 +1,7 @@
+use Rattle.std.proofs.Common.{refl}
 use Rattle.keep_script.proofs.RestoreLemmas.{Puts-counts}
 use Rattle.keep_script.proofs.listing.write_counts.Goals as goal
 
 pub returns : goal.returns
 returns g c =
-    Puts-counts c.args.restored.now.files.entries c.len.ensures.ordered _ _ c.args.restored.now.skipped c.len.result _ _ c.len.ensures.len c.in_ok-counts.ensures c.put_text.ensures
+    Puts-counts c.args.restored.now.files.entries c.len.ensures.ordered _ _ c.args.restored.now.skipped c.len.result _ _ c.len.ensures.len refl c.put_line.ensures

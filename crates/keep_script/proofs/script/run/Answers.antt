@@ -1,4 +1,4 @@
-use Rattle.std.proofs.Common.{ap, ◌∙◌, subst}
+use Rattle.std.proofs.Common.{ℕ, ap, ap₂, ◌∙◌, subst}
 use Rattle.keep_book.specs.BookState.{new_book}
 use Rattle.keep_script.specs.Run.{Ends}
 use Rattle.keep_script.specs.State.{begun_over}
@@ -8,4 +8,5 @@ pub returns-clause-answers : goal.returns-clause-answers
 returns-clause-answers g c =
     let h = c.run_over.ensures.answers in
     let same = c.new-book.ensures ∙ ap new_book c.new.ensures in
-    (h.0, h.1, (h.2.0, subst (λ b. Ends (begun_over c.args.cut b) (g.R.Read.remaining c.args.reader.now) (g.R.Read.remaining c.run_over.new.reader) h.0 c.run_over.result h.2.0) same h.2.2))
+    let start = ap₂ (λ (n : ℕ) b. begun_over n b) c.after.ensures same in
+    (h.0, h.1, (h.2.0, subst (λ s. Ends s (g.R.Read.remaining c.args.reader.now) (g.R.Read.remaining c.run_over.new.reader) h.0 c.run_over.result h.2.0) start h.2.2))

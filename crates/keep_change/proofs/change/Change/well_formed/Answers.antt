@@ -1,20 +1,21 @@
 -- The four tests, one after another.
-use Rattle.std.proofs.Common.{refl}
-use Rattle.std.specs.Cmp.{first_so, second_so}
+use Rattle.std.proofs.Common.{sym, ◌∙◌}
 use Rattle.keep_change.proofs.change.Change.well_formed.Goals as goal
+use Rattle.keep_change.proofs.change.Change.well_formed.Goals.{then-lists_in_order, else-lists_in_order, then-has_no_facet_twice, else-has_no_facet_twice}
 
-pub returns : goal.returns
-returns c =
-    let ordered = c.lists_in_order.ensures.0 c.if-not-lists_in_order.false in (
-      λ all. record {
-        in_order = ordered;
-        once = c.has_no_facet_twice-once.ensures.0 (first_so _ _ (first_so _ _ all));
-        named = rw c.as_slice.ensures at (c.are_named_by_bytes-named.ensures.0 (second_so _ _ (first_so _ _ all)));
-        writes = c.writes_something-writes.ensures.0 (second_so _ _ all);
-      },
-      λ w. rw (
-        c.has_no_facet_twice-once.ensures.1 w.once,
-        c.are_named_by_bytes-named.ensures.1 (rw c.as_slice.ensures w.named),
-        c.writes_something-writes.ensures.1 w.writes,
-      ) refl,
-    )
+pub returns-then-are_named_by_bytes : goal.returns-then-are_named_by_bytes
+returns-then-are_named_by_bytes c = (
+  λ writes. elim c.if-has_no_facet_twice.branch [
+    | then-has_no_facet_twice w ↦ elim c.if-lists_in_order.branch [
+      | then-lists_in_order v ↦ record {
+        in_order = c.lists_in_order.ensures.0 v.if-lists_in_order.true;
+        once = v.has_no_facet_twice.ensures.0 (sym v.value-is ∙ w.if-has_no_facet_twice.true);
+        named = rw w.as_slice.ensures at (w.are_named_by_bytes.ensures.0 (sym w.value-is ∙ c.if-are_named_by_bytes.true));
+        writes = c.writes_something.ensures.0 writes;
+      }
+      | else-lists_in_order v ↦ absurd (cc (sym v.value-is ∙ w.if-has_no_facet_twice.true, v.if-lists_in_order.false))
+    ]
+    | else-has_no_facet_twice w ↦ absurd (cc (w.value-is, w.if-has_no_facet_twice.false, c.if-are_named_by_bytes.true))
+  ],
+  λ w. c.writes_something.ensures.1 w.writes,
+)

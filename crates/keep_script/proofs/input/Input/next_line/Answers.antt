@@ -1,20 +1,22 @@
-use Rattle.std.proofs.Common.{◌≡◌, Err, length, sym, ap, ◌∙◌, arith}
+use Rattle.std.proofs.Common.{◌≡◌, Err, inl, inr, length, sym, ap, ◌∙◌, arith}
 use Rattle.std.proofs.lemmas.Result.{err_from_is_err_and}
 use Rattle.std.proofs.KnownBytes.{Consumes-kept, Keeps-trans}
 use Rattle.keep_script.specs.declared.status.Stop.TheVariants.{BadLine}
+use Rattle.keep_lines.specs.declared.mistake.Mistake.TheVariants.{TooLong}
 use Rattle.keep_script.proofs.NextLine.{Consumes-gathered, Consumes-met, none-gathered, too_long_so_far, used-gathered}
 use Rattle.keep_script.specs.Input.{unread_of}
 use Rattle.keep_script.specs.Line.{HasLineEnd}
 use Rattle.keep_script.proofs.input.Input.next_line.Goals as goal
 
 pub returns-in_err-take-clause-too_long : goal.returns-in_err-take-clause-too_long
-returns-in_err-take-clause-too_long g c bad =
+returns-in_err-take-clause-too_long g c why bad =
     let line = c.loop-turn.line.items in
     let split = Consumes-kept _ _ _ line c.loop-turn.invariant.taken c.in_ok-look_ahead.ensures.kept in
     let passed = err_from_is_err_and c.from_residual-in_err-take.result c.from_residual-in_err-take.ensures.1 in
-    let same : Err c.in_err-take.field-0.0 ≡ Err BadLine = cc (passed.1, passed.2, bad) in
-    let long = c.in_err-take.ensures.too_long same in
-    too_long_so_far _ _ line (unread_of c.look_ahead.new.self) _ split c.loop-turn.invariant.none (omega (arith, long, c.loop-turn.line.ok.0))
+    let same : c.in_err-take.field-0.0 ≡ BadLine why = cc (passed.1, passed.2, bad) in
+    let cause : why ≡ TooLong = elim c.in_err-take.ensures.reason [ inl long ↦ cc (sym same ∙ long) | inr none ↦ cc (sym same ∙ none) ] in
+    let long = c.in_err-take.ensures.too_long (ap Err (same ∙ ap BadLine cause)) in
+    (cause, too_long_so_far _ _ line (unread_of c.look_ahead.new.self) _ split c.loop-turn.invariant.none (omega (arith, long, c.loop-turn.line.ok.0)))
 
 pub returns-then-branch-clause-taken : goal.returns-then-branch-clause-taken
 returns-then-branch-clause-taken g c =

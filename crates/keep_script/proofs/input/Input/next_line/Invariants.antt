@@ -2,7 +2,8 @@
 use Rattle.std.proofs.Common.{◌≡◌, ◌+◌, ◌<◌, ◌≤◌, [], vec_len}
 use Rattle.std.specs.Io.KnownBytes.{Consumes, Keeps}
 use Rattle.keep_script.specs.Input.{ahead_of, left_of, unread_of}
-use Rattle.keep_script.specs.Line.{HasLineEnd, longest_line}
+use Rattle.keep_lines.specs.Line.{longest_line}
+use Rattle.keep_script.specs.Line.{HasLineEnd}
 use Rattle.keep_script.proofs.input.Input.next_line.Given as goal
 
 abbrev pub invariant-loop-turn : goal.invariant-loop-turn

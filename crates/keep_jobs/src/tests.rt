@@ -1,0 +1,46 @@
+use crate::{Backup, Job, Settings, plan};
+use keep_backup::Cut;
+use keep_journal::History;
+use keep_plan::PlanError;
+use keep_repo::Repo;
+use keep_view::View;
+use std::test::Fail;
+
+const SETTINGS_CUT: u32 = 4;
+
+// Plans the backup of one file of this path and time on an empty repository, and says how many files it adds.
+fn adds_of(rt: &HostRuntime, path: &str, time: &str) -> Result<Result<usize, PlanError>, Fail> {
+    let alloc = rt.alloc();
+    let mut files = Vec::new(alloc);
+    let bytes = Vec::from_slice(alloc, b"hello")?;
+    files.push((String::from_str(alloc, path)?, bytes))?;
+    let job = Job::Backup(Backup {
+        host: String::from_str(alloc, "web")?,
+        time: String::from_str(alloc, time)?,
+        files,
+    });
+    let repo = Repo::new(alloc);
+    let history = History::new(alloc, 0);
+    let view = View::without_events(&repo, &history);
+    let settings = Settings {
+        cut: Cut::after(SETTINGS_CUT),
+    };
+    match plan(alloc, &view, settings, &job) {
+        Ok(planned) => Ok(Ok(planned.change.adds.as_slice().len())),
+        Err(refusal) => Ok(Err(refusal)),
+    }
+}
+
+#[test]
+fn a_backup_is_planned(rt: HostRuntime) -> Result<(), Fail> {
+    let adds = adds_of(&rt, "/a", "2024-01-01T00:00:00Z")?;
+    assert_eq!(rt; adds, Ok(4));
+    Ok(())
+}
+
+#[test]
+fn a_planner_refuses(rt: HostRuntime) -> Result<(), Fail> {
+    let adds = adds_of(&rt, "/a", "2024-13-01T00:00:00Z")?;
+    assert_eq!(rt; adds, Err(PlanError::BadTime));
+    Ok(())
+}

@@ -1,0 +1,4 @@
+pub mod BackupWords
+pub mod HexWord
+pub mod Mistakes
+pub mod WordLemmas

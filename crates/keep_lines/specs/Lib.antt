@@ -1,0 +1,12 @@
+pub mod BackupLine
+pub mod Command
+pub mod JobLine
+pub mod Line
+pub mod Mistake
+pub mod Prints
+pub mod Question
+pub mod RawFile
+pub mod Reply
+pub mod Revision
+pub mod Telling
+pub mod Word

@@ -1,0 +1,38 @@
+-- The texts of replies to what a line asks to be done, each without a line's end.
+use Rattle.std.specs.Prelude.{ℕ, List, ◌++◌, length, codes}
+use Rattle.std.specs.Fmt.{decimal}
+use Rattle.keep_change.specs.declared.change.Change.{Change}
+use Rattle.keep_book.specs.declared.reply.Told.{Told}
+use Rattle.keep_lines.specs.declared.reply.Committed.{Committed}
+use Rattle.keep_lines.specs.declared.reply.Sizes.{Sizes}
+
+-- an accepted request: `ok N at K`
+abbrev pub told_text : Told → List ℕ
+told_text told = codes "ok " ++ (decimal told.number ++ (codes " at " ++ decimal told.at))
+
+-- how many facets of each sort a change writes
+abbrev pub sizes_of : Change → Sizes
+sizes_of c = record {
+  adds = length c.adds;
+  drops = length c.drops;
+  sets = length c.sets;
+  clears = length c.clears;
+}
+
+-- these numbers: `+A -D *S ~C`
+abbrev pub sizes_text : Sizes → List ℕ
+sizes_text sizes =
+    codes "+" ++ (decimal sizes.adds ++ (codes " -" ++ (decimal sizes.drops
+    ++ (codes " *" ++ (decimal sizes.sets ++ (codes " ~" ++ decimal sizes.clears))))))
+
+-- a change that was committed: `ok N at K +A -D *S ~C`
+abbrev pub committed_text : Committed → List ℕ
+committed_text committed = told_text committed.told ++ (codes " " ++ sizes_text committed.sizes)
+
+-- what was refused, by how the refusal prints: `no WORD`, with its value where it has one
+abbrev pub no_text : List ℕ → List ℕ
+no_text refusal = codes "no " ++ refusal
+
+-- a line that isn't of the language: `bad line K`
+abbrev pub bad_line_text : ℕ → List ℕ
+bad_line_text number = codes "bad line " ++ decimal number

@@ -1,0 +1,54 @@
+-- The words of a line: each is the text of a value.
+use Rattle.std.specs.Prelude.{◌≡◌, ℕ, ◌<◌, ◌≤◌, ◌==◌, ◌&&◌, ◌||◌, nat_le, Bool, List, [], ◌∷◌, ◌++◌, length, codes, ◌^◌, ◌≢◌, slice_index, ⊤}
+use Rattle.std.specs.Global.{Vec}
+use Rattle.std.specs.Fmt.{decimal}
+use Rattle.std.specs.List.{AllPass}
+use Rattle.hex.specs.Hex.{IsBytes, encode_lower}
+use Rattle.keep_names.specs.Id.{IsDigest, id_text}
+use Rattle.keep_names.specs.declared.file_name.Kind.{Kind}
+use Rattle.keep_lines.specs.declared.word.Target.{Target}
+use Rattle.keep_lines.specs.declared.word.Target.TheVariants.{Named, AddedBy}
+
+-- no plus stands in front, and a zero stands there alone
+abbrev pub HasPlainFront : List ℕ → Type 0
+HasPlainFront word = (slice_index word 0 ≢ 43) × (slice_index word 0 ≡ 48 → length word ≡ 1)
+
+-- bytes in lower case hex, none of them as a dash
+abbrev pub hex_text : List ℕ → List ℕ
+hex_text [] = codes "-"
+hex_text (b ∷ bs) = encode_lower (b ∷ bs)
+
+-- the same of a vector of bytes
+abbrev pub hex_word : Vec ℕ → List ℕ
+hex_word bytes = hex_text bytes.items
+
+-- a vector of bytes
+abbrev pub AreBytes : Vec ℕ → Type 0
+AreBytes bytes = IsBytes bytes.items
+
+-- a number of 64 bits, as each number of a line is
+abbrev pub IsNumber : ℕ → Type 0
+IsNumber n = n < 2 ^ 64
+
+-- each kind of file has a word
+abbrev pub IsKind : Kind → Type 0
+IsKind kind = ⊤
+
+-- whether c is an ASCII letter or digit, or a dash
+abbrev pub is_name_byte : ℕ → Bool
+is_name_byte c =
+    (nat_le 48 c && nat_le c 57) || (nat_le 65 c && nat_le c 90) || (nat_le 97 c && nat_le c 122) || (c == 45)
+
+-- 1 to 64 ASCII letters, digits or dashes
+abbrev pub IsName : List ℕ → Type 0
+IsName word = (0 < length word) × (length word ≤ 64) × AllPass is_name_byte word
+
+-- an id's digits, or `@` and the number of a change
+abbrev pub target_text : Target → List ℕ
+target_text (Named id) = id_text id
+target_text (AddedBy n) = codes "@" ++ decimal n
+
+-- an id of 32 bytes, or a number of 64 bits, as each target has
+abbrev pub IsTarget : Target → Type 0
+IsTarget (Named id) = IsDigest id
+IsTarget (AddedBy n) = IsNumber n

@@ -1,0 +1,27 @@
+//! The texts of the script language: lines read as commands, and answers that print themselves.
+#![tactic(auto)]
+
+mod backup_line;
+mod command;
+mod job_line;
+mod line;
+mod mistake;
+mod question;
+mod raw_file;
+mod reply;
+mod revision;
+mod telling;
+#[cfg(test)]
+mod tests;
+mod word;
+
+pub use command::{Command, LineError, parse};
+pub use mistake::Mistake;
+pub use question::Question;
+pub use raw_file::RawFile;
+pub use reply::{Accepted, BadLine, Committed, Refused, Sizes};
+pub use revision::Revision;
+pub use telling::{
+    Compared, Counts, EventLine, FileLine, Found, FoundCount, Noted, RestoredCounts, RestoredFile,
+};
+pub use word::{Target, print_hex};

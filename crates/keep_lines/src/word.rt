@@ -1,0 +1,113 @@
+ghost use Rattle.std.specs.Prelude.{◌≡◌, ◌↔◌, IfOk, IsTrue, string_bytes};
+ghost use Rattle.std.specs.Fmt.{decimal};
+ghost use Rattle.std.specs.List.{AllPass, list_any};
+ghost use Rattle.std.specs.Char.{is_ascii_uppercase};
+ghost use Rattle.keep_names.specs.FileName.{kind_text};
+ghost use Rattle.keep_lines.specs.Prints.{Parses};
+ghost use Rattle.keep_lines.specs.Word.{AreBytes, HasPlainFront, IsKind, IsName, IsNumber, IsTarget, hex_text, hex_word, is_name_byte, target_text};
+
+use hex::FromHexError;
+use keep_names::{Id, Kind, parse_id};
+use std::alloc::{AllocError, Global};
+
+/// Which file a line means: one by its name, or the one that a change added.
+#[derive(Clone, Copy, Debug, PartialEq, Eq)]
+pub enum Target {
+    Named(Id),
+    AddedBy(u64),
+}
+
+const MAX_NAME: usize = 64;
+
+/// The kind of this word.
+pub(crate) fn parse_kind(word: &str) -> Option<Kind>
+    ensures { Parses IsKind kind_text word.now result }
+{
+    match word {
+        "pack" => Some(Kind::Pack),
+        "index" => Some(Kind::Index),
+        "snapshot" => Some(Kind::Snapshot),
+        _ => None,
+    }
+}
+
+/// The number of these digits.
+pub(crate) fn parse_number(word: &str) -> Option<u64>
+    ensures { Parses IsNumber decimal word.now result }
+{
+    if !has_plain_front(word) {
+        return None;
+    }
+    word.parse().ok()
+}
+
+/// Whether no plus stands in front, and no zero that could be left out.
+fn has_plain_front(word: &str) -> bool
+    ensures { IsTrue result ↔ HasPlainFront word.now }
+{
+    !matches!(word.as_bytes(), [b'+', ..] | [b'0', _, ..])
+}
+
+/// Whether the word can name a note: 1 to 64 ASCII letters, digits or dashes.
+pub(crate) fn is_name(word: &str) -> bool
+    ensures { IsTrue result ↔ IsName word.now }
+{
+    let fits = word.len() <= MAX_NAME;
+    !word.is_empty() && fits && has_name_bytes(word)
+}
+
+fn has_name_bytes(word: &str) -> bool
+    ensures { IsTrue result ↔ AllPass is_name_byte word.now }
+{
+    word.bytes().all(|byte| matches!(byte, b'0'..=b'9' | b'A'..=b'Z' | b'a'..=b'z' | b'-'))
+}
+
+/// The bytes that the word writes in lower case hex, or as a dash where there are none.
+pub(crate) fn parse_hex(alloc: Global, word: &str) -> Result<Option<Vec<u8>>, AllocError>
+    ensures { IfOk result (Parses AreBytes hex_word word.now) }
+{
+    if word == "-" {
+        return Ok(Some(Vec::new(alloc)));
+    }
+    if word.is_empty() || has_capital(word) {
+        return Ok(None);
+    }
+    match hex::decode(alloc, word) {
+        Ok(bytes) => Ok(Some(bytes)),
+        Err(FromHexError::OutOfMemory) => Err(AllocError),
+        Err(_) => Ok(None),
+    }
+}
+
+/// Whether a letter of the word is a capital, which `hex` would take for a digit too.
+fn has_capital(word: &str) -> bool
+    ensures { result ≡ list_any is_ascii_uppercase word.now }
+{
+    word.bytes().any(|byte| byte.is_ascii_uppercase())
+}
+
+/// The bytes in lower case hex, or a dash where there are none.
+pub fn print_hex(alloc: Global, bytes: &[u8]) -> Result<String, AllocError>
+    ensures { IfOk result (λ text. string_bytes text ≡ hex_text bytes.now) }
+{
+    if bytes.is_empty() {
+        return String::from_str(alloc, "-");
+    }
+    hex::encode(alloc, bytes)
+}
+
+/// A file by its 64 digits, or `@` and the number of the change that added it.
+pub(crate) fn parse_target(word: &str) -> Option<Target>
+    ensures { Parses IsTarget target_text word.now result }
+{
+    match word.strip_prefix('@') {
+        Some(number) => {
+            let number = parse_number(number)?;
+            Some(Target::AddedBy(number))
+        }
+        None => {
+            let id = parse_id(word).ok()?;
+            Some(Target::Named(id))
+        }
+    }
+}

@@ -1,0 +1,33 @@
+-- How the program tells of its end.
+use Rattle.std.specs.Prelude.{ℕ, List, ◌++◌, codes}
+use Rattle.std.specs.Fmt.{decimal}
+use Rattle.keep_lines.specs.Mistake.{mistake_text}
+use Rattle.keep_script.specs.declared.status.Status.TheVariants.{Done, BadLine, ReadFailed, WriteFailed, NoMemory}
+use Rattle.keep_main.specs.declared.ending.Ending.{Ending}
+use Rattle.keep_main.specs.declared.ending.Ending.TheVariants as ending
+use Rattle.keep_main.specs.declared.options.BadOptions.{BadOptions}
+use Rattle.keep_main.specs.declared.options.BadOptions.TheVariants.{Memory, Refused}
+
+-- the exit status: 0 where the script was answered, 2 where a line isn't of the language or the words aren't options, 1 where the run failed
+abbrev pub code_of : Ending → ℕ
+code_of (ending.Ran Done) = 0
+code_of (ending.Ran (BadLine number why)) = 2
+code_of (ending.Ran ReadFailed) = 1
+code_of (ending.Ran WriteFailed) = 1
+code_of (ending.Ran NoMemory) = 1
+code_of ending.BadOptions = 2
+
+-- the end where no options are read
+abbrev pub ending_of : BadOptions → Ending
+ending_of Refused = ending.BadOptions
+ending_of Memory = ending.Ran NoMemory
+
+-- the line on standard error
+abbrev pub ending_text : Ending → List ℕ
+ending_text (ending.Ran Done) = codes "keepd: done"
+ending_text (ending.Ran (BadLine number why)) =
+    codes "keepd: line " ++ (decimal number ++ (codes ": " ++ mistake_text why))
+ending_text (ending.Ran ReadFailed) = codes "keepd: cannot read the script, or it is longer than 67,108,864 bytes"
+ending_text (ending.Ran WriteFailed) = codes "keepd: cannot write the answers"
+ending_text (ending.Ran NoMemory) = codes "keepd: no memory"
+ending_text ending.BadOptions = codes "keepd: bad options; usage: keepd [--cut N] < SCRIPT"

@@ -1,0 +1,74 @@
+ghost use Rattle.std.specs.Prelude.{◌≡◌, ◌↔◌, IsTrue};
+ghost use Rattle.keep_script.specs.declared.status.Status.TheVariants as the_status;
+
+use crate::options::BadOptions;
+use keep_script::Status;
+use std::fmt;
+
+/// How the program ended. It prints as the line on standard error that says why.
+#[derive(Clone, Copy, Debug, PartialEq, Eq)]
+pub(crate) enum Ending {
+    /// The script was run, to this end.
+    Ran(Status),
+    /// The words behind the program's name aren't its options.
+    BadOptions,
+}
+
+impl Ending {
+    ghost use Rattle.keep_main.specs.Ending.{code_of};
+    ghost use Rattle.keep_main.specs.declared.ending.Ending.TheVariants as the_ending;
+
+    /// The exit status: 0 where each line was answered, 1 where the run failed, 2 where a line isn't
+    /// of the language or the words aren't options.
+    pub fn code(self) -> u8
+        ensures { result ≡ code_of self }
+    {
+        match self {
+            Ending::Ran(Status::Done) => 0,
+            Ending::Ran(Status::ReadFailed | Status::WriteFailed | Status::NoMemory) => 1,
+            Ending::Ran(Status::BadLine(_, _)) | Ending::BadOptions => 2,
+        }
+    }
+
+    /// Whether each line was answered, so that there is nothing to say.
+    pub fn is_done(self) -> bool
+        ensures { IsTrue result ↔ (self ≡ the_ending.Ran the_status.Done) }
+    {
+        matches!(self, Ending::Ran(Status::Done))
+    }
+}
+
+impl From<BadOptions> for Ending {
+    ghost use Rattle.keep_main.specs.Ending.{ending_of};
+
+    ghost from_gives = { λ error ending. ending ≡ ending_of error };
+
+    fn from(error: BadOptions) -> Ending {
+        match error {
+            BadOptions::Refused => Ending::BadOptions,
+            BadOptions::Memory => Ending::Ran(Status::NoMemory),
+        }
+    }
+}
+
+impl fmt::Display for Ending {
+    ghost use Rattle.std.specs.Prelude.{Some};
+    ghost use Rattle.keep_main.specs.Ending.{ending_text};
+
+    ghost output = { λ ending. Some (ending_text ending) };
+
+    fn fmt<W: fmt::Write>(&self, f: &mut fmt::Formatter<W>) -> fmt::Result {
+        match self {
+            Ending::Ran(Status::Done) => f.write_str("keepd: done"),
+            Ending::Ran(Status::BadLine(number, why)) => write!(f, "keepd: line {number}: {why}"),
+            Ending::Ran(Status::ReadFailed) => f.write_str(
+                "keepd: cannot read the script, or it is longer than 67,108,864 bytes",
+            ),
+            Ending::Ran(Status::WriteFailed) => f.write_str("keepd: cannot write the answers"),
+            Ending::Ran(Status::NoMemory) => f.write_str("keepd: no memory"),
+            Ending::BadOptions => {
+                f.write_str("keepd: bad options; usage: keepd [--cut N] < SCRIPT")
+            }
+        }
+    }
+}

@@ -1,0 +1,19 @@
+-- What the lines so far were answered, and enough may still be read for the number.
+use Rattle.std.proofs.Common.{◌+◌, ◌≤◌}
+use Rattle.keep_script.proofs.RunLemmas.{Progress}
+use Rattle.keep_script.specs.Input.{Counted, ahead_of, left_of}
+use Rattle.keep_script.specs.Line.{longest_script}
+use Rattle.keep_script.specs.State.{state_of}
+use Rattle.keep_script.proofs.session.Session.answer_all.Given as goal
+
+abbrev pub invariant-loop-number : goal.invariant-loop-number
+invariant-loop-number g l = record {
+  so_far : Progress
+      (left_of l.initial.self.input (g.R.Read.remaining l.initial.reader)) (left_of l.self.input (g.R.Read.remaining l.reader))
+      (g.W.Write.contents l.initial.writer) (g.W.Write.contents l.writer)
+      (state_of l.initial.self l.initial.book) (state_of l.self l.book) l.number;
+  counted : Counted
+      (left_of l.initial.self.input (g.R.Read.remaining l.initial.reader)) (ahead_of l.initial.self.input)
+      (left_of l.self.input (g.R.Read.remaining l.reader)) (ahead_of l.self.input);
+  enough : l.number + ahead_of l.self.input ≤ 1 + longest_script;
+}

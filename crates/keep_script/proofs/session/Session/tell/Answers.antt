@@ -1,0 +1,32 @@
+use Rattle.std.proofs.Common.{refl, sym, ap, ◌∙◌}
+use Rattle.std.specs.Option.{option_copied}
+use Rattle.keep_lines.specs.declared.command.Command.TheVariants as the_command
+use Rattle.keep_script.proofs.AnswerLemmas.{AnswersCommand-puts}
+use Rattle.keep_script.proofs.RestoreLemmas.{Restored-tells}
+use Rattle.keep_script.specs.State.{state_of}
+use Rattle.keep_script.proofs.session.Session.tell.Goals as goal
+
+pub returns-in_ok-noted-in-Same : goal.returns-in_ok-noted-in-Same
+returns-in_ok-noted-in-Same g c =
+    let state = state_of c.args.self.now c.args.book.now in
+    let same = rw c.live-in-Same.ensures at c.same_as-same.ensures in
+    AnswersCommand-puts _ _ state state (the_command.Question c.args.question) _ _ c.put_line.ensures (rw c.in-Same.is (
+      (
+        c.in_ok-noted-in-Same.noted.now,
+        sym c.get.ensures ∙ ap option_copied c.in_ok-noted-in-Same.ensures.ok_part,
+        c.same_as-same.result,
+        same,
+        refl,
+      ),
+      refl,
+    ))
+
+pub returns-in_ok-name-in-Restore : goal.returns-in_ok-name-in-Restore
+returns-in_ok-name-in-Restore g c =
+    let state = state_of c.args.self.now c.args.book.now in
+    let meant = rw c.history-in-Restore.ensures at c.find-found.ensures in
+    let told = rw c.view.ensures at c.restore.ensures.restored in
+    AnswersCommand-puts _ _ state state (the_command.Question c.args.question) _ _ c.write_restore.ensures (rw c.in-Restore.is (
+      Restored-tells state c.in-Restore.target c.in_ok-name-in-Restore.name c.restore.result (sym meant ∙ c.in_ok-name-in-Restore.ensures.ok_part) told,
+      refl,
+    ))
