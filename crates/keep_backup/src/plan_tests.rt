@@ -1,4 +1,5 @@
 use crate::{BackupFacts, Cut, plan_backup};
+use keep_catalog::LiveRepo;
 use keep_change::Planned;
 use keep_journal::History;
 use keep_names::{FileName, Kind, id_of};
@@ -30,7 +31,8 @@ fn plan_of(
     cut: Cut,
 ) -> Result<Planned, PlanError> {
     let history = History::new(alloc, 0);
-    let view = View::without_events(&repo, &history);
+    let live = LiveRepo::new(alloc, repo);
+    let view = View::without_events(&live, &history);
     plan_backup(alloc, &view, files, &facts(alloc, time)?, cut)
 }
 

@@ -1,4 +1,5 @@
 use crate::store;
+use keep_catalog::LiveRepo;
 use keep_change::PackMark;
 use keep_journal::History;
 use keep_names::{BlobId, BlobType, FileName, Id, Kind, id_of};
@@ -48,7 +49,8 @@ fn stored(alloc: Global, repo: Repo, texts: &[(BlobType, &str)]) -> Result<Store
         blobs.push((*blob_type, bytes))?;
     }
     let history = History::new(alloc, 0);
-    store(alloc, &View::without_events(&repo, &history), &blobs)
+    let live = LiveRepo::new(alloc, repo);
+    store(alloc, &View::without_events(&live, &history), &blobs)
 }
 
 // The kinds of the added files, and how many bytes each has.

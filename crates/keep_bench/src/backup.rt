@@ -7,6 +7,7 @@ ghost use Rattle.keep_bench.specs.Backup.{backed_up_of, bench_facts, bench_file}
 ghost use Rattle.keep_bench.specs.Backup as spec;
 
 use keep_backup::{BackupFacts, Cut, plan_backup};
+use keep_catalog::LiveRepo;
 use keep_change::Change;
 use keep_journal::History;
 use keep_names::Id;
@@ -29,11 +30,11 @@ pub(crate) struct BackedUp {
 pub(crate) fn back_up(alloc: Global, bytes: Vec<u8>) -> Result<BackedUp, PlanError>
     ensures { Answers Memory (λ told. told) (backed_up_of bytes.items) result }
 {
-    let repo = Repo::new(alloc);
+    let live = LiveRepo::new(alloc, Repo::new(alloc));
     let history = History::new(alloc, 0);
     let files = files_of(alloc, bytes)?;
     let facts = facts(alloc)?;
-    let view = View::without_events(&repo, &history);
+    let view = View::without_events(&live, &history);
     let plan = plan_backup(alloc, &view, &files, &facts, Cut::after(CUT))?;
     Ok(told_of(&plan.change))
 }

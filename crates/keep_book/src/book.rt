@@ -1,6 +1,7 @@
 ghost use Rattle.std.specs.Prelude.{◌≡◌, ◌+◌, ◌<◌, true, IfOk, IsSome, IsTrue, OnOk, OnErr};
 ghost use Rattle.keep_repo.specs.Repository.{Repository, held};
 ghost use Rattle.keep_change.specs.Change.{is_ready};
+ghost use Rattle.keep_change.specs.Form.{HasNoFacetTwice};
 ghost use Rattle.keep_change.specs.Result.{result_of, reverse_of};
 ghost use Rattle.keep_change.specs.declared.change.Change.{Change};
 ghost use Rattle.keep_journal.specs.Event.{number_of};
@@ -15,6 +16,7 @@ ghost use Rattle.keep_book.specs.Request as request;
 
 use crate::checks::{check_commit, check_empty, check_redo, check_undo};
 use crate::reply::{Refusal, Told};
+use keep_catalog::LiveRepo;
 use keep_change::Planned;
 use keep_journal::{Entry, Event, History};
 use keep_repo::Repo;
@@ -23,10 +25,10 @@ use std::alloc::{AllocError, Global};
 use std::marker::Model;
 
 /// A repository under numbered changes.
-#[derive(Debug, Drop)]
+#[derive(Drop)]
 pub struct Book {
     /// What the changes that can still be undone make of the opening.
-    live: Repo,
+    live: LiveRepo,
     history: History,
 }
 
@@ -55,7 +57,7 @@ impl Book {
         ensures { result ≡ new_book opening }
     {
         Book {
-            live: opening,
+            live: LiveRepo::new(alloc, opening),
             history: History::new(alloc, 0),
         }
     }
@@ -64,14 +66,30 @@ impl Book {
     pub fn repo(&self) -> Result<Repo, AllocError>
         ensures { IfOk result (λ repo. repo ≡ self.now.live) }
     {
-        self.live.copy()
+        self.live.repo().copy()
     }
 
     /// The present repository, lent.
     pub fn live(&self) -> &Repo
         ensures { result.now ≡ self.now.live }
     {
-        &self.live
+        self.live.repo()
+    }
+
+    /// Reads the files of the live repository, unless each was read before. A view then lends what they say, and
+    /// each change costs what its own files hold. Where there is no memory for it, a view reads them itself.
+    pub fn refresh(&mut self)
+        ensures { self.new ≡ self.old }
+    {
+        self.live.refresh();
+    }
+
+    /// Hashes each blob of the live repository that wasn't hashed before, if its files were read. Where memory runs
+    /// out, some are.
+    pub fn hash_all(&mut self)
+        ensures { self.new ≡ self.old }
+    {
+        self.live.hash_all();
     }
 
     /// The live repository, the snapshots that the book knows, and the number of the last event. It
@@ -95,10 +113,10 @@ impl Book {
         ensures after { self.new ≡ state_after self.old (request.Commit planned) result }
         ensures made { IfOk result (λ told. JustCommitted self.old told.number self.new) }
     {
-        check_commit(&self.history, &self.live, &planned)?;
+        check_commit(&self.history, self.live.repo(), &planned)?;
         self.history.reserve()?;
         let Planned { change, seen: _ } = planned;
-        change.apply(&mut self.live)?;
+        self.live.apply(&change)?;
         let number = self.history.last_change() + 1;
         Ok(post(&mut self.history, Event::Commit(number, change)))
     }
@@ -138,7 +156,7 @@ impl Book {
         ensures reply { Replies self.old (request.Redo n) result }
         ensures after { self.new ≡ state_after self.old (request.Redo n) result }
     {
-        check_redo(&self.history, &self.live, n)?;
+        check_redo(&self.history, self.live.repo(), n)?;
         self.history.reserve()?;
         apply_change(&self.history, n, &mut self.live)?;
         Ok(post(&mut self.history, Event::Redo(n)))
@@ -174,28 +192,30 @@ fn post(history: &mut History, event: Event) -> Told
 }
 
 /// Makes change n of the history.
-fn apply_change(history: &History, n: u64, repo: &mut Repo) -> Result<(), AllocError>
-    requires { (c : Change) → change_of history.now.journal n ≡ Some c → is_ready (held repo.old) c ≡ true }
+fn apply_change(history: &History, n: u64, live: &mut LiveRepo) -> Result<(), AllocError>
+    requires once { (c : Change) → change_of history.now.journal n ≡ Some c → HasNoFacetTwice c }
+    requires ready { (c : Change) → change_of history.now.journal n ≡ Some c → is_ready (held live.old) c ≡ true }
     ensures ok { OnOk result ((c : Change) → change_of history.now.journal n ≡ Some c →
-        repo.new ≡ result_of c repo.old) }
-    ensures err { OnErr result (repo.new ≡ repo.old) }
+        live.new ≡ result_of c live.old) }
+    ensures err { OnErr result (live.new ≡ live.old) }
 {
     match history.change(n) {
-        Some(change) => change.apply(repo),
+        Some(change) => live.apply(change),
         None => Ok(()),
     }
 }
 
 /// Takes change n of the history back.
-fn unapply_change(history: &History, n: u64, repo: &mut Repo) -> Result<(), AllocError>
-    requires { (c : Change) → change_of history.now.journal n ≡ Some c →
-        is_ready (held repo.old) (reverse_of c) ≡ true }
+fn unapply_change(history: &History, n: u64, live: &mut LiveRepo) -> Result<(), AllocError>
+    requires once { (c : Change) → change_of history.now.journal n ≡ Some c → HasNoFacetTwice c }
+    requires ready { (c : Change) → change_of history.now.journal n ≡ Some c →
+        is_ready (held live.old) (reverse_of c) ≡ true }
     ensures ok { OnOk result ((c : Change) → change_of history.now.journal n ≡ Some c →
-        repo.new ≡ result_of (reverse_of c) repo.old) }
-    ensures err { OnErr result (repo.new ≡ repo.old) }
+        live.new ≡ result_of (reverse_of c) live.old) }
+    ensures err { OnErr result (live.new ≡ live.old) }
 {
     match history.change(n) {
-        Some(change) => change.unapply(repo),
+        Some(change) => live.unapply(change),
         None => Ok(()),
     }
 }

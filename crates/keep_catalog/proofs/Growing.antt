@@ -13,12 +13,8 @@ use Rattle.keep_names.specs.declared.blob.BlobId.{BlobId}
 use Rattle.keep_names.specs.declared.blob.BlobType.TheVariants.{Content}
 use Rattle.keep_names.specs.declared.id.Id.{Id}
 use Rattle.keep_names.specs.declared.blob.Blob.{Blob}
-use Rattle.keep_index.specs.Index.{PackData, pack_view}
-use Rattle.keep_index.specs.declared.index.IndexedPack.{IndexedPack}
-use Rattle.keep_repo.specs.Repository.{Repository}
-use Rattle.keep_catalog.specs.Files.{header_in, index_in, what_is_read}
 use Rattle.keep_catalog.specs.Orders.{spot_cmp, packed_blob_eq}
-use Rattle.keep_catalog.specs.Places.{candidate, is_among, listed_in, listed_of, packed_of, listings_of, stored_in}
+use Rattle.keep_catalog.specs.Places.{candidate, is_among}
 use Rattle.keep_catalog.specs.declared.spot.PackedBlob.{PackedBlob}
 use Rattle.keep_catalog.specs.declared.spot.Spot.{Spot}
 use Rattle.keep_catalog.proofs.Ordered.{find_append}
@@ -55,30 +51,19 @@ pub map-found : {X Y : Type 0} (f : X → Y) (xs : List X) (found : Option X) �
 map-found f xs None = map-append f xs []
 map-found f xs (Some x) = map-append f xs (x ∷ [])
 
-put_last : (k a b : Bool) → cond k true (a || b) ≡ (a || (b || (k || false)))
-put_last true true b = refl
-put_last true false true = refl
-put_last true false false = refl
-put_last false true b = refl
-put_last false false true = refl
-put_last false false false = refl
+put_last : {V : Type 0} (k a : Bool) (v before : V) → cond k v (cond a v before) ≡ cond (a || k) v before
+put_last true true v before = refl
+put_last true false v before = refl
+put_last false true v before = refl
+put_last false false v before = refl
 
--- a set of places that takes one more
-pub one_stored : (before now later : Bool) (places : List PackedBlob) (p q : PackedBlob) → now ≡ (before || is_among places q) → later ≡ cond (packed_blob_eq p q) true now → later ≡ (before || is_among (places ++ p ∷ []) q)
-one_stored before now later places p q so step =
-    step ∙ ap (λ b. cond (packed_blob_eq p q) true b) so
-    ∙ ap (λ b. cond b true (before || is_among places q)) ((eq_by_cmp_equiv packed_blob_total).symm p q)
-    ∙ put_last (packed_blob_eq q p) before (is_among places q)
-    ∙ ap (λ b. before || b) (sym (list_any-append (packed_blob_eq q) places (p ∷ [])))
-
--- a set of places that takes a list of them
-pub all_stored : (now later : Bool) (places others : List PackedBlob) (q : PackedBlob) → now ≡ is_among places q → later ≡ (now || is_among others q) → later ≡ is_among (places ++ others) q
-all_stored now later places others q so step =
-    step ∙ ap (λ b. b || is_among others q) so ∙ sym (list_any-append (packed_blob_eq q) places others)
-
-or_or : {A : Type 0} (a b c : Option A) → option_or (option_or a b) c ≡ option_or a (option_or b c)
-or_or None b c = refl
-or_or (Some x) b c = refl
+-- places that were all given one value, and then one more
+pub one_stored : {V : Type 0} (v before now later : V) (places : List PackedBlob) (p q : PackedBlob) → now ≡ cond (is_among places q) v before → later ≡ cond (packed_blob_eq p q) v now → later ≡ cond (is_among (places ++ p ∷ []) q) v before
+one_stored v before now later places p q so step =
+    step ∙ ap (cond (packed_blob_eq p q) v) so
+    ∙ ap (λ b. cond b v (cond (is_among places q) v before)) ((eq_by_cmp_equiv packed_blob_total).symm p q)
+    ∙ put_last (packed_blob_eq q p) (is_among places q) v before
+    ∙ ap (λ b. cond b v before) (ap (λ b. is_among places q || b) (sym (or-false (packed_blob_eq q p))) ∙ sym (list_any-append (packed_blob_eq q) places (p ∷ [])))
 
 -- the first listing of the blob at the spot
 abbrev pub found_among : (PackedBlob → Bool) → BlobId → Spot → List (PackedBlob × Id) → Option Id
@@ -88,17 +73,6 @@ module _ (stored : PackedBlob → Bool) (blob : BlobId) (spot : Spot) where
   pub found-append : (xs ys : List (PackedBlob × Id)) → found_among stored blob spot (xs ++ ys) ≡ option_or (found_among stored blob spot xs) (found_among stored blob spot ys)
   found-append xs ys = ap (find spot_cmp spot) (filter_map-append (candidate stored blob) xs ys) ∙ find_append spot_cmp spot _ _
 
-  -- listings that were gathered behind others
-  pub more_listed : (before now later : Option Id) (xs ys : List (PackedBlob × Id)) → now ≡ option_or before (found_among stored blob spot xs) → later ≡ option_or now (found_among stored blob spot ys) → later ≡ option_or before (found_among stored blob spot (xs ++ ys))
-  more_listed before now later xs ys so step =
-      step ∙ ap (λ o. option_or o (found_among stored blob spot ys)) so ∙ or_or before _ _
-      ∙ ap (option_or before) (sym (found-append xs ys))
-
-  -- a list of listings behind all before
-  pub all_listed : (now later : Option Id) (xs ys : List (PackedBlob × Id)) → now ≡ found_among stored blob spot xs → later ≡ option_or now (found_among stored blob spot ys) → later ≡ found_among stored blob spot (xs ++ ys)
-  all_listed now later xs ys so step =
-      step ∙ ap (λ o. option_or o (found_among stored blob spot ys)) so ∙ sym (found-append xs ys)
-
 -- what plain data is where a list has none
 abbrev pub no_id : Id
 no_id = record { 0 = [] }
@@ -106,35 +80,8 @@ no_id = record { 0 = [] }
 abbrev pub no_entry : Blob
 no_entry = record { blob = record { id = no_id; blob_type = Content }; offset = 0; length = 0 }
 
-abbrev pub no_indexed : Blob
-no_indexed = record { blob = record { id = no_id; blob_type = Content }; offset = 0; length = 0 }
-
 abbrev pub by_index : Id → PackedBlob → PackedBlob × Id
 by_index index p = (p, index)
-
--- the listings of an index whose packs are these
-abbrev pub listings : Id → List PackData → List (PackedBlob × Id)
-listings index packs = map (by_index index) (flat_map listed_of packs)
-
-pub listings-taken : (index : Id) (packs : List IndexedPack) (i : ℕ) (pack d : IndexedPack) → i < length packs → pack ≡ get_or packs i d → listings index (map pack_view (take (i + 1) packs)) ≡ listings index (map pack_view (take i packs)) ++ map (by_index index) (listed_of (pack_view pack))
-listings-taken index packs i pack d lt is =
-    ap (listings index) (map_taken packs i pack d lt is pack_view)
-    ∙ ap (map (by_index index)) (flat_map-append listed_of (map pack_view (take i packs)) (pack_view pack ∷ []) ∙ ap (λ ps. flat_map listed_of (map pack_view (take i packs)) ++ ps) (append-nil (listed_of (pack_view pack))))
-    ∙ map-append (by_index index) (flat_map listed_of (map pack_view (take i packs))) (listed_of (pack_view pack))
-
-pub listed-taken : (index pack : Id) (blobs : List Blob) (i : ℕ) → i < length blobs → map (by_index index) (listed_of (record { id = pack; blobs = take (i + 1) blobs })) ≡ map (by_index index) (listed_of (record { id = pack; blobs = take i blobs })) ++ (packed_of pack (get_or blobs i no_indexed), index) ∷ []
-listed-taken index pack blobs i lt =
-    ap (map (by_index index)) (map_taken blobs i (get_or blobs i no_indexed) no_indexed lt refl (packed_of pack))
-    ∙ map-append (by_index index) (map (packed_of pack) (take i blobs)) (packed_of pack (get_or blobs i no_indexed) ∷ [])
-
--- what was read of an index, and of a pack, is what it lists, and what it has
-pub listings_read : (r : Repository) (index : Id) (packs : List PackData) → packs ≡ what_is_read (index_in r index) → listings index packs ≡ listings_of r index
-unfolding listed_in
-listings_read r index packs is = ap (listings index) is
-
-pub stored_read : (r : Repository) (pack : Id) (entries : List Blob) → entries ≡ what_is_read (header_in r pack) → map (packed_of pack) entries ≡ stored_in r pack
-unfolding stored_in
-stored_read r pack entries is = ap (map (packed_of pack)) is
 
 abbrev pub no_blob : BlobId
 no_blob = record { id = no_id; blob_type = Content }

@@ -1,5 +1,5 @@
 -- How many levels of trees a blob has, and the first refusal of a list of blobs.
-use Rattle.std.proofs.Common.{◌≡◌, ℕ, zero, suc, ◌+◌, ◌-◌, ◌<◌, ◌≤◌, max, cond, List, [], ◌∷◌, ◌++◌, length, get_or, take, drop, Option, None, Some, Ok, Err, refl, sym, ap, ◌∙◌, arith}
+use Rattle.std.proofs.Common.{◌≡◌, ℕ, zero, suc, ◌+◌, ◌-◌, ◌<◌, ◌≤◌, max, cond, List, [], ◌∷◌, ◌++◌, length, get_or, take, drop, Option, None, Some, Ok, refl, sym, ap, ◌∙◌, arith}
 use Rattle.std.proofs.lemmas.List.{take-append-drop}
 use Rattle.std.specs.Option.{option_or}
 use Rattle.keep_names.specs.declared.blob.BlobId.{BlobId}
@@ -79,9 +79,6 @@ module _ (named : Naming) where
     levels_of zero = rw tree refl
     levels_of (suc levels) = rw is (have.exact levels)
 
-  pub no_height : HaveHeight named [] 0
-  no_height = record { exact = λ levels. refl }
-
   pub one_higher : (xs : List BlobId) (i : ℕ) (x d : BlobId) (a b : ℕ) → i < length xs → x ≡ get_or xs i d → HaveHeight named (take i xs) a → HasHeight named x b → HaveHeight named (take (i + 1) xs) (max a b)
   one_higher xs i x d a b lt is have has = record {
     exact = λ levels.
@@ -91,18 +88,6 @@ module _ (named : Naming) where
         ∙ ap (λ o. option_or o (too_deep b levels)) (have.exact levels)
         ∙ deeper a b levels;
   }
-
-  -- a blob that isn't had, or a tree with no level left, or what a tree names, refuses
-  pub own_refusal : (levels : ℕ) (blob : BlobId) (e : ReachError) → blob.blob_type ≡ Content → named blob ≡ Err e → refusal_at named levels blob ≡ Some e
-  own_refusal zero blob e piece is = at_zero named blob blob.blob_type piece ∙ ap (own_or (λ _. None)) is
-  own_refusal (suc levels) blob e piece is = rw is refl
-
-  pub no_level : (blob : BlobId) → blob.blob_type ≡ Tree → refusal_at named 0 blob ≡ Some TooDeep
-  no_level blob tree = rw tree refl
-
-  pub own_tree_refusal : (levels : ℕ) (blob : BlobId) (e : ReachError) → 0 < levels → named blob ≡ Err e → refusal_at named levels blob ≡ Some e
-  own_tree_refusal zero blob e h is = absurd (omega arith)
-  own_tree_refusal (suc levels) blob e h is = rw is refl
 
   pub refused_below : (levels : ℕ) (blob : BlobId) (xs : List BlobId) (e : ReachError) → 0 < levels → named blob ≡ Ok xs → first_of (refusal_at named (levels - 1)) xs ≡ Some e → refusal_at named levels blob ≡ Some e
   refused_below zero blob xs e h is below = absurd (omega arith)

@@ -134,7 +134,7 @@ first_chosen r blob = cases (find (open_at r blob) es) refl where
 
 -- ---- in the words of indexes, headers and bytes
 
-both_true : (a b : Bool) → (a && b) ≡ true → (a ≡ true) × (b ≡ true)
+pub both_true : (a b : Bool) → (a && b) ≡ true → (a ≡ true) × (b ≡ true)
 both_true true b h = (refl, h)
 both_true false b h = cc h
 

@@ -10,10 +10,9 @@ use Rattle.keep_names.specs.declared.id.Id.{Id}
 use Rattle.keep_repo.specs.Repository.{Repository}
 use Rattle.keep_tree.specs.Tree.{node_view}
 use Rattle.keep_tree.specs.declared.node.Node.{Node}
-use Rattle.keep_catalog.specs.Naming.{blobs_named, missing, named_at, named_by, named_of, names_at, nodes_at_spot, nodes_chosen, nodes_under, why_missing}
-use Rattle.keep_catalog.specs.Places.{chosen_listing, spots_of}
+use Rattle.keep_catalog.specs.Naming.{blobs_named, missing, named_at, named_by, named_of, names_at, nodes_at_spot, nodes_chosen, nodes_under}
+use Rattle.keep_catalog.specs.Places.{chosen_listing}
 use Rattle.keep_catalog.specs.declared.spot.Spot.{Spot}
-use Rattle.std.specs.FinMap as finite
 use Rattle.keep_catalog.proofs.Growing.{map_taken}
 
 pub named-taken : (nodes : List Node) (i : ℕ) (node : Node) → i < length nodes → node ≡ get_or nodes i node → flat_map named_of (map node_view (take (i + 1) nodes)) ≡ flat_map named_of (map node_view (take i nodes)) ++ named_of (node_view node)
@@ -30,10 +29,6 @@ named_there r blob e is = ap (named_at r blob) is
 pub named_nowhere : (r : Repository) (blob : BlobId) → chosen_listing r blob ≡ None → named_by r blob ≡ Err (missing r blob)
 unfolding named_by
 named_nowhere r blob is = ap (named_at r blob) is
-
-pub missing_is : (r : Repository) (blob : BlobId) (es : List (Spot × Id)) → finite.entries (spots_of r blob) ≡ es → why_missing r blob es ≡ missing r blob
-unfolding missing
-missing_is r blob es is = ap (why_missing r blob) (sym is)
 
 -- a piece that is had names nothing
 pub pieces_name_nothing : (r : Repository) (blob : BlobId) (names : List BlobId) → blob.blob_type ≡ Content → named_by r blob ≡ Ok names → named_by r blob ≡ Ok []

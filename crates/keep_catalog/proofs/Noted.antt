@@ -1,6 +1,5 @@
--- Files that were read, and those that are noted as unread.
-use Rattle.std.proofs.Common.{◌≡◌, ◌≢◌, ℕ, List, [], ◌∷◌, ◌++◌, Option, None, Some, Result, Ok, Err, option_map, option_to_list, refl, sym, ap, ◌∙◌}
-use Rattle.std.proofs.lemmas.List.{append-nil}
+-- Files that were read.
+use Rattle.std.proofs.Common.{◌≡◌, ◌≢◌, ℕ, List, None, Some, Result, Err, option_map, refl, sym, ap, ◌∙◌}
 use Rattle.std.specs.FinMap as finite
 use Rattle.keep_names.specs.FileName.{named}
 use Rattle.keep_names.specs.declared.file_name.FileName.{FileName}
@@ -11,7 +10,7 @@ use Rattle.keep_pack.specs.Reading.{Refuses}
 use Rattle.keep_names.specs.declared.blob.Blob.{Blob}
 use Rattle.keep_pack.specs.declared.pack_error.PackError.{PackError}
 use Rattle.keep_pack.specs.declared.pack_error.PackError.TheVariants.{ShortPack, BadHeaderLength, BadBlobType, LengthsDontFit, Memory}
-use Rattle.keep_catalog.specs.Files.{file_in, refusal_in}
+use Rattle.keep_catalog.specs.Files.{file_in}
 
 module _ {X E : Type 0} (r : Repository) (kind : Kind) (id : Id) (reader : List ℕ → Result X E) where
   -- there is no such file
@@ -24,16 +23,6 @@ module _ {X E : Type 0} (r : Repository) (kind : Kind) (id : Id) (reader : List 
   unfolding file_in
   read_as name bytes lent answer named_so there same is =
       ap (option_map reader) (sym (there ∙ ap (finite.get r.files) named_so)) ∙ ap (λ b. Some (reader b)) (sym same) ∙ ap Some is
-
-module _ {X E U : Type 0} (note : E → U) (found : Option (Result X E)) (noted : List U) where
-  pub absent_unnoted : found ≡ None → noted ≡ noted ++ option_to_list (option_map note (refusal_in found))
-  absent_unnoted is = sym (rw is (append-nil noted))
-
-  pub read_unnoted : (x : X) → found ≡ Some (Ok x) → noted ≡ noted ++ option_to_list (option_map note (refusal_in found))
-  read_unnoted x is = sym (rw is (append-nil noted))
-
-  pub refused_noted : (e : E) → found ≡ Some (Err e) → noted ++ note e ∷ [] ≡ noted ++ option_to_list (option_map note (refusal_in found))
-  refused_noted e is = rw is refl
 
 -- a pack's refusal that isn't want of memory is the header's
 pub refused : (e : PackError) (header : Result (List Blob) PackError) → e ≢ Memory → Refuses e header → header ≡ Err e

@@ -19,7 +19,7 @@ use Rattle.keep_snap.specs.declared.snap.Snap.{Snap}
 use Rattle.keep_catalog.specs.Files.{snap_in, snaps_in}
 use Rattle.keep_catalog.specs.Naming.{named_by}
 use Rattle.keep_catalog.specs.Orders.{same_id}
-use Rattle.keep_catalog.specs.Read.{snap_at}
+use Rattle.keep_catalog.specs.Kept.{snap_at}
 use Rattle.keep_catalog.specs.Reach.{HasBlob, Reaches, first_of, most_levels}
 use Rattle.keep_catalog.specs.Snapshots.{IsOwedByOne, IsUsed, Owes, broken_by, broken_in, refusal_from, refusal_of, refusals_of, root_of}
 use Rattle.keep_catalog.specs.Walk.{ReachedFrom}
@@ -235,6 +235,3 @@ module _ (r : Repository) (snaps : BTreeMap Id Snap) (ordered : IsOrdered id_cmp
 module _ (r : Repository) (snapshot : Id) where
   pub its_refusal : (snap : SnapData) → Some snap ≡ snap_in r snapshot → refusal_of r snapshot ≡ refusal_from r (root_of snap)
   its_refusal snap is = rw (sym is) refl
-
-  pub its_reach : (snap : SnapData) (b : BlobId) → Some snap ≡ snap_in r snapshot → Reaches (named_by r) most_levels (root_of snap) b ≡ Owes r snapshot b
-  its_reach snap b is = ap (λ o. IsSomeAnd o (λ s. Reaches (named_by r) most_levels (root_of s) b)) is

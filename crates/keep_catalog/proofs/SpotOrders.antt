@@ -1,4 +1,4 @@
--- The orders of spots and places are total, and only a spot ties with itself.
+-- The orders of spots, places and listings are total, and only a spot ties with itself.
 use Rattle.std.proofs.Common.{◌≡◌, ◌↔◌, ◌<◌, ℕ, true, refl, sym, ap, ◌∙◌, inl, inr, arith, Ordering, Less, Equal, Greater}
 use Rattle.std.proofs.lemmas.Cmp.{ranked}
 use Rattle.std.specs.Cmp.{IsTotalOrder, tied_itself}
@@ -10,9 +10,10 @@ use Rattle.keep_names.proofs.Orders.{blob_exact, blob_total, id_exact, id_total}
 use Rattle.keep_names.specs.Orders.{id_cmp, blob_cmp}
 use Rattle.keep_names.specs.declared.blob.BlobId.{BlobId}
 use Rattle.keep_names.specs.declared.id.Id.{Id}
-use Rattle.keep_catalog.specs.Orders.{IsLessSpot, spot_cmp, packed_blob_cmp, blob_eq, packed_blob_eq, spot_eq}
+use Rattle.keep_catalog.specs.Orders.{IsLessSpot, listing_cmp, spot_cmp, packed_blob_cmp, blob_eq, packed_blob_eq, spot_eq}
 use Rattle.keep_catalog.specs.declared.spot.PackedBlob.{PackedBlob}
 use Rattle.keep_catalog.specs.declared.spot.Spot.{Spot}
+use Rattle.keep_catalog.specs.contracts.spot.ListingOrd.TheImpl.Laws as the_listing_laws
 use Rattle.keep_catalog.specs.contracts.spot.PackedBlobOrd.TheImpl.Laws as the_packed_blob_laws
 use Rattle.keep_catalog.specs.contracts.spot.SpotOrd.TheImpl.Laws as the_spot_laws
 
@@ -31,6 +32,14 @@ pub packed_blob_exact : IsAntisymmetric packed_blob_cmp
 packed_blob_exact a b tied =
     ap (λ (p : BlobId × Spot). record { blob = p.0; spot = p.1 })
     (exact_pairs blob_cmp spot_cmp blob_exact spot_exact (a.blob, a.spot) (b.blob, b.spot) tied)
+
+pub listing_total : IsTotalOrder listing_cmp
+listing_total = the_listing_laws.total-law
+
+pub listing_exact : IsAntisymmetric listing_cmp
+listing_exact a b tied =
+    ap (λ (p : Spot × Id). record { spot = p.0; index = p.1 })
+    (exact_pairs spot_cmp id_cmp spot_exact id_exact (a.spot, a.index) (b.spot, b.index) tied)
 
 pub blob_eq_same : (a b : BlobId) → blob_eq a b ≡ true → a ≡ b
 blob_eq_same = tells_apart blob_exact

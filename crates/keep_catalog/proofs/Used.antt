@@ -29,10 +29,14 @@ use Rattle.keep_catalog.specs.Walk.{Knows, Walked}
 use Rattle.keep_catalog.specs.declared.found.Found.{Found}
 use Rattle.keep_catalog.specs.declared.reach_error.ReachError.{ReachError}
 use Rattle.keep_catalog.proofs.Ordered.{in_order-same, is_some-keyed, keys_in_order}
-use Rattle.keep_catalog.proofs.Present.{same_test}
 use Rattle.keep_catalog.proofs.Reached.{SomeOf, name_there, owing_is_there, some_name, some_named}
 use Rattle.keep_catalog.proofs.SpotOrders.{blob_eq_refl, blob_eq_same}
 use Rattle.keep_catalog.proofs.Walking.{in_first, in_one}
+
+pub same_test : (a b : Bool) → (a ≡ true → b ≡ true) → (b ≡ true → a ≡ true) → a ≡ b
+same_test true b f g = sym (f refl)
+same_test false true f g = g refl
+same_test false false f g = refl
 
 in_second : (xs ys : List BlobId) (b : BlobId) → HasBlob ys b → HasBlob (xs ++ ys) b
 in_second [] ys b h = h

@@ -108,14 +108,7 @@ module _ (old new : Walked) (blob : BlobId) (found : Found) (put : (q : BlobId) 
 abbrev in_order : List (BlobId × Found) → Type 0
 in_order es = IsStrictlySortedBy blob_cmp (keys_of es)
 
-none_ordered : in_order []
-unfolding IsStrictlySortedBy
-none_ordered = tt
-
 module _ (named : Naming) (chosen : Choosing) where
-  pub same_grew : (levels : ℕ) (blob : BlobId) (walked : Walked) → Grew named levels blob walked walked
-  same_grew levels blob walked = record { kept = λ b was. was; came = λ b was. inl was }
-
   -- what a walk over a list has done
   pub record HasWalked (levels : ℕ) (blobs : List BlobId) (highest : ℕ) (old now : Walked) : Type 0 where
     pub walked : IsWalked named chosen now
@@ -123,15 +116,6 @@ module _ (named : Naming) (chosen : Choosing) where
     pub within : highest ≤ levels
     pub known : KnowsAll now blobs
     pub grew : GrewAll named levels blobs old now
-
-  pub none_walked : (levels : ℕ) (old : Walked) → IsWalked named chosen old → HasWalked levels [] 0 old old
-  none_walked levels old walked = record {
-    walked = walked;
-    height = record { exact = λ n. refl };
-    within = omega arith;
-    known = record { each = λ b h. absurd h };
-    grew = record { kept = λ b was. was; came = λ b was. inl was };
-  }
 
   pub one_walked : (levels : ℕ) (xs : List BlobId) (i : ℕ) (x d : BlobId) (highest height : ℕ) (old now later : Walked) → i < length xs → x ≡ get_or xs i d → HasWalked levels (take i xs) highest old now → HasHeight named x height → height ≤ levels → Knows later x → IsWalked named chosen later → Grew named levels x now later → HasWalked levels (take (i + 1) xs) (max highest height) old later
   one_walked levels xs i x d highest height old now later lt is has tall within knows walked grew = record {
@@ -168,15 +152,6 @@ module _ (named : Naming) (chosen : Choosing) where
   reached_known walked (suc levels) a b closed knows (inr through) =
       reached_known walked levels through.0 b closed (closed.closed a through.0 knows through.1) through.2
 
-  -- after a walk from nothing just what is reached is known
-  pub just_reached : (levels : ℕ) (top : BlobId) (none walked : Walked) → none.entries ≡ [] → Knows walked top → IsWalked named chosen walked → Grew named levels top none walked → (b : BlobId) → Knows walked b ↔ Reaches named levels top b
-  just_reached levels top none walked empty knows closed grew b = (
-    λ knew. elim (grew.came b knew) [ inl was ↦ absurd (nothing was) | inr from ↦ from ],
-    λ reaches. reached_known walked levels top b closed knows reaches,
-  ) where
-    nothing : Knows none b → ⊥
-    nothing was = let h : is_some (tree.get blob_cmp none b) ≡ true = was.known in cc (rw empty at h)
-
   -- a map with the same entries
   pub same_walked : (old new : Walked) → new.entries ≡ old.entries → IsWalked named chosen old → IsWalked named chosen new
   same_walked old new same walked = record {
@@ -196,16 +171,6 @@ module _ (named : Naming) (chosen : Choosing) where
   ) where
     nothing : Knows none b → ⊥
     nothing was = let h : is_some (tree.get blob_cmp none b) ≡ true = was.known in cc (rw empty at h)
-
-  pub empty_walked : (none : Walked) → none.entries ≡ [] → IsWalked named chosen none
-  empty_walked none empty = record {
-    heights = λ b h is. cc (rw empty at is);
-    places = λ b h is. cc (rw empty at is);
-    closed = λ a b was names. absurd (nothing a was);
-    ordered = subst in_order (sym empty) none_ordered;
-  } where
-    nothing : (b : BlobId) → Knows none b → ⊥
-    nothing b was = let h : is_some (tree.get blob_cmp none b) ≡ true = was.known in cc (rw empty at h)
 
   -- a blob that names nothing names no blob
   pub nothing_named : (blob : BlobId) → named blob ≡ Ok [] → (b : BlobId) → Names named blob b → ⊥

@@ -1,12 +1,13 @@
 -- What the files of a repository say, and which of them can't be read.
-use Rattle.std.specs.Prelude.{ℕ, List, [], ◌++◌, map, Option, None, Some, Result, Ok, Err}
+use Rattle.std.specs.Prelude.{ℕ, List, [], map, Option, None, Some, Result, Ok, Err}
 use Rattle.std.specs.List.{filter_map}
 use Rattle.std.specs.Option.{option_and_then, option_map}
-use Rattle.std.specs.Result.{result_ok}
+use Rattle.std.specs.Result.{result_err, result_ok}
 use Rattle.std.specs.FinMap as finite
 use Rattle.std.specs.Global.{Vec}
 use Rattle.keep_names.specs.FileName.{named}
 use Rattle.keep_names.specs.Orders.{id_cmp}
+use Rattle.keep_names.specs.declared.file_name.FileName.{FileName}
 use Rattle.keep_names.specs.declared.file_name.Kind.{Kind}
 use Rattle.keep_names.specs.declared.file_name.Kind.TheVariants.{Pack, Index, Snapshot}
 use Rattle.keep_names.specs.declared.id.Id.{Id}
@@ -47,12 +48,6 @@ abbrev pub what_is_read : {X E : Type 0} → Option (Result (List X) E) → List
 what_is_read None = []
 what_is_read (Some (Ok items)) = items
 what_is_read (Some (Err refusal)) = []
-
--- why a file that is there can't be read
-abbrev pub refusal_in : {X E : Type 0} → Option (Result X E) → Option E
-refusal_in None = None
-refusal_in (Some (Ok x)) = None
-refusal_in (Some (Err refusal)) = Some refusal
 
 -- the header of this pack, as it is to be read
 abbrev pub header_in : Repository → Id → Option (Result (List Blob) PackError)
@@ -97,27 +92,24 @@ named_snap r snapshot = option_map (λ snap. (snapshot, snap)) (snap_in r snapsh
 unfoldable pub snaps_in : Repository → finite.FinMap id_cmp SnapData
 snaps_in r = finite.from_entries (filter_map (named_snap r) (ids_in r Snapshot))
 
+-- why the bytes can't be read as a file of the kind
+abbrev pub why_of : Kind → List ℕ → Option FileError
+why_of Pack bytes = option_map refusal.Pack (result_err (header_of bytes))
+why_of Index bytes = option_map refusal.Index (result_err (index_of bytes))
+why_of Snapshot bytes = option_map refusal.Snap (result_err (snap_of bytes))
+
+-- why the file of this name can't be read; none where it isn't there, or can be
+unfoldable pub why_unread : Repository → FileName → Option FileError
+why_unread r name = option_and_then (why_of name.kind) (finite.get r.files name)
+
 -- a file that can't be read, and why
 abbrev pub unread : Kind → Id → FileError → Unread
 unread kind id why = record { name = named kind id; refusal = why }
 
--- this pack, where it can't be read
-unfoldable pub unread_pack : Repository → Id → Option Unread
-unread_pack r pack = option_map (λ why. unread Pack pack (refusal.Pack why)) (refusal_in (header_in r pack))
-
--- this index, where it can't be read
-unfoldable pub unread_index : Repository → Id → Option Unread
-unread_index r index =
-    option_map (λ why. unread Index index (refusal.Index why)) (refusal_in (index_in r index))
-
--- this snapshot, where it can't be read
-unfoldable pub unread_snap : Repository → Id → Option Unread
-unread_snap r snapshot =
-    option_map (λ why. unread Snapshot snapshot (refusal.Snap why)) (refusal_in (snapshot_in r snapshot))
+-- the file of this name, where it can't be read
+abbrev pub unread_at : Repository → FileName → Option Unread
+unread_at r name = option_map (unread name.kind name.id) (why_unread r name)
 
 -- the files that can't be read, in the order of their names
 abbrev pub unread_in : Repository → List Unread
-unread_in r =
-    filter_map (unread_pack r) (ids_in r Pack)
-    ++ filter_map (unread_index r) (ids_in r Index)
-    ++ filter_map (unread_snap r) (ids_in r Snapshot)
+unread_in r = filter_map (unread_at r) (finite.keys r.files)

@@ -1,13 +1,14 @@
 pub mod Chosen
 pub mod Files
+pub mod Kept
 pub mod Naming
 pub mod Ordered
 pub mod Orders
 pub mod Places
 pub mod Reach
-pub mod Read
 pub mod Snapshots
 pub mod Sound
+pub mod Source
 pub mod Used
 pub mod Walk
 pub mod Words

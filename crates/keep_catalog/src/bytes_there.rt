@@ -1,14 +1,11 @@
 ghost use Rattle.std.specs.Prelude.{◌≡◌, option_map};
 ghost use Rattle.keep_catalog.specs.Places as spec;
-ghost use Rattle.keep_catalog.specs.Read.{IsHashed};
+ghost use Rattle.keep_catalog.specs.Kept.{IsHashedIn};
 
 use crate::spot::{PackedBlob, Spot};
-use keep_names::{BlobId, FileName, id_of};
+use crate::stored::Stored;
+use keep_names::{FileName, id_of};
 use keep_repo::Repo;
-use std::collections::BTreeMap;
-
-// Whether places that were hashed are honest.
-pub(crate) type Hashed = BTreeMap<PackedBlob, bool>;
 
 // The bytes at the spot, if its pack is there and has as many.
 pub(crate) fn bytes_at(repo: &Repo, spot: Spot) -> Option<&[u8]>
@@ -32,31 +29,23 @@ fn slice_of(bytes: &[u8], offset: u64, count: u32) -> Option<&[u8]>
     Some(&bytes[start..start + count])
 }
 
-// Whether the bytes at the spot have the blob's id. They are hashed, unless they were before.
-pub(crate) fn is_honest(repo: &Repo, hashed: &Hashed, blob: BlobId, spot: Spot) -> bool
-    requires { IsHashed repo.now hashed.now }
-    ensures { result ≡ spec.is_honest repo.now blob spot }
+// Whether the bytes of the place have the blob's id. They are hashed, unless they were before.
+pub(crate) fn is_honest(repo: &Repo, stored: &Stored, place: PackedBlob) -> bool
+    requires { IsHashedIn repo.now stored.now }
+    ensures { result ≡ spec.is_honest repo.now place.blob place.spot }
 {
-    match hashed.get(&PackedBlob { blob, spot }).copied() {
-        Some(is_honest) => is_honest,
-        None => has_hash(repo, blob, spot),
+    match stored.get(&place).copied() {
+        Some(Some(is_honest)) => is_honest,
+        _ => has_hash(repo, place),
     }
 }
 
-// Hashes the bytes at the spot.
-fn has_hash(repo: &Repo, blob: BlobId, spot: Spot) -> bool
-    ensures { result ≡ spec.is_honest repo.now blob spot }
+// Hashes the bytes of the place.
+pub(crate) fn has_hash(repo: &Repo, place: PackedBlob) -> bool
+    ensures { result ≡ spec.is_honest repo.now place.blob place.spot }
 {
-    match bytes_at(repo, spot) {
-        Some(bytes) => id_of(bytes) == blob.id,
+    match bytes_at(repo, place.spot) {
+        Some(bytes) => id_of(bytes) == place.blob.id,
         None => false,
     }
-}
-
-// Whether the spot is honest and its pack has no mark.
-pub(crate) fn is_open(repo: &Repo, hashed: &Hashed, blob: BlobId, spot: Spot) -> bool
-    requires { IsHashed repo.now hashed.now }
-    ensures { result ≡ spec.is_open repo.now blob spot }
-{
-    !repo.is_marked(spot.pack) && is_honest(repo, hashed, blob, spot)
 }

@@ -1,31 +1,28 @@
 ghost use Rattle.std.specs.Prelude.{◌≡◌, ◌≢◌, [], Some, IfOk, IfErr, map, option_map, slice_get};
 ghost use Rattle.std.specs.BTreeMap.{IsOrdered};
 ghost use Rattle.std.specs.FinMap as finite;
-ghost use Rattle.std.specs.List.{find};
-ghost use Rattle.keep_names.specs.Orders.{id_cmp};
+ghost use Rattle.keep_names.specs.Orders.{id_cmp, name_cmp};
 ghost use Rattle.keep_names.specs.declared.id.Id as the_id;
 ghost use Rattle.keep_snap.specs.Snap.{snap_view};
 ghost use Rattle.keep_tree.specs.Tree.{node_view};
 ghost use Rattle.keep_catalog.specs.Files.{snap_in, snaps_in, unread_in};
 ghost use Rattle.keep_catalog.specs.Naming.{missing, named_by, nodes_at_spot, nodes_under};
-ghost use Rattle.keep_catalog.specs.Orders.{spot_cmp};
 ghost use Rattle.keep_catalog.specs.Places.{chosen, chosen_listing, reuse_of};
 ghost use Rattle.keep_catalog.specs.Places as spec;
-ghost use Rattle.keep_catalog.specs.Read.{IsHashed, snap_at};
+ghost use Rattle.keep_catalog.specs.Kept.{IsKept, snap_at};
 ghost use Rattle.keep_docs.specs.Doc.{Answers};
 ghost use Rattle.keep_catalog.specs.declared.reach_error.ReachError.TheVariants as the_reach_error;
 ghost use Rattle.keep_catalog.specs.declared.catalog_error.CatalogError.TheVariants as the_error;
 
-use crate::bytes_there::{Hashed, bytes_at, is_open};
+use crate::bytes_there::bytes_at;
 use crate::catalog_error::CatalogError;
-use crate::listed::{Listings, listed_places};
-use crate::names::{Named, names_at, nodes_at, why_missing};
+use crate::choosing::{first_open, some_honest, some_stored};
+use crate::names::{Named, names_at, nodes_at};
 use crate::reach_error::ReachError;
-use crate::snapshots::read_snapshots;
 use crate::spot::{PackedBlob, Spot};
-use crate::stored::stored_places;
-use crate::unread::Unread;
-use keep_names::{BlobId, Id, Kind};
+use crate::tables::Tables;
+use crate::unread::{FileError, Unread};
+use keep_names::{BlobId, FileName, Id};
 use keep_repo::Repo;
 use keep_snap::Snap;
 use keep_tree::Node;
@@ -35,20 +32,25 @@ use std::marker::Model;
 
 /// A repository, and where its blobs are.
 ///
-/// It is made by reading each pack's header, each index and each snapshot once. Nothing is hashed then: a
-/// blob's spots are hashed when it is asked for, up to the first that is honest, unless `hash_all` hashed them
-/// before.
+/// It is lent by a `LiveRepo`, which has read each pack, index and snapshot once, or makes its tables by reading
+/// them. Nothing is hashed then: a blob's spots are hashed when it is asked for, up to the first that is honest,
+/// unless the `LiveRepo` hashed them before.
 #[derive(Drop)]
 pub struct Catalog<'a> {
     pub(crate) repo: &'a Repo,
-    listed: Listings,
-    snaps: BTreeMap<Id, Snap>,
-    pub(crate) hashed: Hashed,
+    source: Source<'a>,
+}
+
+// Tables of a catalog's own, or those of a live repository.
+#[derive(Drop)]
+enum Source<'a> {
+    Own(Tables),
+    Lent(&'a Tables),
 }
 
 impl<'a> Model for Catalog<'a> {
     ghost use Rattle.keep_repo.specs.Repository.{Repository, coded_repository};
-    ghost use Rattle.keep_catalog.specs.Read.{IsRead};
+    ghost use Rattle.keep_catalog.specs.Source.{IsSource};
 
     ghost Value = { Repository };
 
@@ -56,7 +58,7 @@ impl<'a> Model for Catalog<'a> {
 
     ghost view = { λ c. c.repo.now };
 
-    ghost invariant = { λ c. IsRead c.repo.now c.listed c.snaps c.hashed };
+    ghost invariant = { λ c. IsSource c.repo.now c.source };
 }
 
 impl<'a> Catalog<'a> {
@@ -82,21 +84,28 @@ impl<'a> Catalog<'a> {
         ensures catalog { IfOk result (λ made. made.0 ≡ repo.entry.now) }
         ensures unread { IfOk result (λ made. made.1.items ≡ unread_in repo.entry.now) }
     {
-        let mut unread = Vec::new(alloc);
-        let packs = repo.ids(Kind::Pack)?;
-        let stored = stored_places(alloc, repo, &packs, &mut unread)?;
-        let indexes = repo.ids(Kind::Index)?;
-        let listed = listed_places(alloc, repo, &indexes, &stored, &mut unread)?;
-        let snapshots = repo.ids(Kind::Snapshot)?;
-        let snaps = read_snapshots(alloc, repo, &snapshots, &mut unread)?;
-        let hashed = BTreeMap::new(alloc);
-        let catalog = Catalog {
-            repo,
-            listed,
-            snaps,
-            hashed,
-        };
-        Ok((catalog, unread))
+        let tables = Tables::of(alloc, repo)?;
+        let unread = unread_files(alloc, &tables.unread)?;
+        let source = Source::Own(tables);
+        Ok((Catalog { repo, source }, unread))
+    }
+
+    // The catalog of a repository that lends its tables.
+    pub(crate) fn lent(repo: &'a Repo, tables: &'a Tables) -> Catalog<'a>
+        requires { IsKept repo.now tables.now }
+        ensures { result ≡ repo.entry.now }
+    {
+        let source = Source::Lent(tables);
+        Catalog { repo, source }
+    }
+
+    pub(crate) fn tables(&self) -> &Tables
+        ensures { IsKept self.now result.now }
+    {
+        match &self.source {
+            Source::Own(tables) => tables,
+            Source::Lent(tables) => tables,
+        }
     }
 
     /// The snapshots that can be read, by name.
@@ -106,7 +115,7 @@ impl<'a> Catalog<'a> {
             ≡ finite.entries (snaps_in self.now) }
         ensures ordered { IsOrdered id_cmp result.now }
     {
-        &self.snaps
+        &self.tables().snaps
     }
 
     /// The bytes at the spot, if its pack is there and has as many. Whose id they have isn't asked.
@@ -157,10 +166,9 @@ impl<'a> Catalog<'a> {
     fn choose(&self, blob: BlobId) -> Option<(Spot, Id)>
         ensures { result ≡ chosen_listing self.now blob }
     {
-        let Some(spots) = self.listed.get(&blob) else {
-            return None;
-        };
-        first_open(self.repo, &self.hashed, blob, spots)
+        let tables = self.tables();
+        let listings = tables.listed.get(&blob)?;
+        first_open(self.repo, &tables.stored, blob, listings)
     }
 
     // The chosen listing of the blob, and what it names there.
@@ -181,28 +189,35 @@ impl<'a> Catalog<'a> {
     fn missing(&self, blob: BlobId) -> ReachError
         ensures { result ≡ missing self.now blob }
     {
-        let Some(spots) = self.listed.get(&blob) else {
+        let tables = self.tables();
+        let Some(listings) = tables.listed.get(&blob) else {
             return ReachError::MissingBlob(blob.id);
         };
-        why_missing(self.repo, &self.hashed, blob, spots)
+        let stored = &tables.stored;
+        if some_stored(self.repo, stored, blob, listings)
+            && !some_honest(self.repo, stored, blob, listings)
+        {
+            ReachError::WrongHash(blob.id)
+        } else {
+            ReachError::MissingBlob(blob.id)
+        }
     }
 }
 
-// The first of the spots that is open.
-fn first_open(
-    repo: &Repo,
-    hashed: &Hashed,
-    blob: BlobId,
-    spots: &BTreeMap<Spot, Id>,
-) -> Option<(Spot, Id)>
-    requires { IsHashed repo.now hashed.now }
-    ensures first { result ≡ find (λ e. spec.is_open repo.now blob e.0) spots.now.entries }
-    ensures ordered { IsOrdered spot_cmp spots.now }
+// The files that can't be read, by name.
+pub(crate) fn unread_files(
+    alloc: Global,
+    unread: &BTreeMap<FileName, FileError>,
+) -> Result<Vec<Unread>, AllocError>
+    ensures files { IfOk result (λ files. files.items
+        ≡ map (λ e. record { name = e.0; refusal = e.1 }) unread.now.entries) }
+    ensures ordered { IsOrdered name_cmp unread.now }
 {
-    for (spot, index) in spots {
-        if is_open(repo, hashed, blob, *spot) {
-            return Some((*spot, *index));
-        }
-    }
-    None
+    unread
+        .iter()
+        .map(|(name, refusal)| Unread {
+            name: *name,
+            refusal: *refusal,
+        })
+        .collect(alloc)
 }

@@ -4,10 +4,15 @@
 mod bytes_there;
 mod catalog;
 mod catalog_error;
+mod choosing;
 mod found;
+mod hashing;
 mod headers;
 mod laws;
 mod listed;
+mod live_repo;
+#[cfg(test)]
+mod live_tests;
 mod names;
 #[cfg(test)]
 mod place_tests;
@@ -16,9 +21,11 @@ mod reach_error;
 #[cfg(test)]
 mod reach_tests;
 mod reading;
-mod snapshots;
 mod spot;
 mod stored;
+mod tables;
+#[cfg(test)]
+mod test_changes;
 #[cfg(test)]
 mod tests;
 mod unread;
@@ -33,6 +40,7 @@ pub use laws::{
     the_chosen_place_is_least, the_sound_is_broken_by_trees_alone, the_unbroken_is_sound,
     trees_name_what_their_nodes_name, used_blobs_are_listed_once,
 };
+pub use live_repo::LiveRepo;
 pub use reach_error::ReachError;
 pub use spot::{PackedBlob, Spot};
 pub use unread::{FileError, Unread};

@@ -1,122 +1,120 @@
-ghost use Rattle.std.specs.Prelude.{◌≡◌, ◌++◌, [], ◌∷◌, map, IfOk, OnOk, Some, None, if◌then◌else◌};
-ghost use Rattle.std.specs.BTreeMap as tree;
-ghost use Rattle.std.specs.BTreeSet.{contains};
-ghost use Rattle.std.specs.List.{filter_map, flat_map};
-ghost use Rattle.std.specs.Option.{option_or};
-ghost use Rattle.std.specs.FinMap.{find};
+ghost use Rattle.std.specs.Prelude.{◌≡◌, ◌&&◌, false, true, map, OnOk, if◌then◌else◌};
+ghost use Rattle.std.specs.List.{flat_map};
 ghost use Rattle.keep_index.specs.Index.{pack_view};
 ghost use Rattle.keep_names.specs.declared.blob.BlobId as the_blob;
-ghost use Rattle.keep_catalog.specs.Files.{unread_index};
-ghost use Rattle.keep_catalog.specs.Orders.{blob_eq, packed_blob_cmp, spot_cmp, spot_eq};
-ghost use Rattle.keep_catalog.specs.Places.{candidate, listed_of, listings_of};
-ghost use Rattle.keep_catalog.specs.Read.{listing_at};
-ghost use Rattle.keep_catalog.specs.declared.spot.Spot as the_spot;
+ghost use Rattle.keep_catalog.specs.Kept.{lists_at};
+ghost use Rattle.keep_catalog.specs.Orders.{packed_blob_eq, same_id};
+ghost use Rattle.keep_catalog.specs.Places.{at, is_among, listed_of};
+ghost use Rattle.keep_catalog.specs.declared.spot.Listing as the_listing;
 
-use crate::reading::read_listed;
-use crate::spot::{PackedBlob, Spot};
-use crate::unread::Unread;
+use crate::spot::{Listing, PackedBlob};
 use keep_index::IndexedPack;
 use keep_names::{BlobId, Id};
-use keep_repo::Repo;
 use std::alloc::{AllocError, Global};
 use std::collections::{BTreeMap, BTreeSet};
 
-// The spots at which indexes list a blob, by blob, each with the first index that lists it.
-pub(crate) type Listings = BTreeMap<BlobId, BTreeMap<Spot, Id>>;
+// Where indexes list blobs: the listings by blob.
+pub(crate) type Listed = BTreeMap<BlobId, BTreeSet<Listing>>;
 
-// The stored places that these indexes list. Indexes that can't be read are noted.
-pub(crate) fn listed_places(
+// Adds what an index says of these packs.
+pub(crate) fn list(
     alloc: Global,
-    repo: &Repo,
-    indexes: &[Id],
-    stored: &BTreeSet<PackedBlob>,
-    unread: &mut Vec<Unread>,
-) -> Result<Listings, AllocError>
-    ensures listed { IfOk result (λ listed. (blob : the_blob.BlobId) (spot : the_spot.Spot)
-        → listing_at listed blob spot
-        ≡ find spot_cmp spot (filter_map (candidate (contains packed_blob_cmp stored.now) blob)
-        (flat_map (listings_of repo.now) indexes.now))) }
-    ensures unread { OnOk result
-        (unread.new.items ≡ unread.old.items ++ filter_map (unread_index repo.now) indexes.now) }
-{
-    let mut listed = BTreeMap::new(alloc);
-    for index in indexes {
-        let packs = read_listed(alloc, repo, *index, unread)?;
-        list_index(alloc, &mut listed, stored, *index, &packs)?;
-    }
-    Ok(listed)
-}
-
-// Adds what an index lists of these packs.
-fn list_index(
-    alloc: Global,
-    listed: &mut Listings,
-    stored: &BTreeSet<PackedBlob>,
+    listed: &mut Listed,
     index: Id,
     packs: &[IndexedPack],
 ) -> Result<(), AllocError>
-    ensures { OnOk result ((blob : the_blob.BlobId) (spot : the_spot.Spot)
-        → listing_at listed.new blob spot
-        ≡ option_or (listing_at listed.old blob spot) (find spot_cmp spot
-        (filter_map (candidate (contains packed_blob_cmp stored.now) blob)
-        (map (λ p. (p, index)) (flat_map listed_of (map pack_view packs.now)))))) }
+    ensures { OnOk result ((blob : the_blob.BlobId) (l : the_listing.Listing)
+        → lists_at listed.new blob l
+        ≡ if same_id index l.index && is_among (flat_map listed_of (map pack_view packs.now)) (at blob l.spot)
+        then true else lists_at listed.old blob l) }
 {
     for pack in packs {
-        list_pack(alloc, listed, stored, index, pack)?;
+        list_pack(alloc, listed, index, pack)?;
     }
     Ok(())
 }
 
-// Adds what an index lists of a pack.
+// Adds what an index says of a pack.
 fn list_pack(
     alloc: Global,
-    listed: &mut Listings,
-    stored: &BTreeSet<PackedBlob>,
+    listed: &mut Listed,
     index: Id,
     pack: &IndexedPack,
 ) -> Result<(), AllocError>
-    ensures { OnOk result ((blob : the_blob.BlobId) (spot : the_spot.Spot)
-        → listing_at listed.new blob spot
-        ≡ option_or (listing_at listed.old blob spot) (find spot_cmp spot
-        (filter_map (candidate (contains packed_blob_cmp stored.now) blob)
-        (map (λ p. (p, index)) (listed_of (pack_view pack.now)))))) }
+    ensures { OnOk result ((blob : the_blob.BlobId) (l : the_listing.Listing)
+        → lists_at listed.new blob l
+        ≡ if same_id index l.index && is_among (listed_of (pack_view pack.now)) (at blob l.spot)
+        then true else lists_at listed.old blob l) }
 {
     for entry in &pack.blobs {
-        let place = PackedBlob::of(pack.id, *entry);
-        list_place(alloc, listed, stored, index, place)?;
+        list_place(alloc, listed, index, PackedBlob::of(pack.id, *entry))?;
     }
     Ok(())
 }
 
-// Adds a place that an index lists, if a header has it and no index before lists it.
+// Adds an index's listing of a place.
 fn list_place(
     alloc: Global,
-    listed: &mut Listings,
-    stored: &BTreeSet<PackedBlob>,
+    listed: &mut Listed,
     index: Id,
     place: PackedBlob,
 ) -> Result<(), AllocError>
-    ensures { OnOk result ((blob : the_blob.BlobId) (spot : the_spot.Spot)
-        → listing_at listed.new blob spot
-        ≡ option_or (listing_at listed.old blob spot) (find spot_cmp spot
-        (filter_map (candidate (contains packed_blob_cmp stored.now) blob) ((place, index) ∷ [])))) }
+    ensures { OnOk result ((blob : the_blob.BlobId) (l : the_listing.Listing)
+        → lists_at listed.new blob l
+        ≡ if same_id index l.index && packed_blob_eq (at blob l.spot) place
+        then true else lists_at listed.old blob l) }
 {
-    if !stored.contains(&place) {
-        return Ok(());
-    }
-    let mut spots = listed.remove(&place.blob).unwrap_or(BTreeMap::new(alloc));
-    list_spot(&mut spots, place.spot, index)?;
-    listed.insert(place.blob, spots)?;
+    let PackedBlob { blob, spot } = place;
+    let mut listings = listed.remove(&blob).unwrap_or(BTreeSet::new(alloc));
+    listings.insert(Listing { spot, index })?;
+    listed.insert(blob, listings)?;
     Ok(())
 }
 
-// Adds a spot, if it isn't there.
-fn list_spot(spots: &mut BTreeMap<Spot, Id>, spot: Spot, index: Id) -> Result<(), AllocError>
-    ensures { OnOk result ((q : the_spot.Spot) → tree.get spot_cmp spots.new q
-        ≡ option_or (tree.get spot_cmp spots.old q) (if spot_eq q spot then Some index else None)) }
+// Removes what an index says of these packs.
+pub(crate) fn unlist(
+    listed: &mut Listed,
+    index: Id,
+    packs: &[IndexedPack],
+) -> Result<(), AllocError>
+    ensures { OnOk result ((blob : the_blob.BlobId) (l : the_listing.Listing)
+        → lists_at listed.new blob l
+        ≡ if same_id index l.index && is_among (flat_map listed_of (map pack_view packs.now)) (at blob l.spot)
+        then false else lists_at listed.old blob l) }
 {
-    if !spots.contains_key(&spot) {
-        spots.insert(spot, index)?;
+    for pack in packs {
+        unlist_pack(listed, index, pack)?;
+    }
+    Ok(())
+}
+
+// Removes what an index says of a pack.
+fn unlist_pack(listed: &mut Listed, index: Id, pack: &IndexedPack) -> Result<(), AllocError>
+    ensures { OnOk result ((blob : the_blob.BlobId) (l : the_listing.Listing)
+        → lists_at listed.new blob l
+        ≡ if same_id index l.index && is_among (listed_of (pack_view pack.now)) (at blob l.spot)
+        then false else lists_at listed.old blob l) }
+{
+    for entry in &pack.blobs {
+        unlist_place(listed, index, PackedBlob::of(pack.id, *entry))?;
+    }
+    Ok(())
+}
+
+// Removes an index's listing of a place. A blob without listings isn't kept.
+fn unlist_place(listed: &mut Listed, index: Id, place: PackedBlob) -> Result<(), AllocError>
+    ensures { OnOk result ((blob : the_blob.BlobId) (l : the_listing.Listing)
+        → lists_at listed.new blob l
+        ≡ if same_id index l.index && packed_blob_eq (at blob l.spot) place
+        then false else lists_at listed.old blob l) }
+{
+    let PackedBlob { blob, spot } = place;
+    let Some(mut listings) = listed.remove(&blob) else {
+        return Ok(());
+    };
+    listings.remove(&Listing { spot, index });
+    if !listings.is_empty() {
+        listed.insert(blob, listings)?;
     }
     Ok(())
 }

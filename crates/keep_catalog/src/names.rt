@@ -1,19 +1,15 @@
 ghost use Rattle.std.specs.Prelude.{◌≡◌, ◌++◌, ◌↔◌, map, IfOk, OnOk, IsTrue};
-ghost use Rattle.std.specs.BTreeMap.{IsOrdered};
-ghost use Rattle.std.specs.List.{flat_map, list_any};
-ghost use Rattle.keep_catalog.specs.Orders.{spot_cmp};
+ghost use Rattle.std.specs.List.{flat_map};
 ghost use Rattle.keep_docs.specs.Doc.{Answers};
 ghost use Rattle.keep_docs.specs.declared.doc.DocError.TheVariants as the_doc_error;
 ghost use Rattle.keep_tree.specs.Tree.{kind_view, node_view};
 ghost use Rattle.keep_tree.specs.declared.tree.TreeError.TheVariants as the_tree_error;
 ghost use Rattle.keep_catalog.specs.Naming as spec;
-ghost use Rattle.keep_catalog.specs.Places as places;
-ghost use Rattle.keep_catalog.specs.Read.{IsHashed};
 ghost use Rattle.keep_catalog.specs.Naming.{named_in, named_of, nodes_read, read_tree_of};
 ghost use Rattle.keep_names.specs.BlobId.{piece_of};
 ghost use Rattle.keep_catalog.specs.declared.reach_error.ReachError.TheVariants as the_reach_error;
 
-use crate::bytes_there::{Hashed, bytes_at, is_honest};
+use crate::bytes_there::bytes_at;
 use crate::reach_error::ReachError;
 use crate::spot::Spot;
 use keep_docs::DocError;
@@ -21,7 +17,6 @@ use keep_names::{BlobId, BlobType, Id};
 use keep_repo::Repo;
 use keep_tree::{Node, NodeKind, TreeError, read_tree};
 use std::alloc::{AllocError, Global};
-use std::collections::BTreeMap;
 
 // A chosen listing of a blob, and what the blob names there.
 #[derive(Drop)]
@@ -116,35 +111,4 @@ fn add_pieces(names: &mut Vec<BlobId>, content: &[Id]) -> Result<(), AllocError>
         names.push(BlobId::content(*id))?;
     }
     Ok(())
-}
-
-// Why a blob with these spots has no chosen one.
-pub(crate) fn why_missing(
-    repo: &Repo,
-    hashed: &Hashed,
-    blob: BlobId,
-    spots: &BTreeMap<Spot, Id>,
-) -> ReachError
-    requires { IsHashed repo.now hashed.now }
-    ensures why { result ≡ spec.why_missing repo.now blob spots.now.entries }
-    ensures ordered { IsOrdered spot_cmp spots.now }
-{
-    if some_honest(repo, hashed, blob, spots) || spots.is_empty() {
-        ReachError::MissingBlob(blob.id)
-    } else {
-        ReachError::WrongHash(blob.id)
-    }
-}
-
-fn some_honest(repo: &Repo, hashed: &Hashed, blob: BlobId, spots: &BTreeMap<Spot, Id>) -> bool
-    requires { IsHashed repo.now hashed.now }
-    ensures value { result ≡ list_any (λ e. places.is_honest repo.now blob e.0) spots.now.entries }
-    ensures ordered { IsOrdered spot_cmp spots.now }
-{
-    for (spot, _) in spots {
-        if is_honest(repo, hashed, blob, *spot) {
-            return true;
-        }
-    }
-    false
 }

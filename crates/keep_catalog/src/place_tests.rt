@@ -6,7 +6,7 @@ use std::alloc::{AllocError, Global};
 use std::test::Fail;
 
 // The pack that has `hello` at its first byte and at its sixth. The id is that of sha256sum.
-const AGAIN: [u8; 88] = [
+pub(crate) const AGAIN: [u8; 88] = [
     0x68, 0x65, 0x6c, 0x6c, 0x6f, 0x68, 0x65, 0x6c, 0x6c, 0x6f, 0x00, 0x05, 0x00, 0x00, 0x00, 0x2c,
     0xf2, 0x4d, 0xba, 0x5f, 0xb0, 0xa3, 0x0e, 0x26, 0xe8, 0x3b, 0x2a, 0xc5, 0xb9, 0xe2, 0x9e, 0x1b,
     0x16, 0x1e, 0x5c, 0x1f, 0xa7, 0x42, 0x5e, 0x73, 0x04, 0x33, 0x62, 0x93, 0x8b, 0x98, 0x24, 0x00,
@@ -26,7 +26,7 @@ fn placed(pack: Id, blob: BlobId, offset: u64, length: u32) -> PackedBlob {
 }
 
 // What an index says of a pack that has `hello` there.
-fn listed_at(alloc: Global, pack: Id, offset: u64) -> Result<String, AllocError> {
+pub(crate) fn listed_at(alloc: Global, pack: Id, offset: u64) -> Result<String, AllocError> {
     let hello = id_of(b"hello");
     format!(in alloc;
         "{{\"id\":\"{pack}\",\"blobs\":[{{\"id\":\"{hello}\",\"type\":\"data\",\"offset\":{offset},\"length\":5}}]}}"

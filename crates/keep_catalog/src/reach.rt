@@ -8,7 +8,7 @@ ghost use Rattle.keep_names.specs.declared.blob.BlobId as the_blob;
 ghost use Rattle.keep_snap.specs.Snap.{snap_view};
 ghost use Rattle.keep_catalog.specs.Naming.{named_by};
 ghost use Rattle.keep_catalog.specs.Places.{chosen_listing};
-ghost use Rattle.keep_catalog.specs.Read.{snap_at};
+ghost use Rattle.keep_catalog.specs.Kept.{snap_at};
 ghost use Rattle.keep_catalog.specs.Snapshots.{IsOwedByOne, IsUsed, Owes, broken_in};
 ghost use Rattle.keep_catalog.specs.Snapshots.{refusal_from, refusal_of, refusals_of, root_of};
 ghost use Rattle.keep_catalog.specs.Used.{used_in};

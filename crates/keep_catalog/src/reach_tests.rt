@@ -5,26 +5,38 @@ use keep_repo::{Mark, Repo};
 use std::alloc::{AllocError, Global};
 use std::test::Fail;
 
-// Puts a tree there, in a pack and an index of its own, and tells its id.
-fn put_tree(alloc: Global, repo: &mut Repo, tree: &str) -> Result<Id, AllocError> {
-    let id = id_of(tree.as_bytes());
-    let length = tree.len();
+// The pack of a tree.
+pub(crate) fn tree_pack(alloc: Global, tree: &str) -> Result<Vec<u8>, AllocError> {
     let mut pack = Vec::from_slice(alloc, tree.as_bytes())?;
     pack.push(1)?;
-    pack.extend_from_slice(&u32::try_from(length).unwrap_or(0).to_le_bytes())?;
-    pack.extend_from_slice(&id.0)?;
+    pack.extend_from_slice(&u32::try_from(tree.len()).unwrap_or(0).to_le_bytes())?;
+    pack.extend_from_slice(&id_of(tree.as_bytes()).0)?;
     pack.extend_from_slice(&[37, 0, 0, 0])?;
-    put(alloc, repo, Kind::Pack, id, &pack)?;
+    Ok(pack)
+}
+
+// What an index says of the pack of a tree.
+pub(crate) fn tree_index(alloc: Global, pack: Id, tree: &str) -> Result<String, AllocError> {
+    let id = id_of(tree.as_bytes());
+    let length = tree.len();
     let entry = format!(in alloc;
         "{{\"id\":\"{id}\",\"type\":\"tree\",\"offset\":0,\"length\":{length}}}"
     )?;
-    let index = format!(in alloc; "{{\"packs\":[{{\"id\":\"{id}\",\"blobs\":[{entry}]}}]}}")?;
+    format!(in alloc; "{{\"packs\":[{{\"id\":\"{pack}\",\"blobs\":[{entry}]}}]}}")
+}
+
+// Puts a tree there, in a pack and an index of its own, and tells its id.
+pub(crate) fn put_tree(alloc: Global, repo: &mut Repo, tree: &str) -> Result<Id, AllocError> {
+    let id = id_of(tree.as_bytes());
+    let pack = tree_pack(alloc, tree)?;
+    put(alloc, repo, Kind::Pack, id, &pack)?;
+    let index = tree_index(alloc, id, tree)?;
     put(alloc, repo, Kind::Index, id, index.as_bytes())?;
     Ok(id)
 }
 
 // A tree with two folders.
-fn two_folders(alloc: Global, first: Id, second: Id) -> Result<String, AllocError> {
+pub(crate) fn two_folders(alloc: Global, first: Id, second: Id) -> Result<String, AllocError> {
     let one = format!(in alloc; "{{\"name\":\"a\",\"type\":\"dir\",\"subtree\":\"{first}\"}}")?;
     let other = format!(in alloc; "{{\"name\":\"b\",\"type\":\"dir\",\"subtree\":\"{second}\"}}")?;
     format!(in alloc; "{{\"nodes\":[{one},{other}]}}")
@@ -41,7 +53,12 @@ fn put_levels(alloc: Global, repo: &mut Repo, levels: u16) -> Result<Id, AllocEr
 }
 
 // Puts a snapshot of this tree there.
-fn put_snap(alloc: Global, repo: &mut Repo, name: Id, tree: Id) -> Result<(), AllocError> {
+pub(crate) fn put_snap(
+    alloc: Global,
+    repo: &mut Repo,
+    name: Id,
+    tree: Id,
+) -> Result<(), AllocError> {
     let text = format!(in alloc;
         "{{\"time\":\"2026-01-02T03:04:05Z\",\"tree\":\"{tree}\",\"paths\":[\"/\"]}}"
     )?;

@@ -1,109 +1,71 @@
-ghost use Rattle.std.specs.Prelude.{◌≡◌, ◌↔◌, ◌++◌, map, option_map, option_to_list, IfOk, OnOk, IsTrue};
+ghost use Rattle.std.specs.Prelude.{◌≡◌, ◌↔◌, map, option_map, Some, IfOk, IsTrue};
 ghost use Rattle.keep_docs.specs.declared.doc.DocError.TheVariants.{Memory};
 ghost use Rattle.keep_index.specs.Index.{pack_view};
 ghost use Rattle.keep_index.specs.declared.index_error.IndexError.TheVariants.{Doc};
+ghost use Rattle.keep_names.specs.declared.file_name.Kind.TheVariants.{Pack, Index, Snapshot};
+ghost use Rattle.keep_pack.specs.Reading.{header_of};
 ghost use Rattle.keep_pack.specs.declared.pack_error.PackError.TheVariants as the_pack_error;
-ghost use Rattle.keep_catalog.specs.Files.{header_in, index_in, what_is_read};
-ghost use Rattle.keep_catalog.specs.Files.{snap_in, unread_index, unread_pack, unread_snap};
+ghost use Rattle.keep_catalog.specs.Files.{index_of, what_is_read, why_of};
+ghost use Rattle.keep_catalog.specs.Kept.{snap_read};
 ghost use Rattle.keep_snap.specs.Snap.{snap_view};
 ghost use Rattle.keep_snap.specs.declared.snap.SnapError.TheVariants as the_snap_error;
 
-use crate::unread::{FileError, Unread};
+use crate::unread::FileError;
 use keep_docs::DocError;
 use keep_index::{IndexError, IndexedPack, read_index};
-use keep_names::{Blob, FileName, Id};
+use keep_names::Blob;
 use keep_pack::{PackError, read_header};
-use keep_repo::Repo;
 use keep_snap::{Snap, SnapError, read_snap};
 use std::alloc::{AllocError, Global};
 
-// The entries of a pack. One that can't be read has none, and is noted.
-pub(crate) fn read_pack(
-    alloc: Global,
-    repo: &Repo,
-    pack: Id,
-    unread: &mut Vec<Unread>,
-) -> Result<Vec<Blob>, AllocError>
-    ensures entries { IfOk result (λ entries. entries.items ≡ what_is_read (header_in repo.now pack)) }
-    ensures unread { OnOk result
-        (unread.new.items ≡ unread.old.items ++ option_to_list (unread_pack repo.now pack)) }
+// What was read of a file, and why it can't be read.
+type Read<T> = (T, Option<FileError>);
+
+// The entries of a pack, none where its header can't be read.
+pub(crate) fn read_pack(alloc: Global, bytes: &[u8]) -> Result<Read<Vec<Blob>>, AllocError>
+    ensures entries { IfOk result (λ read. read.0.items ≡ what_is_read (Some (header_of bytes.now))) }
+    ensures why { IfOk result (λ read. read.1 ≡ why_of Pack bytes.now) }
 {
-    let name = FileName::pack(pack);
-    let Some(bytes) = repo.get(name) else {
-        return Ok(Vec::new(alloc));
-    };
-    match read_header(alloc, bytes.as_slice()) {
-        Ok(entries) => Ok(entries),
+    match read_header(alloc, bytes) {
+        Ok(entries) => Ok((entries, None)),
         Err(refusal) => {
             if is_pack_memory(refusal) {
                 return Err(AllocError);
             }
-            unread.push(Unread {
-                name,
-                refusal: FileError::Pack(refusal),
-            })?;
-            Ok(Vec::new(alloc))
+            Ok((Vec::new(alloc), Some(FileError::Pack(refusal))))
         }
     }
 }
 
-// The packs of an index. One that can't be read has none, and is noted.
-pub(crate) fn read_listed(
-    alloc: Global,
-    repo: &Repo,
-    index: Id,
-    unread: &mut Vec<Unread>,
-) -> Result<Vec<IndexedPack>, AllocError>
-    ensures packs { IfOk result
-        (λ packs. map pack_view packs.items ≡ what_is_read (index_in repo.now index)) }
-    ensures unread { OnOk result
-        (unread.new.items ≡ unread.old.items ++ option_to_list (unread_index repo.now index)) }
+// The packs of an index, none where it can't be read.
+pub(crate) fn read_listed(alloc: Global, bytes: &[u8]) -> Result<Read<Vec<IndexedPack>>, AllocError>
+    ensures packs { IfOk result (λ read.
+        map pack_view read.0.items ≡ what_is_read (Some (index_of bytes.now))) }
+    ensures why { IfOk result (λ read. read.1 ≡ why_of Index bytes.now) }
 {
-    let name = FileName::index(index);
-    let Some(bytes) = repo.get(name) else {
-        return Ok(Vec::new(alloc));
-    };
-    match read_index(alloc, bytes.as_slice()) {
-        Ok(read) => Ok(read.packs),
+    match read_index(alloc, bytes) {
+        Ok(read) => Ok((read.packs, None)),
         Err(refusal) => {
             if is_index_memory(refusal) {
                 return Err(AllocError);
             }
-            unread.push(Unread {
-                name,
-                refusal: FileError::Index(refusal),
-            })?;
-            Ok(Vec::new(alloc))
+            Ok((Vec::new(alloc), Some(FileError::Index(refusal))))
         }
     }
 }
 
-// The snapshot. One that can't be read is noted.
-pub(crate) fn read_snapshot(
-    alloc: Global,
-    repo: &Repo,
-    snapshot: Id,
-    unread: &mut Vec<Unread>,
-) -> Result<Option<Snap>, AllocError>
-    ensures snap { IfOk result (λ snap. option_map snap_view snap ≡ snap_in repo.now snapshot) }
-    ensures unread { OnOk result
-        (unread.new.items ≡ unread.old.items ++ option_to_list (unread_snap repo.now snapshot)) }
+// The snapshot, if it can be read.
+pub(crate) fn read_snapshot(alloc: Global, bytes: &[u8]) -> Result<Read<Option<Snap>>, AllocError>
+    ensures snap { IfOk result (λ read. option_map snap_view read.0 ≡ snap_read bytes.now) }
+    ensures why { IfOk result (λ read. read.1 ≡ why_of Snapshot bytes.now) }
 {
-    let name = FileName::snapshot(snapshot);
-    let Some(bytes) = repo.get(name) else {
-        return Ok(None);
-    };
-    match read_snap(alloc, bytes.as_slice()) {
-        Ok(snap) => Ok(Some(snap)),
+    match read_snap(alloc, bytes) {
+        Ok(snap) => Ok((Some(snap), None)),
         Err(refusal) => {
             if is_snap_memory(refusal) {
                 return Err(AllocError);
             }
-            unread.push(Unread {
-                name,
-                refusal: FileError::Snap(refusal),
-            })?;
-            Ok(None)
+            Ok((None, Some(FileError::Snap(refusal))))
         }
     }
 }

@@ -17,6 +17,13 @@ pub struct PackedBlob {
     pub spot: Spot,
 }
 
+/// Where an index lists a blob. Listings of one blob are in order by spot, and then by index.
+#[derive(Clone, Copy, Debug, PartialEq, Eq, PartialOrd, Ord)]
+pub(crate) struct Listing {
+    pub(crate) spot: Spot,
+    pub(crate) index: Id,
+}
+
 impl PackedBlob {
     ghost use Rattle.std.specs.Prelude.{◌≡◌};
     ghost use Rattle.keep_catalog.specs.Places.{packed_of};

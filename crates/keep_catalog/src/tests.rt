@@ -40,7 +40,7 @@ fn index_text(alloc: Global, entry: &str) -> Result<String, AllocError> {
     )
 }
 
-fn hello() -> BlobId {
+pub(crate) fn hello() -> BlobId {
     BlobId::content(id_of(b"hello"))
 }
 
@@ -107,10 +107,10 @@ fn changed_bytes_are_no_blob(rt: HostRuntime) -> Result<(), Fail> {
     let mut repo = Repo::new(alloc);
     put(alloc, &mut repo, Kind::Pack, FIRST, &changed)?;
     put(alloc, &mut repo, Kind::Index, FIRST, index.as_bytes())?;
-    let mut catalog = Catalog::of(alloc, &repo)?;
+    let catalog = Catalog::of(alloc, &repo)?;
     assert_eq!(rt; catalog.place(hello()), None);
     assert_eq!(rt;
-        catalog.hash_all(alloc)?.as_slice(),
+        catalog.wrong_blobs(alloc)?.as_slice(),
         [(FIRST, hello())].as_slice()
     );
     assert_eq!(rt; catalog.place(hello()), None);
@@ -149,7 +149,7 @@ fn what_cannot_be_read_is_told_by_name(rt: HostRuntime) -> Result<(), Fail> {
 }
 
 // The pack of `Hello` under the id of `hello`, which its header lists twice: the second time without bytes.
-const TWICE: [u8; 83] = [
+pub(crate) const TWICE: [u8; 83] = [
     0x48, 0x65, 0x6c, 0x6c, 0x6f, 0x00, 0x05, 0x00, 0x00, 0x00, 0x2c, 0xf2, 0x4d, 0xba, 0x5f, 0xb0,
     0xa3, 0x0e, 0x26, 0xe8, 0x3b, 0x2a, 0xc5, 0xb9, 0xe2, 0x9e, 0x1b, 0x16, 0x1e, 0x5c, 0x1f, 0xa7,
     0x42, 0x5e, 0x73, 0x04, 0x33, 0x62, 0x93, 0x8b, 0x98, 0x24, 0x00, 0x00, 0x00, 0x00, 0x00, 0x2c,
@@ -165,9 +165,9 @@ fn a_wrong_blob_of_a_pack_is_told_once(rt: HostRuntime) -> Result<(), Fail> {
     put(alloc, &mut repo, Kind::Pack, THIRD, &TWICE)?;
     put(alloc, &mut repo, Kind::Pack, SECOND, &HELLO)?;
     put(alloc, &mut repo, Kind::Pack, FIRST, &TWICE)?;
-    let mut catalog = Catalog::of(alloc, &repo)?;
+    let catalog = Catalog::of(alloc, &repo)?;
     let told = [(FIRST, hello()), (THIRD, hello())];
-    let wrong = catalog.hash_all(alloc)?;
+    let wrong = catalog.wrong_blobs(alloc)?;
     assert_eq!(rt; wrong.as_slice(), told.as_slice());
     Ok(())
 }

@@ -6,29 +6,27 @@ ghost use Rattle.keep_names.specs.Orders.{blob_cmp};
 ghost use Rattle.keep_names.specs.declared.blob.BlobId as the_blob;
 ghost use Rattle.keep_catalog.specs.Orders.{blob_eq};
 ghost use Rattle.keep_catalog.specs.Places.{stored_in, packed_of};
-ghost use Rattle.keep_catalog.specs.Places as spec;
-ghost use Rattle.keep_catalog.specs.Read.{IsHashed};
+ghost use Rattle.keep_catalog.specs.Kept.{IsHashedIn};
 ghost use Rattle.keep_catalog.specs.Wrong.{first_of_each, wrong_at, wrong_blobs_in, wrong_in};
 
-use crate::bytes_there::{Hashed, is_honest};
+use crate::bytes_there::is_honest;
 use crate::catalog::Catalog;
 use crate::reading::read_pack;
 use crate::spot::PackedBlob;
-use keep_names::{Blob, BlobId, Id, Kind};
+use crate::stored::Stored;
+use keep_names::{Blob, BlobId, FileName, Id, Kind};
 use keep_repo::Repo;
 use std::alloc::{AllocError, Global};
 use std::collections::BTreeSet;
 
 impl<'a> Catalog<'a> {
-    /// Hashes each blob of each pack that can be read, and tells those whose bytes have another SHA-256 than
-    /// their id: the packs by name, a pack's blobs in the order of its header, each once. What is hashed here
-    /// isn't hashed again by this catalog.
-    pub fn hash_all(&mut self, alloc: Global) -> Result<Vec<(Id, BlobId)>, AllocError>
-        ensures wrong { IfOk result (λ wrong. wrong.items ≡ wrong_blobs_in self.old) }
-        ensures same { self.new ≡ self.old }
+    /// The blobs of packs that can be read whose bytes have another SHA-256 than their id: the packs by name, a
+    /// pack's blobs in the order of its header, each once. What its repository hashed before isn't hashed again.
+    pub fn wrong_blobs(&self, alloc: Global) -> Result<Vec<(Id, BlobId)>, AllocError>
+        ensures { IfOk result (λ wrong. wrong.items ≡ wrong_blobs_in self.now) }
     {
         let packs = self.repo.ids(Kind::Pack)?;
-        hash_packs(alloc, self.repo, &packs, &mut self.hashed)
+        hash_packs(alloc, self.repo, &packs, &self.tables().stored)
     }
 }
 
@@ -37,15 +35,14 @@ fn hash_packs(
     alloc: Global,
     repo: &Repo,
     packs: &[Id],
-    hashed: &mut Hashed,
+    stored: &Stored,
 ) -> Result<Vec<(Id, BlobId)>, AllocError>
-    requires { IsHashed repo.now hashed.old }
-    ensures wrong { IfOk result (λ wrong. wrong.items ≡ flat_map (wrong_in repo.now) packs.now) }
-    ensures after { IsHashed repo.now hashed.new }
+    requires { IsHashedIn repo.now stored.now }
+    ensures { IfOk result (λ wrong. wrong.items ≡ flat_map (wrong_in repo.now) packs.now) }
 {
     let mut wrong = Vec::new(alloc);
     for pack in packs {
-        let blobs = hash_pack(alloc, repo, *pack, hashed)?;
+        let blobs = hash_pack(alloc, repo, *pack, stored)?;
         tell(alloc, *pack, &blobs, &mut wrong)?;
     }
     Ok(wrong)
@@ -56,16 +53,17 @@ fn hash_pack(
     alloc: Global,
     repo: &Repo,
     pack: Id,
-    hashed: &mut Hashed,
+    stored: &Stored,
 ) -> Result<Vec<BlobId>, AllocError>
-    requires { IsHashed repo.now hashed.old }
-    ensures blobs { IfOk result (λ blobs.
+    requires { IsHashedIn repo.now stored.now }
+    ensures { IfOk result (λ blobs.
         blobs.items ≡ filter_map (wrong_at repo.now) (stored_in repo.now pack)) }
-    ensures after { IsHashed repo.now hashed.new }
 {
-    let mut unread = Vec::new(alloc);
-    let entries = read_pack(alloc, repo, pack, &mut unread)?;
-    hash_entries(alloc, repo, pack, &entries, hashed)
+    let Some(bytes) = repo.get(FileName::pack(pack)) else {
+        return Ok(Vec::new(alloc));
+    };
+    let (entries, _why) = read_pack(alloc, bytes.as_slice())?;
+    hash_entries(alloc, repo, pack, &entries, stored)
 }
 
 fn hash_entries(
@@ -73,17 +71,15 @@ fn hash_entries(
     repo: &Repo,
     pack: Id,
     entries: &[Blob],
-    hashed: &mut Hashed,
+    stored: &Stored,
 ) -> Result<Vec<BlobId>, AllocError>
-    requires { IsHashed repo.now hashed.old }
-    ensures blobs { IfOk result (λ blobs.
+    requires { IsHashedIn repo.now stored.now }
+    ensures { IfOk result (λ blobs.
         blobs.items ≡ filter_map (wrong_at repo.now) (map (packed_of pack) entries.now)) }
-    ensures after { IsHashed repo.now hashed.new }
 {
     let mut blobs = Vec::new(alloc);
     for entry in entries {
-        let place = PackedBlob::of(pack, *entry);
-        hash_place(repo, place, hashed, &mut blobs)?;
+        hash_place(repo, PackedBlob::of(pack, *entry), stored, &mut blobs)?;
     }
     Ok(blobs)
 }
@@ -92,31 +88,19 @@ fn hash_entries(
 fn hash_place(
     repo: &Repo,
     place: PackedBlob,
-    hashed: &mut Hashed,
+    stored: &Stored,
     blobs: &mut Vec<BlobId>,
 ) -> Result<(), AllocError>
-    requires { IsHashed repo.now hashed.old }
-    ensures blobs { OnOk result
+    requires { IsHashedIn repo.now stored.now }
+    ensures { OnOk result
         (blobs.new.items ≡ blobs.old.items ++ option_to_list (wrong_at repo.now place)) }
-    ensures after { IsHashed repo.now hashed.new }
 {
-    let honest = remember(repo, place, hashed)?;
+    let honest = is_honest(repo, stored, place);
     if honest {
         return Ok(());
     }
     blobs.push(place.blob)?;
     Ok(())
-}
-
-// Whether the place is honest, which is remembered.
-fn remember(repo: &Repo, place: PackedBlob, hashed: &mut Hashed) -> Result<bool, AllocError>
-    requires { IsHashed repo.now hashed.old }
-    ensures honest { IfOk result (λ honest. honest ≡ spec.is_honest repo.now place.blob place.spot) }
-    ensures after { IsHashed repo.now hashed.new }
-{
-    let honest = is_honest(repo, hashed, place.blob, place.spot);
-    hashed.insert(place, honest)?;
-    Ok(honest)
 }
 
 // Tells each of a pack's blobs once.

@@ -1,5 +1,6 @@
 use crate::{Backup, Job, Settings, plan};
 use keep_backup::Cut;
+use keep_catalog::LiveRepo;
 use keep_journal::History;
 use keep_plan::PlanError;
 use keep_repo::Repo;
@@ -19,9 +20,9 @@ fn adds_of(rt: &HostRuntime, path: &str, time: &str) -> Result<Result<usize, Pla
         time: String::from_str(alloc, time)?,
         files,
     });
-    let repo = Repo::new(alloc);
+    let live = LiveRepo::new(alloc, Repo::new(alloc));
     let history = History::new(alloc, 0);
-    let view = View::without_events(&repo, &history);
+    let view = View::without_events(&live, &history);
     let settings = Settings {
         cut: Cut::after(SETTINGS_CUT),
     };

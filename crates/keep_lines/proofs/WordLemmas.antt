@@ -12,7 +12,6 @@ use Rattle.keep_names.specs.Id.{IsDigest, IsIdText, id_text, is_lower_hex_digit}
 use Rattle.keep_names.specs.declared.id.Id.{Id}
 use Rattle.keep_lines.specs.Prints.{NonePrints, Parses}
 use Rattle.keep_lines.specs.Word.{HasPlainFront, IsNumber, IsTarget, target_text}
-use Rattle.keep_lines.specs.declared.word.Target.{Target}
 use Rattle.keep_lines.specs.declared.word.Target.TheVariants.{Named, AddedBy}
 
 -- ---- numbers

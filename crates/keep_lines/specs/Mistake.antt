@@ -1,7 +1,9 @@
 -- Why a line isn't one of the language.
-use Rattle.std.specs.Prelude.{◌≡◌, ℕ, ◌<◌, ◌⊎◌, List, ◌++◌, codes, length, ⊤}
+use Rattle.std.specs.Prelude.{◌≡◌, ◌≢◌, ℕ, ◌<◌, ◌⊎◌, List, ◌++◌, codes, length}
 use Rattle.std.specs.Fmt.{decimal}
+use Rattle.std.specs.Str.Iter.{LacksByte}
 use Rattle.keep_names.specs.FileName.{kind_text}
+use Rattle.keep_names.specs.declared.file_name.Kind.{Kind}
 use Rattle.keep_lines.specs.BackupLine.{IsBackup, backup_text}
 use Rattle.keep_lines.specs.Command.{IsNoCommand}
 use Rattle.keep_lines.specs.Line.{IsPassedOver, IsText, longest_line}
@@ -24,28 +26,62 @@ mistake_text NotBackup = codes "not HOST TIME PATH=HEX .."
 mistake_text NoFile = codes "@N names nothing"
 mistake_text NoNote = codes "no note of this NAME"
 
--- the text ends, behind a space, with what none of the values that count prints as
-abbrev pub EndsInNo : {A : Type 0} → (A → Type 0) → (A → List ℕ) → List ℕ → Type 0
-EndsInNo Counts print text =
-    (front rest : List ℕ) × (text ≡ front ++ (codes " " ++ rest)) × NonePrints Counts print rest
+-- behind these words a number is asked for
+abbrev pub AsksNumber : List ℕ → Type 0
+AsksNumber verb = (verb ≡ codes "undo") ⊎ ((verb ≡ codes "redo") ⊎ (verb ≡ codes "empty"))
 
--- the second word of three is no kind
+-- behind these, a name
+abbrev pub AsksName : List ℕ → Type 0
+AsksName verb = (verb ≡ codes "note") ⊎ (verb ≡ codes "same")
+
+-- behind these, a kind and one word more
+abbrev pub AsksKind : List ℕ → Type 0
+AsksKind verb = (verb ≡ codes "add") ⊎ (verb ≡ codes "drop")
+
+-- behind the first of them and a kind, bytes
+abbrev pub AsksHex : List ℕ → Type 0
+AsksHex front = (kind : Kind) × (front ≡ codes "add " ++ kind_text kind)
+
+-- behind the second and a kind, and behind a restore, an id or the number of a change
+abbrev pub AsksTarget : List ℕ → Type 0
+AsksTarget front = (front ≡ codes "restore") ⊎ ((kind : Kind) × (front ≡ codes "drop " ++ kind_text kind))
+
+-- behind this word, a host, a time and files
+abbrev pub AsksBackup : List ℕ → Type 0
+AsksBackup verb = verb ≡ codes "backup"
+
+-- behind such a front, and a space, the last words of a line stand: it is one word, or two where a kind is asked for
+abbrev pub AsksMore : List ℕ → Type 0
+AsksMore front =
+    AsksNumber front ⊎ (AsksName front ⊎ (AsksBackup front ⊎ ((front ≡ codes "restore")
+    ⊎ ((verb word : List ℕ) × AsksKind verb × (front ≡ verb ++ (codes " " ++ word))))))
+
+-- the text has no such front
+abbrev pub BeginsAsNone : List ℕ → Type 0
+BeginsAsNone text = (front rest : List ℕ) → AsksMore front → text ≢ front ++ (codes " " ++ rest)
+
+-- behind a front that asks for a value, and a space, stands what none of the values that count prints as
+abbrev pub EndsInNo : {A : Type 0} → (List ℕ → Type 0) → (A → Type 0) → (A → List ℕ) → List ℕ → Type 0
+EndsInNo AsksIt Counts print text =
+    (front rest : List ℕ) × AsksIt front × (text ≡ front ++ (codes " " ++ rest)) × NonePrints Counts print rest
+
+-- a kind is asked for, and the second word of three is none
 abbrev pub HasNoKind : List ℕ → Type 0
 HasNoKind text =
-    (front word rest : List ℕ) × (text ≡ front ++ (codes " " ++ (word ++ (codes " " ++ rest))))
-    × NonePrints IsKind kind_text word
+    (verb word rest : List ℕ) × AsksKind verb × LacksByte 32 word
+    × (text ≡ verb ++ (codes " " ++ (word ++ (codes " " ++ rest)))) × NonePrints IsKind kind_text word
 
--- what is said of a text that is no command's is so
+-- why a text is no command's, by the words that it begins with
 abbrev pub Explains : List ℕ → Mistake → Type 0
 Explains text TooLong = ⊥
 Explains text NotText = ⊥
-Explains text NoCommand = ⊤
+Explains text NoCommand = BeginsAsNone text
 Explains text NotKind = HasNoKind text
-Explains text NotHex = EndsInNo AreBytes hex_word text
-Explains text NotNumber = EndsInNo IsNumber decimal text
-Explains text NotName = EndsInNo IsName (λ name. name) text
-Explains text NotTarget = EndsInNo IsTarget target_text text
-Explains text NotBackup = EndsInNo IsBackup backup_text text
+Explains text NotHex = EndsInNo AsksHex AreBytes hex_word text
+Explains text NotNumber = EndsInNo AsksNumber IsNumber decimal text
+Explains text NotName = EndsInNo AsksName IsName (λ name. name) text
+Explains text NotTarget = EndsInNo AsksTarget IsTarget target_text text
+Explains text NotBackup = EndsInNo AsksBackup IsBackup backup_text text
 Explains text NoFile = ⊥
 Explains text NoNote = ⊥
 
@@ -54,4 +90,4 @@ abbrev pub IsMistake : List ℕ → Mistake → Type 0
 IsMistake line why =
     ((why ≡ TooLong) × (longest_line < length line))
     ⊎ (((why ≡ NotText) × (¬ (IsText line)))
-    ⊎ ((¬ (IsPassedOver line)) × IsNoCommand line × Explains line why))
+    ⊎ (IsText line × (¬ (IsPassedOver line)) × IsNoCommand line × Explains line why))

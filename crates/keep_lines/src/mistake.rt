@@ -1,6 +1,6 @@
-ghost use Rattle.std.specs.Prelude.{◌≡◌, ◌⊎◌, ◌++◌, codes};
+ghost use Rattle.std.specs.Prelude.{◌++◌, codes};
 ghost use Rattle.keep_lines.specs.Command.{IsNoCommand};
-ghost use Rattle.keep_lines.specs.Mistake.{Explains};
+ghost use Rattle.keep_lines.specs.Mistake.{AsksKind, Explains};
 
 use crate::word::parse_kind;
 use std::fmt;
@@ -76,7 +76,7 @@ pub(crate) fn mistake_of(text: &str) -> Mistake
 
 /// Why what follows `add` or `drop` is no kind with bytes or a file.
 fn mistake_of_file(verb: &str, rest: &str) -> Mistake
-    requires verb { (verb.now ≡ codes "add") ⊎ (verb.now ≡ codes "drop") }
+    requires verb { AsksKind verb.now }
     requires none { IsNoCommand (verb.now ++ (codes " " ++ rest.now)) }
     ensures { Explains (verb.now ++ (codes " " ++ rest.now)) result }
 {

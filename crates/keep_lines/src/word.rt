@@ -1,13 +1,11 @@
 ghost use Rattle.std.specs.Prelude.{◌≡◌, ◌↔◌, IfOk, IsTrue, string_bytes};
 ghost use Rattle.std.specs.Fmt.{decimal};
-ghost use Rattle.std.specs.List.{AllPass, list_any};
-ghost use Rattle.std.specs.Char.{is_ascii_uppercase};
+ghost use Rattle.std.specs.List.{AllPass};
 ghost use Rattle.keep_names.specs.FileName.{kind_text};
 ghost use Rattle.keep_lines.specs.Prints.{Parses};
 ghost use Rattle.keep_lines.specs.Word.{AreBytes, HasPlainFront, IsKind, IsName, IsNumber, IsTarget, hex_text, hex_word, is_name_byte, target_text};
 
-use hex::FromHexError;
-use keep_names::{Id, Kind, parse_id};
+use keep_names::{Id, Kind, decode_hex, parse_id};
 use std::alloc::{AllocError, Global};
 
 /// Which file a line means: one by its name, or the one that a change added.
@@ -69,21 +67,10 @@ pub(crate) fn parse_hex(alloc: Global, word: &str) -> Result<Option<Vec<u8>>, Al
     if word == "-" {
         return Ok(Some(Vec::new(alloc)));
     }
-    if word.is_empty() || has_capital(word) {
+    if word.is_empty() {
         return Ok(None);
     }
-    match hex::decode(alloc, word) {
-        Ok(bytes) => Ok(Some(bytes)),
-        Err(FromHexError::OutOfMemory) => Err(AllocError),
-        Err(_) => Ok(None),
-    }
-}
-
-/// Whether a letter of the word is a capital, which `hex` would take for a digit too.
-fn has_capital(word: &str) -> bool
-    ensures { result ≡ list_any is_ascii_uppercase word.now }
-{
-    word.bytes().any(|byte| byte.is_ascii_uppercase())
+    decode_hex(alloc, word)
 }
 
 /// The bytes in lower case hex, or a dash where there are none.

@@ -6,7 +6,7 @@ use Rattle.keep_script.specs.Line.{lines_of}
 use Rattle.keep_script.specs.Run.{BreaksOff, Ends}
 use Rattle.keep_script.specs.State.{State, begun}
 use Rattle.keep_script.specs.declared.status.Status.{Status}
-use Rattle.keep_script.specs.declared.status.Status.TheVariants.{Done, NoMemory}
+use Rattle.keep_script.specs.declared.status.Status.TheVariants.{Done, NoMemory, ScriptTooLong}
 use Rattle.keep_main.specs.Ending.{ending_of}
 use Rattle.keep_main.specs.Option.{options_of}
 use Rattle.keep_main.specs.Reading.{Reads}
@@ -49,3 +49,8 @@ answers-refused words Memory ended written known read is = without-memory (optio
 -- what holds of the options that were read holds of those that the words give
 pub answers-read : (words : List (List ℕ)) (options : Options) (P : Options → Type 0) → options_of words ≡ Some options → P options → IfSome (options_of words) P
 answers-read words options P given holds = subst (λ found. IfSome found P) (sym given) holds
+
+-- words that give no options aren't told as a long script
+pub never-long : (error : BadOptions) → ending_of error ≡ Ran ScriptTooLong → ⊥
+never-long Refused e = cc e
+never-long Memory e = cc e

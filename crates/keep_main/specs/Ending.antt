@@ -2,7 +2,7 @@
 use Rattle.std.specs.Prelude.{ℕ, List, ◌++◌, codes}
 use Rattle.std.specs.Fmt.{decimal}
 use Rattle.keep_lines.specs.Mistake.{mistake_text}
-use Rattle.keep_script.specs.declared.status.Status.TheVariants.{Done, BadLine, ReadFailed, WriteFailed, NoMemory}
+use Rattle.keep_script.specs.declared.status.Status.TheVariants.{Done, BadLine, ReadFailed, ScriptTooLong, WriteFailed, NoMemory}
 use Rattle.keep_main.specs.declared.ending.Ending.{Ending}
 use Rattle.keep_main.specs.declared.ending.Ending.TheVariants as ending
 use Rattle.keep_main.specs.declared.options.BadOptions.{BadOptions}
@@ -13,6 +13,7 @@ abbrev pub code_of : Ending → ℕ
 code_of (ending.Ran Done) = 0
 code_of (ending.Ran (BadLine number why)) = 2
 code_of (ending.Ran ReadFailed) = 1
+code_of (ending.Ran ScriptTooLong) = 1
 code_of (ending.Ran WriteFailed) = 1
 code_of (ending.Ran NoMemory) = 1
 code_of ending.BadOptions = 2
@@ -27,7 +28,8 @@ abbrev pub ending_text : Ending → List ℕ
 ending_text (ending.Ran Done) = codes "keepd: done"
 ending_text (ending.Ran (BadLine number why)) =
     codes "keepd: line " ++ (decimal number ++ (codes ": " ++ mistake_text why))
-ending_text (ending.Ran ReadFailed) = codes "keepd: cannot read the script, or it is longer than 67,108,864 bytes"
+ending_text (ending.Ran ReadFailed) = codes "keepd: cannot read the script"
+ending_text (ending.Ran ScriptTooLong) = codes "keepd: the script has more than 67,108,863 bytes"
 ending_text (ending.Ran WriteFailed) = codes "keepd: cannot write the answers"
 ending_text (ending.Ran NoMemory) = codes "keepd: no memory"
 ending_text ending.BadOptions = codes "keepd: bad options; usage: keepd [--cut N] < SCRIPT"

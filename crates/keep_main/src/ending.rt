@@ -25,7 +25,8 @@ impl Ending {
     {
         match self {
             Ending::Ran(Status::Done) => 0,
-            Ending::Ran(Status::ReadFailed | Status::WriteFailed | Status::NoMemory) => 1,
+            Ending::Ran(Status::ReadFailed | Status::ScriptTooLong) => 1,
+            Ending::Ran(Status::WriteFailed | Status::NoMemory) => 1,
             Ending::Ran(Status::BadLine(_, _)) | Ending::BadOptions => 2,
         }
     }
@@ -61,9 +62,10 @@ impl fmt::Display for Ending {
         match self {
             Ending::Ran(Status::Done) => f.write_str("keepd: done"),
             Ending::Ran(Status::BadLine(number, why)) => write!(f, "keepd: line {number}: {why}"),
-            Ending::Ran(Status::ReadFailed) => f.write_str(
-                "keepd: cannot read the script, or it is longer than 67,108,864 bytes",
-            ),
+            Ending::Ran(Status::ReadFailed) => f.write_str("keepd: cannot read the script"),
+            Ending::Ran(Status::ScriptTooLong) => {
+                f.write_str("keepd: the script has more than 67,108,863 bytes")
+            }
             Ending::Ran(Status::WriteFailed) => f.write_str("keepd: cannot write the answers"),
             Ending::Ran(Status::NoMemory) => f.write_str("keepd: no memory"),
             Ending::BadOptions => {

@@ -1,6 +1,7 @@
-ghost use Rattle.std.specs.Prelude.{◌≡◌, ◌⊎◌, IfSome, None, map};
+ghost use Rattle.std.specs.Prelude.{◌≡◌, ◌≢◌, ◌≤◌, ◌⊎◌, IfSome, None, length, map};
 ghost use Rattle.std.specs.Io.KnownBytes.{Keeps};
-ghost use Rattle.keep_script.specs.Known.{Writes};
+ghost use Rattle.keep_script.specs.Known.{Writes, WritesLines};
+ghost use Rattle.keep_script.specs.Line.{longest_script};
 ghost use Rattle.keep_script.specs.Run.{Ends};
 ghost use Rattle.keep_script.specs.State.{State, begun};
 ghost use Rattle.keep_script.specs.declared.status.Status.{Status};
@@ -28,6 +29,9 @@ pub(crate) fn keepd<'a, R: Read, W: Write>(
         (status : Status) × (result ≡ Ending.Ran status)
         × Writes (W.contents writer.old) (W.contents writer.new) (λ text. (after : State)
         × Ends (begun options.cut) (R.remaining reader.old) (R.remaining reader.new) text status after)) }
+    ensures whole { result ≢ Ending.Ran Status.WriteFailed → WritesLines (W.contents writer.old) (W.contents writer.new) }
+    ensures past_limit { result ≡ Ending.Ran Status.ScriptTooLong →
+        IfSome (R.remaining reader.old) (λ script. longest_script ≤ length script) }
 {
     match read_options(alloc, words) {
         Ok(options) => Ending::Ran(run(alloc, reader, writer, options.cut)),

@@ -170,13 +170,14 @@ fn other_words_are_bad_options(rt: HostRuntime) {
 #[test]
 fn failures_give_their_status(rt: HostRuntime) {
     let alloc = rt.alloc();
-    let unread = "keepd: cannot read the script, or it is longer than 67,108,864 bytes";
+    let unread = "keepd: cannot read the script";
+    let too_long = "keepd: the script has more than 67,108,863 bytes";
     let unwritten = "keepd: cannot write the answers";
     let mut broken = Broken {
         bytes: b"count\ncou",
     };
     expect(&rt, alloc, &[], &mut broken, AMPLE, (ANSWER, unread, 1));
-    expect(&rt, alloc, &[], &mut Endless, (0, 5000), ("", unread, 1));
+    expect(&rt, alloc, &[], &mut Endless, (0, 5000), ("", too_long, 1));
     let script = b"count\n";
     expect(
         &rt,

@@ -1,15 +1,11 @@
 -- Each byte of a SHA-256 is a byte.
-use Rattle.std.proofs.Common.{ℕ, zero, suc, ◌<◌, List, [], ◌∷◌, ◌++◌, slice_index, arith}
+use Rattle.std.proofs.Common.{ℕ, zero, suc, ◌<◌, List, slice_index, arith}
 use Rattle.std.specs.Int.{byte_at, bytes_high_first, to_be_bytes, w32}
 use Rattle.hex.specs.Hex.{IsBytes}
 use Rattle.sha2.proofs.Facts256.{length-sha256}
 use Rattle.sha2.specs.Sha256.{digest_bytes, sha256}
-use Rattle.keep_names.proofs.HexText.{IsBytes-cons}
+use Rattle.keep_names.proofs.HexText.{IsBytes-append, IsBytes-cons}
 use Rattle.keep_names.specs.Laws.{DigestsAreIds}
-
-IsBytes-append : (xs ys : List ℕ) → IsBytes xs → IsBytes ys → IsBytes (xs ++ ys)
-IsBytes-append [] ys h hs = hs
-IsBytes-append (x ∷ xs) ys h hs = IsBytes-cons x (xs ++ ys) (h 0) (IsBytes-append xs ys (λ i. h (suc i)) hs)
 
 byte_at-small : (k n : ℕ) → byte_at k n < 256
 byte_at-small zero n = omega arith

@@ -1,5 +1,5 @@
 -- The texts of bytes in lower case hex: digits in pairs.
-use Rattle.std.proofs.Common.{◌≡◌, ℕ, zero, suc, ◌+◌, ◌*◌, ◌-◌, ◌/◌, ◌%◌, ◌<◌, ◌==◌, Bool, true, false, ◌&&◌, ◌||◌, not, cond, nat_lt, List, [], ◌∷◌, length, slice_index, inl, inr, refl, arith}
+use Rattle.std.proofs.Common.{◌≡◌, ℕ, zero, suc, ◌+◌, ◌*◌, ◌-◌, ◌/◌, ◌%◌, ◌<◌, ◌==◌, Bool, true, false, ◌&&◌, ◌||◌, not, cond, nat_lt, List, [], ◌∷◌, ◌++◌, length, slice_index, inl, inr, refl, arith}
 use Rattle.std.proofs.lemmas.Bool.{and_parts, cases_lt, eqb-true}
 use Rattle.std.proofs.lemmas.List.Elements.{All-cons, All-head, All-nil, All-tail}
 use Rattle.std.specs.List.{AllPass}
@@ -34,7 +34,7 @@ lower_at : (d : ℕ) → d < 16 → IsLower (slice_index lower_digits d)
 lower_at d lt = each_below-at (λ k. is_lower_hex_digit (slice_index lower_digits k)) 16 d refl lt
 
 -- the value of a lower case digit
-abbrev digit_value : ℕ → ℕ
+abbrev pub digit_value : ℕ → ℕ
 digit_value c = cond (nat_lt c 97) (c - 48) (c - 87)
 
 -- whether c is no lower case digit, or the table has it at its value
@@ -44,7 +44,7 @@ stands_at_value c = not (is_lower_hex_digit c) || (slice_index lower_digits (dig
 lower-small : (c : ℕ) → IsLower c → c < 103
 lower-small c h = grind (arith)
 
-digit_value-small : (c : ℕ) → IsLower c → digit_value c < 16
+pub digit_value-small : (c : ℕ) → IsLower c → digit_value c < 16
 digit_value-small c h = grind (arith)
 
 -- the second of two tests, where the first fails
@@ -53,7 +53,7 @@ or_rest true b h e = e
 or_rest false b h e = cc h
 
 -- a lower case digit stands in the table at its value
-lower_digits-digit_value : (c : ℕ) → IsLower c → slice_index lower_digits (digit_value c) ≡ c
+pub lower_digits-digit_value : (c : ℕ) → IsLower c → slice_index lower_digits (digit_value c) ≡ c
 lower_digits-digit_value c h =
     eqb-true (slice_index lower_digits (digit_value c)) c
     (or_rest (is_lower_hex_digit c) _ h (each_below-at stands_at_value 103 c refl (lower-small c h)))
@@ -64,6 +64,11 @@ lower_digits-digit_value c h =
 pub IsBytes-cons : (b : ℕ) (rest : List ℕ) → b < 256 → IsBytes rest → IsBytes (b ∷ rest)
 IsBytes-cons b rest h hs zero = h
 IsBytes-cons b rest h hs (suc i) = hs i
+
+-- bytes after bytes
+pub IsBytes-append : (xs ys : List ℕ) → IsBytes xs → IsBytes ys → IsBytes (xs ++ ys)
+IsBytes-append [] ys h hs = hs
+IsBytes-append (x ∷ xs) ys h hs = IsBytes-cons x (xs ++ ys) (h 0) (IsBytes-append xs ys (λ i. h (suc i)) hs)
 
 -- the text of bytes has lower case digits alone
 pub AllPass-encode_lower : (bytes : List ℕ) → IsBytes bytes → AllPass is_lower_hex_digit (encode_lower bytes)

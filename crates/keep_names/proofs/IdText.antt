@@ -1,8 +1,8 @@
 -- The texts of ids are just those of 64 lower case hex digits, and each names one id.
-use Rattle.std.proofs.Common.{◌≡◌, ℕ, List, [], length, Result, Ok, sym, ap, ◌∙◌, arith}
+use Rattle.std.proofs.Common.{◌≡◌, ℕ, ◌*◌, List, [], length, Result, Ok, sym, ap, ◌∙◌, arith}
 use Rattle.std.specs.List.{AllPass}
 use Rattle.std.specs.Result.{result_unwrap_or}
-use Rattle.hex.specs.Hex.{decode_of, decode_sized, encode_lower, lower_digits}
+use Rattle.hex.specs.Hex.{IsBytes, decode_of, decode_sized, encode_lower, lower_digits}
 use Rattle.hex.proofs.HexLemmas.{decode_of-encode_lower, decode_of-same, decode_sized-encode_lower, decode_sized-ok, length-encode_with}
 use Rattle.hex.specs.declared.error.FromHexError.{FromHexError}
 use Rattle.keep_names.specs.Id.{IsDigest, IsIdText, id_text, is_lower_hex_digit}
@@ -52,5 +52,12 @@ decode_sized-IsIdText text h =
     let found = id_of_text text h in
     (found.0.0, decode_sized-id_text found.0 text found.1 found.2)
 
+-- the bytes of 64 digits are the id of that text
+pub digest-exact : (text digest : List ℕ) → length text ≡ 64 → IsBytes digest → encode_lower digest ≡ text
+    → (id : Id) → IsDigest id → id_text id ≡ text → record { 0 = digest } ≡ id
+digest-exact text digest size h read id whole e =
+    let long : length text ≡ 2 * length digest = ap length (sym read) ∙ length-encode_with lower_digits digest in
+    id_text-exact (record { 0 = digest }) id (omega (arith, long, size), h) whole (read ∙ sym e)
+
 -- what `parse_id` rests on
-pub ruleset reading = (IsIdText-id_text, decode_sized-id_text, id_text-decoded, decode_sized-IsIdText)
+pub ruleset reading = (IsIdText-id_text, digest-exact)

@@ -1,4 +1,5 @@
 pub mod Digests
+pub mod HexPairs
 pub mod HexText
 pub mod IdText
 pub mod Orders

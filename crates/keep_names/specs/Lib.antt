@@ -1,5 +1,6 @@
 pub mod BlobId
 pub mod FileName
+pub mod HexDigit
 pub mod Id
 pub mod Laws
 pub mod Orders

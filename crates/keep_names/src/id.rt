@@ -1,11 +1,9 @@
-ghost use Rattle.std.specs.Prelude.{◌≡◌, ◌↔◌, IfOk, IsOk, IsTrue, string_bytes};
-ghost use Rattle.std.specs.List.{AllPass};
+ghost use Rattle.std.specs.Prelude.{◌≡◌, ◌↔◌, IfOk, IsOk, string_bytes};
 ghost use Rattle.sha2.specs.Sha256.{sha256};
 ghost use Rattle.keep_names.specs.Id.{IsDigest, IsIdText, id_text};
-ghost use Rattle.keep_names.specs.Id as spec;
 ghost use Rattle.keep_names.specs.declared.id.Id.{Id};
 
-use hex::FromHex;
+use crate::hex_digit::decode_into;
 use sha2::{Digest, Sha256};
 use std::alloc::{AllocError, Global};
 use std::{fmt, str};
@@ -32,26 +30,14 @@ pub fn parse_id(text: &str) -> Result<Id, BadId>
     ensures value { IfOk result (λ id. id_text id ≡ text.now) }
     ensures printed { (id : Id) → IsDigest id → id_text id ≡ text.now → result ≡ Ok id }
 {
-    if !is_lower_hex(text) {
+    if text.len() != 64 {
         return Err(BadId);
     }
-    match <[u8; 32] as FromHex>::from_hex(text) {
-        Ok(digest) => Ok(Id(digest)),
-        Err(_) => Err(BadId),
+    let mut digest = [0u8; 32];
+    if !decode_into(text.as_bytes(), &mut digest) {
+        return Err(BadId);
     }
-}
-
-/// Whether all of the text is lower case hex digits. The empty text is.
-pub fn is_lower_hex(text: &str) -> bool
-    ensures { IsTrue result ↔ AllPass spec.is_lower_hex_digit text.now }
-{
-    text.bytes().all(is_lower_hex_digit)
-}
-
-fn is_lower_hex_digit(byte: u8) -> bool
-    ensures { result ≡ spec.is_lower_hex_digit byte }
-{
-    matches!(byte, b'0'..=b'9' | b'a'..=b'f')
+    Ok(Id(digest))
 }
 
 /// The id in 64 lower case hex digits.

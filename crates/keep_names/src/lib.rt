@@ -3,6 +3,7 @@
 
 mod blob;
 mod file_name;
+mod hex_digit;
 mod id;
 mod laws;
 #[cfg(test)]
@@ -10,5 +11,6 @@ mod tests;
 
 pub use blob::{Blob, BlobId, BlobType};
 pub use file_name::{FileName, Kind, path_of};
-pub use id::{BadId, Id, id_of, is_lower_hex, parse_id, print_id, text_names_id};
+pub use hex_digit::decode_hex;
+pub use id::{BadId, Id, id_of, parse_id, print_id, text_names_id};
 pub use laws::{digests_are_ids, names_are_ordered};

@@ -1,4 +1,4 @@
-use crate::{BadId, FileName, Kind, id_of, parse_id, path_of, print_id};
+use crate::{BadId, FileName, Kind, decode_hex, id_of, parse_id, path_of, print_id};
 use std::test::Fail;
 
 const A: &str = "ca978112ca1bbdcafac231b39a23dc4da786eff8147c4e72b9807785afee48bb";
@@ -27,6 +27,17 @@ fn other_texts_are_refused(rt: HostRuntime) {
     ] {
         assert_eq!(rt; parse_id(text), Err(BadId), "{text}");
     }
+}
+
+#[test]
+fn hex_is_read_in_lower_case_and_in_pairs(rt: HostRuntime) -> Result<(), Fail> {
+    let alloc = rt.alloc();
+    let bytes = Vec::from_array(alloc, [0u8, 127, 128, 255])?;
+    assert_eq!(rt; decode_hex(alloc, "007f80ff")?, Some(bytes));
+    for text in ["0", "0g", "0A", "0é"] {
+        assert_eq!(rt; decode_hex(alloc, text)?, None, "{text}");
+    }
+    Ok(())
 }
 
 #[test]

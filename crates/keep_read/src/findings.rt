@@ -13,14 +13,14 @@ use std::alloc::{AllocError, Global};
 /// All that is wrong with the files of the view's repository: wrong names, files that can't be read, wrong blobs, and
 /// broken snapshots, each by name. A snapshot that can't be read isn't broken too.
 ///
-/// Each file and each blob is hashed once.
+/// Each file is hashed, and each blob that the repository didn't hash before.
 pub fn audit(alloc: Global, view: &View) -> Result<Vec<Finding>, AllocError>
     ensures { IfOk result (λ findings. findings.items ≡ findings_in view.now.repo) }
 {
     let mut findings = wrong_names(alloc, view.repo())?;
-    let (mut catalog, unread) = view.read_past(alloc)?;
+    let (catalog, unread) = view.read_past(alloc)?;
     add_unread(&mut findings, &unread)?;
-    let wrong = catalog.hash_all(alloc)?;
+    let wrong = catalog.wrong_blobs(alloc)?;
     add_wrong(&mut findings, &wrong)?;
     let broken = catalog.broken(alloc)?;
     add_broken(&mut findings, &broken)?;

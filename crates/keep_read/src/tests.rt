@@ -1,5 +1,5 @@
 use crate::{RestoreError, Restored, restoration};
-use keep_catalog::{FileError, ReachError, Unread};
+use keep_catalog::{FileError, LiveRepo, ReachError, Unread};
 use keep_journal::History;
 use keep_names::{BlobType, FileName, Id, Kind, id_of};
 use keep_repo::{Bytes, Mark, Repo};
@@ -16,7 +16,8 @@ const TIME: &str = "2024-01-01T10:00:00Z";
 // What a restore gives of a repository to which nothing happened.
 fn restore(alloc: Global, repo: &Repo, name: Id) -> Result<Restored, RestoreError> {
     let history = History::new(alloc, 0);
-    restoration::restore(alloc, &View::without_events(repo, &history), name)
+    let live = LiveRepo::new(alloc, repo.copy()?);
+    restoration::restore(alloc, &View::without_events(&live, &history), name)
 }
 
 // Puts these bytes there, under this name.

@@ -1,5 +1,5 @@
 -- What is written for a command, where its answer is known.
-use Rattle.std.proofs.Common.{◌≡◌, ◌≢◌, ℕ, List, [], Result, Ok, Err, Option, IfOk, IfErr, ◌⊎◌, inl, inr, ap, refl, subst}
+use Rattle.std.proofs.Common.{◌≡◌, ◌≢◌, ℕ, List, [], Result, Ok, Err, Option, IfOk, IfErr, inl, inr, ap, refl, subst}
 use Rattle.std.proofs.KnownBytes.{Appends-nil}
 use Rattle.keep_book.specs.BookState.{BookState}
 use Rattle.keep_book.specs.Reply.{Replies, state_after}
@@ -28,7 +28,7 @@ use Rattle.keep_script.specs.Status.{stop_of}
 use Rattle.keep_script.specs.Step.{AnswersCommand, AnswersLine}
 use Rattle.keep_script.specs.Text.{commit_text, job_answer, reply_answer}
 use Rattle.keep_script.specs.declared.status.Stop.{Stop}
-use Rattle.keep_script.specs.declared.status.Stop.TheVariants.{BadLine, ReadFailed, WriteFailed, NoMemory}
+use Rattle.keep_script.specs.declared.status.Stop.TheVariants.{BadLine, ReadFailed, ScriptTooLong, WriteFailed, NoMemory}
 
 -- nothing is written, and nothing changes
 pub Shows-nothing : (state : State) → Shows state [] [] state
@@ -40,6 +40,7 @@ pub AnswersCommand-puts : (a b : Option (List ℕ)) (state after : State) (comma
 AnswersCommand-puts a b state after command text (Ok u) h answer = (text, h, answer)
 AnswersCommand-puts a b state after command text (Err (BadLine why)) h answer = absurd h
 AnswersCommand-puts a b state after command text (Err ReadFailed) h answer = absurd h
+AnswersCommand-puts a b state after command text (Err ScriptTooLong) h answer = absurd h
 AnswersCommand-puts a b state after command text (Err WriteFailed) h answer = (h.part, h.appended, inr (h.rest, subst (λ t. AnswersTo state command t after) h.split answer))
 AnswersCommand-puts a b state after command text (Err NoMemory) h answer = (h.part, h.appended, inr (h.rest, subst (λ t. AnswersTo state command t after) h.split answer))
 
@@ -49,6 +50,7 @@ pub AnswersLine-command : (a b : Option (List ℕ)) (state after : State) (line 
 AnswersLine-command a b state after line command (Ok u) whole asks (t, h, answer) = (t, h, Done whole command asks answer)
 AnswersLine-command a b state after line command (Err (BadLine why)) whole asks (t, h, answer) = (t, h, (inr (command, asks, answer.0), answer.1))
 AnswersLine-command a b state after line command (Err ReadFailed) whole asks (t, h, answer) = absurd answer
+AnswersLine-command a b state after line command (Err ScriptTooLong) whole asks (t, h, answer) = absurd answer
 AnswersLine-command a b state after line command (Err WriteFailed) whole asks (t, h, answer) =
     (t, h, elim answer [ inl none ↦ inl none | inr begun ↦ inr (begun.0, Done whole command asks begun.1) ])
 AnswersLine-command a b state after line command (Err NoMemory) whole asks (t, h, answer) =

@@ -1,5 +1,5 @@
 -- How many bytes may still come, beside how many are left.
-use Rattle.std.proofs.Common.{◌≡◌, ℕ, ◌+◌, ◌<◌, ◌≤◌, List, [], ◌∷◌, ◌++◌, Option, Some, None, IfSome, length, ap, ◌∙◌, arith}
+use Rattle.std.proofs.Common.{◌≡◌, ℕ, ◌+◌, ◌<◌, ◌≤◌, List, [], ◌∷◌, ◌++◌, Option, Some, None, IfSome, length, refl, ap, ◌∙◌, arith}
 use Rattle.std.proofs.lemmas.List.{length-append}
 use Rattle.std.specs.Io.KnownBytes.{Consumes, IsAtEnd}
 use Rattle.keep_script.specs.Input.{Counted, Takes, size_of}
@@ -7,12 +7,13 @@ use Rattle.keep_script.specs.declared.input.Piece.{Piece}
 use Rattle.keep_script.specs.declared.input.Piece.TheVariants.{Line, Last}
 use Rattle.keep_script.specs.Line.{longest_script}
 use Rattle.keep_script.specs.Run.{StopsAt}
-use Rattle.keep_script.specs.declared.status.Status.TheVariants.{Done}
+use Rattle.keep_script.specs.declared.status.Status.{Status}
+use Rattle.keep_script.specs.declared.status.Status.TheVariants as ended_as
 use Rattle.keep_script.specs.declared.status.Stop.{Stop}
-use Rattle.keep_script.specs.declared.status.Stop.TheVariants.{BadLine, ReadFailed, WriteFailed, NoMemory}
+use Rattle.keep_script.specs.declared.status.Stop.TheVariants.{BadLine, ReadFailed, ScriptTooLong, WriteFailed, NoMemory}
 
 -- bytes that were taken are counted
-Counted-taken : (a b : Option (List ℕ)) (before after : ℕ) (bytes : List ℕ) → Consumes a b bytes → after + length bytes ≤ before → Counted a before b after
+Counted-taken : (a b : Option (List ℕ)) (before after : ℕ) (bytes : List ℕ) → Consumes a b bytes → after + length bytes ≡ before → Counted a before b after
 Counted-taken None b before after bytes taken less = tt
 Counted-taken (Some xs) None before after bytes taken less = absurd taken
 Counted-taken (Some xs) (Some ys) before after bytes taken less =
@@ -45,9 +46,33 @@ Counted-whole (Some xs) (Some ys) (Some zs) first then last bytes more taken nex
     let none = ap length end in
     omega (arith, h, k, none, left, low)
 
+-- where as many bytes are left as can still come, it was so at first
+pub Counted-long : (a b : Option (List ℕ)) (first then : ℕ) (bytes : List ℕ) → Consumes a b bytes → Counted a first b then → IfSome b (λ left. then ≤ length left)
+    → IfSome a (λ script. first ≤ length script)
+Counted-long None b first then bytes taken h many = tt
+Counted-long (Some xs) None first then bytes taken h many = absurd taken
+Counted-long (Some xs) (Some ys) first then bytes taken h many = omega (arith, h, many)
+
+-- a run that stops ends so for one cause
+pub StopsAt-long : (a b : Option (List ℕ)) (number : ℕ) (stop : Stop) → StopsAt a b number stop ended_as.ScriptTooLong → stop ≡ ScriptTooLong
+StopsAt-long a b number (BadLine why) h = absurd h
+StopsAt-long a b number ReadFailed h = cc h.0
+StopsAt-long a b number ScriptTooLong h = refl
+StopsAt-long a b number WriteFailed h = cc h.0
+StopsAt-long a b number NoMemory h = cc h.0
+
+-- a failed write ends it as one
+pub StopsAt-write : (a b : Option (List ℕ)) (number : ℕ) (stop : Stop) (status : Status) → StopsAt a b number stop status → stop ≡ WriteFailed → status ≡ ended_as.WriteFailed
+StopsAt-write a b number (BadLine why) status h e = cc e
+StopsAt-write a b number ReadFailed status h e = cc e
+StopsAt-write a b number ScriptTooLong status h e = cc e
+StopsAt-write a b number WriteFailed status h e = h.0
+StopsAt-write a b number NoMemory status h e = cc e
+
 -- a run that stops isn't done
-pub StopsAt-Done : (a b : Option (List ℕ)) (number : ℕ) (stop : Stop) → StopsAt a b number stop Done → ⊥
+pub StopsAt-Done : (a b : Option (List ℕ)) (number : ℕ) (stop : Stop) → StopsAt a b number stop ended_as.Done → ⊥
 StopsAt-Done a b number (BadLine why) h = h
 StopsAt-Done a b number ReadFailed h = cc h.0
+StopsAt-Done a b number ScriptTooLong h = cc h.0
 StopsAt-Done a b number WriteFailed h = cc h.0
 StopsAt-Done a b number NoMemory h = cc h.0

@@ -1,13 +1,13 @@
 -- What is written in steps is a first part of all that is to be written.
-use Rattle.std.proofs.Common.{◌≡◌, ℕ, List, [], ◌∷◌, ◌++◌, ◌∙◌, take, drop, Result, Ok, Err, refl, sym, ap, subst, append_assoc, append-nil}
+use Rattle.std.proofs.Common.{◌≡◌, ℕ, List, [], ◌∷◌, ◌++◌, ◌∙◌, take, drop, Result, Ok, Err, refl, sym, ap, subst, append_assoc, append-nil, ◌≢◌, inl, inr, IfErr}
 use Rattle.std.proofs.lemmas.List.{take-append-drop}
-use Rattle.std.proofs.KnownBytes.{Appends-trans, Appends-nil}
+use Rattle.std.proofs.KnownBytes.{Appends-kept, Appends-trans, Appends-nil}
 use Rattle.std.specs.Prelude.{IfSome, Option, None, Some}
-use Rattle.std.specs.Io.KnownBytes.{Appends, IsAtEnd, prepend_known}
-use Rattle.keep_script.specs.Known.{AppendsPart, Puts}
+use Rattle.std.specs.Io.KnownBytes.{Appends, IsAtEnd, Keeps, prepend_known}
+use Rattle.keep_script.specs.Known.{AppendsPart, AreLines, Puts, WritesLines}
 use Rattle.keep_script.specs.Line.{line}
 use Rattle.keep_script.specs.declared.status.Stop.{Stop}
-use Rattle.keep_script.specs.declared.status.Stop.TheVariants.{BadLine, ReadFailed, WriteFailed, NoMemory}
+use Rattle.keep_script.specs.declared.status.Stop.TheVariants.{BadLine, ReadFailed, ScriptTooLong, WriteFailed, NoMemory}
 
 -- nothing of it
 pub AppendsPart-none : (a : Option (List ℕ)) (text : List ℕ) → AppendsPart a a text
@@ -46,6 +46,7 @@ pub Puts-failed : (a b c : Option (List ℕ)) (all done next rest : List ℕ) (s
     → all ≡ done ++ (next ++ rest) → Appends a b done → Puts b c next (Err stop) → r ≡ Err stop → Puts a c all r
 Puts-failed a b c all done next rest (BadLine why) r e h k same = absurd k
 Puts-failed a b c all done next rest ReadFailed r e h k same = absurd k
+Puts-failed a b c all done next rest ScriptTooLong r e h k same = absurd k
 Puts-failed a b c all done next rest WriteFailed r e h k same = rw same (AppendsPart-more a b c all done next rest e h k)
 Puts-failed a b c all done next rest NoMemory r e h k same = rw same (AppendsPart-more a b c all done next rest e h k)
 
@@ -59,3 +60,36 @@ pub IsAtEnd-read : (unread : List ℕ) (r : Option (List ℕ)) → IsAtEnd (prep
 IsAtEnd-read unread None h = tt
 IsAtEnd-read [] (Some ys) h = h
 IsAtEnd-read (x ∷ unread) (Some ys) h = cc h
+
+-- ---- whole lines
+
+AreLines-append : (text more : List ℕ) → AreLines text → AreLines more → AreLines (text ++ more)
+AreLines-append text more first (inl none) = subst AreLines (sym (ap (λ l. text ++ l) none ∙ append-nil text)) first
+AreLines-append text more first (inr (front, ends)) = inr (text ++ front, ap (λ l. text ++ l) ends ∙ sym (append_assoc text front (10 ∷ [])))
+
+pub WritesLines-none : (a : Option (List ℕ)) → WritesLines a a
+WritesLines-none a = ([], Appends-nil a, inl refl)
+
+pub WritesLines-trans : (a b c : Option (List ℕ)) → WritesLines a b → WritesLines b c → WritesLines a c
+WritesLines-trans a b c (text, h, first) (more, k, next) = (text ++ more, Appends-trans a b c text more h k, AreLines-append text more first next)
+
+pub WritesLines-kept : (a b c : Option (List ℕ)) → WritesLines a b → Keeps b c → WritesLines a c
+WritesLines-kept a b c (text, h, lines) kept = (text, Appends-kept a b c text h kept, lines)
+
+pub WritesLines-after : (a b c : Option (List ℕ)) → Keeps a b → WritesLines b c → WritesLines a c
+WritesLines-after a b c kept lines = WritesLines-trans a b c (WritesLines-kept a a b (WritesLines-none a) kept) lines
+
+-- a line was put, or a write failed
+pub WritesLines-put : (a b : Option (List ℕ)) (text : List ℕ) (r : Result (Unit {0}) Stop) → Puts a b (line text) r → IfErr r (λ stop. stop ≡ WriteFailed) → r ≢ Err WriteFailed → WritesLines a b
+WritesLines-put a b text (Ok u) h reason failed = (line text, h, inr (text, refl))
+WritesLines-put a b text (Err stop) h reason failed = absurd (failed (ap Err reason))
+
+-- so it was with what an answer prints, where that is known
+pub WritesLines-unmade : (o : Option (List ℕ)) (a : Option (List ℕ)) (r : Result (Unit {0}) Stop) → IfSome o (λ text. r ≢ Err WriteFailed → WritesLines a a)
+WritesLines-unmade None a r = tt
+WritesLines-unmade (Some text) a r = λ failed. WritesLines-none a
+
+pub WritesLines-made : (o : Option (List ℕ)) (a b : Option (List ℕ)) (r : Result (Unit {0}) Stop) → IfSome o (λ text. Puts a b (line text) r) → IfErr r (λ stop. stop ≡ WriteFailed)
+    → IfSome o (λ text. r ≢ Err WriteFailed → WritesLines a b)
+WritesLines-made None a b r puts reason = tt
+WritesLines-made (Some text) a b r puts reason = WritesLines-put a b text r puts reason

@@ -1,6 +1,6 @@
 -- What loops over lists write: the line of each item in turn.
-use Rattle.std.proofs.Common.{◌≡◌, ℕ, ◌+◌, ◌<◌, ◌≤◌, List, [], ◌∷◌, ◌++◌, ◌∙◌, get_or, take, drop, length, Option, Result, Err, refl, sym, ap, subst, append_assoc, append-nil, take_all, take-append-drop, arith}
-use Rattle.std.proofs.KnownBytes.{Appends-nil, Appends-trans}
+use Rattle.std.proofs.Common.{◌≡◌, ℕ, ◌+◌, ◌<◌, ◌≤◌, List, [], ◌∷◌, ◌++◌, ◌∙◌, get_or, take, drop, length, Option, Result, Err, sym, ap, subst, append_assoc, append-nil, take_all, take-append-drop}
+use Rattle.std.proofs.KnownBytes.{Appends-trans}
 use Rattle.std.proofs.lemmas.Grind.{flat_map-append}
 use Rattle.std.proofs.lemmas.List.{drop_more, take_more}
 use Rattle.std.specs.Io.KnownBytes.{Appends}

@@ -1,5 +1,5 @@
 -- What a restore gives, entry by entry.
-use Rattle.std.proofs.Common.{◌≡◌, ℕ, List, [], ◌∷◌, ◌++◌, map, length, Option, Some, None, Result, Ok, Err, IfOk, Less, String, Vec, Global, string_bytes, refl, sym, ap, subst, ◌∙◌, append_assoc, inl, inr, ◌⊎◌}
+use Rattle.std.proofs.Common.{◌≡◌, ℕ, List, [], ◌∷◌, ◌++◌, map, length, Option, Some, Result, Ok, Err, Less, String, Vec, Global, string_bytes, refl, sym, ap, subst, ◌∙◌, append_assoc, inl, inr, ◌⊎◌}
 use Rattle.std.specs.String.{string_cmp}
 use Rattle.std.proofs.lemmas.Cmp.{nat_list_cmp_total}
 use Rattle.std.proofs.lemmas.List.{length-map}
@@ -12,7 +12,6 @@ use Rattle.keep_docs.specs.Doc.{Answers}
 use Rattle.keep_names.specs.declared.file_name.FileName.{FileName}
 use Rattle.keep_names.specs.declared.file_name.Kind.TheVariants.{Snapshot}
 use Rattle.keep_repo.proofs.Maps.{entries_made, len_made}
-use Rattle.keep_read.specs.Findings.{findings_in}
 use Rattle.keep_read.specs.Restored.{RestoredData, path_cmp, restored, restored_view}
 use Rattle.keep_read.specs.declared.finding.Finding.{Finding}
 use Rattle.keep_read.specs.declared.restore_error.RestoreError.{RestoreError}
@@ -23,8 +22,8 @@ use Rattle.keep_script.specs.Answer.{Tells}
 use Rattle.keep_script.specs.Known.{Puts}
 use Rattle.keep_script.specs.RawFile.{file_meant}
 use Rattle.keep_script.specs.State.{State}
-use Rattle.keep_script.specs.Text.{audit_answer, audit_last, finding_line, found_answer, no_memory_answer, restore_answer, restored_answer, restored_last, restored_line}
-use Rattle.keep_lines.specs.declared.question.Question.TheVariants.{Audit, Restore}
+use Rattle.keep_script.specs.Text.{audit_last, finding_line, found_answer, no_memory_answer, restore_answer, restored_answer, restored_last, restored_line}
+use Rattle.keep_lines.specs.declared.question.Question.TheVariants.{Restore}
 use Rattle.keep_script.specs.declared.status.Stop.{Stop}
 use Rattle.keep_lines.specs.declared.word.Target.{Target}
 

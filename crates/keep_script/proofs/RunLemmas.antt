@@ -17,7 +17,7 @@ use Rattle.keep_lines.specs.declared.mistake.Mistake.{Mistake}
 use Rattle.keep_script.specs.declared.status.Status.{Status}
 use Rattle.keep_script.specs.declared.status.Status.TheVariants as ended_as
 use Rattle.keep_script.specs.declared.status.Stop.{Stop}
-use Rattle.keep_script.specs.declared.status.Stop.TheVariants.{BadLine, ReadFailed, WriteFailed, NoMemory}
+use Rattle.keep_script.specs.declared.status.Stop.TheVariants.{BadLine, ReadFailed, ScriptTooLong, WriteFailed, NoMemory}
 
 -- some lines were read and answered: whatever the next ones are, the answers to those come after it
 pub record Progress (known left old new : Option (List ℕ)) (begun now : State) (number : ℕ) : Type 0 where
@@ -99,11 +99,11 @@ Ends-Done known left ahead left' old new newer begun now after number line t so_
 Appends-nothing : (a b c : Option (List ℕ)) (text t : List ℕ) → Appends a b text → Appends b c t → t ≡ [] → Appends a c text
 Appends-nothing a b c text t h k none = subst (Appends a c) (ap (λ l. text ++ l) none ∙ append-nil text) (Appends-trans a b c text t h k)
 
--- a read failed
-pub Ends-ReadFailed : (known left left' old new newer : Option (List ℕ)) (begun now after : State) (number : ℕ) (t : List ℕ)
+-- no more was read
+pub Ends-unread : (known left left' old new newer : Option (List ℕ)) (begun now after : State) (number : ℕ) (t : List ℕ)
     → Progress known left old new begun now number → LosesPiece left left' → Shows now [] t after → Appends new newer t
-    → Writes old newer (λ text. Ends begun known left' text ended_as.ReadFailed after)
-Ends-ReadFailed known left left' old new newer begun now after number t so_far lost shown appended =
+    → Writes old newer (λ text. ReadUpTo begun known left' text after)
+Ends-unread known left left' old new newer begun now after number t so_far lost shown appended =
     let whole = so_far.goes_on [] [] ended_as.Done after (refl, refl, shown.same) in (
       so_far.text,
       Appends-nothing old new newer so_far.text t so_far.written appended shown.text,
@@ -200,6 +200,7 @@ Ends-bad known left left' old new newer newest begun now after number why t (end
     let whole = bad-known known left old new begun now after number why so_far h shown.same in
     (so_far.text ++ bad_line_answer number, Appends-trans old newer newest so_far.text (bad_line_answer number) written wrote, rw (same, cause) whole)
 Ends-bad known left left' old new newer newest begun now after number why t ended_as.ReadFailed so_far h shown appended wrote = absurd wrote
+Ends-bad known left left' old new newer newest begun now after number why t ended_as.ScriptTooLong so_far h shown appended wrote = absurd wrote
 Ends-bad known left left' old new newer newest begun now after number why t ended_as.WriteFailed so_far h shown appended wrote =
     let written = Appends-nothing old new newer so_far.text t so_far.written appended shown.text in
     let whole = bad-known known left old new begun now after number why so_far h shown.same in
@@ -239,6 +240,7 @@ pub Ends-broken : (known left : Option (List ℕ)) (begun after : State) (text :
 Ends-broken known left begun after text ended_as.Done h = broken-whole known begun after text ended_as.Done h.1
 Ends-broken known left begun after text (ended_as.BadLine k told) h = broken-whole known begun after text (ended_as.BadLine k told) h
 Ends-broken known left begun after text ended_as.ReadFailed h = broken-read known left begun after text h
+Ends-broken known left begun after text ended_as.ScriptTooLong h = broken-read known left begun after text h
 Ends-broken known left begun after text ended_as.WriteFailed h = h
 Ends-broken known left begun after text ended_as.NoMemory h = h
 
@@ -247,8 +249,10 @@ pub Ends-stop : (known left ahead left' old new newer newest : Option (List ℕ)
     → Writes new newer (λ t. AnswersNext now left ahead left' t (Err stop) after) → StopsAt newer newest number stop status → Writes old newest (λ text. Ends begun known left' text status after)
 Ends-stop known left ahead left' old new newer newest begun now after number (BadLine why) status so_far (t, appended, (bad, shown)) wrote =
     Ends-bad known left left' old new newer newest begun now after number why t status so_far bad shown appended wrote
-Ends-stop known left ahead left' old new newer newest begun now after number ReadFailed status so_far (t, appended, (piece, none, lost, shown)) (same, kept) =
-    rw same (Ends-ReadFailed known left left' old new newest begun now after number t so_far (piece, none, lost) shown (Appends-kept new newer newest t appended kept))
+Ends-stop known left ahead left' old new newer newest begun now after number ReadFailed status so_far (t, appended, (lost, shown)) (same, kept) =
+    rw same (Ends-unread known left left' old new newest begun now after number t so_far lost shown (Appends-kept new newer newest t appended kept))
+Ends-stop known left ahead left' old new newer newest begun now after number ScriptTooLong status so_far (t, appended, (lost, shown)) (same, kept) =
+    rw same (Ends-unread known left left' old new newest begun now after number t so_far lost shown (Appends-kept new newer newest t appended kept))
 Ends-stop known left ahead left' old new newer newest begun now after number WriteFailed status so_far (t, appended, h) (same, kept) =
     rw same (Breaks known left old new newest begun now after number t so_far h (Appends-kept new newer newest t appended kept))
 Ends-stop known left ahead left' old new newer newest begun now after number NoMemory status so_far (t, appended, h) (same, kept) =

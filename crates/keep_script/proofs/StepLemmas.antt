@@ -8,14 +8,14 @@ use Rattle.keep_script.proofs.LineLemmas.{Starts, lines_of-first}
 use Rattle.keep_lines.specs.declared.mistake.Mistake.{Mistake}
 use Rattle.keep_lines.specs.declared.mistake.Mistake.TheVariants.{TooLong}
 use Rattle.keep_script.specs.Answer.{Answered, IsBad}
-use Rattle.keep_script.specs.Input.{LosesPiece}
+use Rattle.keep_script.specs.Input.{EndsReading, LosesPiece}
 use Rattle.keep_script.specs.Known.{Writes}
 use Rattle.keep_lines.specs.Line.{longest_line}
 use Rattle.keep_script.specs.Line.{is_line_end}
 use Rattle.keep_script.specs.State.{State}
 use Rattle.keep_script.specs.Step.{AnswersLast, AnswersLine, AnswersNext, BeginsAnswer, BeginsWith}
 use Rattle.keep_script.specs.declared.status.Stop.{Stop}
-use Rattle.keep_script.specs.declared.status.Stop.TheVariants.{BadLine, ReadFailed, WriteFailed, NoMemory}
+use Rattle.keep_script.specs.declared.status.Stop.TheVariants.{BadLine, ReadFailed, ScriptTooLong, WriteFailed, NoMemory}
 
 -- a writer that keeps its bytes got none
 pub Appends-none : (a b : Option (List ℕ)) → Keeps a b → Appends a b []
@@ -39,14 +39,15 @@ IsBad-long state (Some (b ∷ bytes)) long =
 
 -- the next line can't be read
 pub AnswersNext-unread : (a b : Option (List ℕ)) (state : State) (left ahead left' : Option (List ℕ)) (stop : Stop) (r : Result Bool Stop) → Keeps a b
-    → ((why : Mistake) → stop ≡ BadLine why → (why ≡ TooLong) × IfSome left (λ bytes. longest_line < length (before_first is_line_end bytes))) → (stop ≡ ReadFailed → LosesPiece left left')
+    → ((why : Mistake) → stop ≡ BadLine why → (why ≡ TooLong) × IfSome left (λ bytes. longest_line < length (before_first is_line_end bytes))) → (EndsReading stop → LosesPiece left left')
     → r ≡ Err stop → Writes a b (λ t. AnswersNext state left ahead left' t r state)
 AnswersNext-unread a b state left ahead left' (BadLine why) r kept long failed same =
     let cause = long why refl in
     rw (same, cause.0) ([], Appends-none a b kept, (IsBad-long state left cause.1, Shows-nothing state))
 AnswersNext-unread a b state left ahead left' ReadFailed r kept long failed same =
-    let lost = failed refl in
-    rw same ([], Appends-none a b kept, (lost.0, lost.1, lost.2, Shows-nothing state))
+    rw same ([], Appends-none a b kept, (failed (inl refl), Shows-nothing state))
+AnswersNext-unread a b state left ahead left' ScriptTooLong r kept long failed same =
+    rw same ([], Appends-none a b kept, (failed (inr refl), Shows-nothing state))
 AnswersNext-unread a b state left ahead left' WriteFailed r kept long failed same = rw same ([], Appends-none a b kept, inl (Shows-nothing state))
 AnswersNext-unread a b state left ahead left' NoMemory r kept long failed same = rw same ([], Appends-none a b kept, inl (Shows-nothing state))
 
@@ -56,6 +57,7 @@ pub AnswersNext-failed : (a b c : Option (List ℕ)) (state after : State) (line
 AnswersNext-failed a b c state after line left ahead left' (BadLine why) r kept start (t, h, answer) same =
     rw same (Writes-after a b c (λ t. AnswersNext state left ahead left' t (Err (BadLine why)) after) kept (t, h, (BeginsWith-from left line (λ l. IsBad state l why) start answer.0, answer.1)))
 AnswersNext-failed a b c state after line left ahead left' ReadFailed r kept start (t, h, answer) same = absurd answer
+AnswersNext-failed a b c state after line left ahead left' ScriptTooLong r kept start (t, h, answer) same = absurd answer
 AnswersNext-failed a b c state after line left ahead left' WriteFailed r kept start (t, h, answer) same =
     rw same (Writes-after a b c (λ t. AnswersNext state left ahead left' t (Err WriteFailed) after) kept (t, h, inr (BeginsWith-from left line (λ l. BeginsAnswer state l t after) start answer)))
 AnswersNext-failed a b c state after line left ahead left' NoMemory r kept start (t, h, answer) same =

@@ -1,5 +1,5 @@
 -- The answer to a line, by the state that the lines before leave.
-use Rattle.std.specs.Prelude.{◌≡◌, ℕ, Bool, IsTrue, ◌↔◌, ◌⊎◌, List, [], Option, Some, None, Result, Ok, Err}
+use Rattle.std.specs.Prelude.{◌≡◌, ℕ, Bool, IsTrue, ◌↔◌, ◌⊎◌, List, [], Some, None, Result, Ok, Err}
 use Rattle.keep_repo.specs.Repository.{Repository}
 use Rattle.keep_names.specs.declared.file_name.FileName.{FileName}
 use Rattle.keep_names.specs.declared.file_name.Kind.TheVariants.{Snapshot}
@@ -30,7 +30,7 @@ use Rattle.keep_lines.specs.declared.revision.Revision as the_revision
 use Rattle.keep_lines.specs.declared.revision.Revision.TheVariants.{Undo, Redo, Empty}
 use Rattle.keep_script.specs.RawFile.{file_change, file_meant}
 use Rattle.keep_script.specs.State.{State, noted_under}
-use Rattle.keep_script.specs.Text.{audit_answer, commit_text, count_answer, found_answer, history_answer, list_answer, no_memory_answer, note_answer, reply_answer, restore_answer, same_answer, unplanned_answer}
+use Rattle.keep_script.specs.Text.{commit_text, count_answer, found_answer, history_answer, list_answer, no_memory_answer, note_answer, reply_answer, restore_answer, same_answer, unplanned_answer}
 
 -- what the book shows
 abbrev pub shown_by : BookState → Shown

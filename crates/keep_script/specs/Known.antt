@@ -1,8 +1,9 @@
 -- What is written to a writer whose bytes are known.
-use Rattle.std.specs.Prelude.{◌≡◌, ℕ, List, ◌++◌, Option, Result, Ok, Err}
+use Rattle.std.specs.Prelude.{◌≡◌, ◌⊎◌, ℕ, List, [], ◌++◌, Option, Result, Ok, Err}
 use Rattle.std.specs.Io.KnownBytes.{Appends}
+use Rattle.keep_script.specs.Line.{line}
 use Rattle.keep_script.specs.declared.status.Stop.{Stop}
-use Rattle.keep_script.specs.declared.status.Stop.TheVariants.{BadLine, ReadFailed, WriteFailed, NoMemory}
+use Rattle.keep_script.specs.declared.status.Stop.TheVariants.{BadLine, ReadFailed, ScriptTooLong, WriteFailed, NoMemory}
 
 -- known bytes grow by a first part of the text, which may be none or all of it
 pub record AppendsPart (old new : Option (List ℕ)) (text : List ℕ) : Type 0 where
@@ -16,9 +17,18 @@ abbrev pub Puts : Option (List ℕ) → Option (List ℕ) → List ℕ → Resul
 Puts old new text (Ok _) = Appends old new text
 Puts old new text (Err (BadLine why)) = ⊥
 Puts old new text (Err ReadFailed) = ⊥
+Puts old new text (Err ScriptTooLong) = ⊥
 Puts old new text (Err WriteFailed) = AppendsPart old new text
 Puts old new text (Err NoMemory) = AppendsPart old new text
 
 -- known bytes grow by a text of which this holds
 abbrev pub Writes : Option (List ℕ) → Option (List ℕ) → (List ℕ → Type 0) → Type 0
 Writes old new P = (text : List ℕ) × Appends old new text × P text
+
+-- nothing, or a text that ends with a line end
+abbrev pub AreLines : List ℕ → Type 0
+AreLines text = (text ≡ []) ⊎ ((front : List ℕ) × (text ≡ line front))
+
+-- known bytes grow by whole lines
+abbrev pub WritesLines : Option (List ℕ) → Option (List ℕ) → Type 0
+WritesLines old new = Writes old new AreLines

@@ -11,7 +11,7 @@ use Rattle.keep_script.specs.Text.{bad_line_answer}
 use Rattle.keep_script.specs.declared.status.Stop.{Stop}
 use Rattle.keep_script.specs.declared.status.Stop.TheVariants as stop
 use Rattle.keep_script.specs.declared.status.Status.{Status}
-use Rattle.keep_script.specs.declared.status.Status.TheVariants.{Done, BadLine, ReadFailed, WriteFailed, NoMemory}
+use Rattle.keep_script.specs.declared.status.Status.TheVariants.{Done, BadLine, ReadFailed, ScriptTooLong, WriteFailed, NoMemory}
 
 -- the run ends at a bad line of this number
 pub record Stops (state : State) (number : ℕ) (line written : List ℕ)
@@ -59,6 +59,7 @@ abbrev pub Ends : State → Option (List ℕ) → Option (List ℕ) → List ℕ
 Ends state known left text Done after = IsAtEnd left × IsAnswer state known text Done after
 Ends state known left text (BadLine number why) after = IsAnswer state known text (BadLine number why) after
 Ends state known left text ReadFailed after = ReadUpTo state known left text after
+Ends state known left text ScriptTooLong after = ReadUpTo state known left text after
 Ends state known left text WriteFailed after =
     IfSome known (λ script. BreaksOff state (lines_of script) text after)
 Ends state known left text NoMemory after =
@@ -71,10 +72,12 @@ Refuses old new number why WriteFailed = AppendsPart old new (bad_line_answer nu
 Refuses old new number why NoMemory = AppendsPart old new (bad_line_answer number)
 Refuses old new number why Done = ⊥
 Refuses old new number why ReadFailed = ⊥
+Refuses old new number why ScriptTooLong = ⊥
 
 -- how a run ends that stops at the line of this number, and what is written then
 abbrev pub StopsAt : Option (List ℕ) → Option (List ℕ) → ℕ → Stop → Status → Type 0
 StopsAt old new number (stop.BadLine why) status = Refuses old new number why status
 StopsAt old new number stop.ReadFailed status = (status ≡ ReadFailed) × Keeps old new
+StopsAt old new number stop.ScriptTooLong status = (status ≡ ScriptTooLong) × Keeps old new
 StopsAt old new number stop.WriteFailed status = (status ≡ WriteFailed) × Keeps old new
 StopsAt old new number stop.NoMemory status = (status ≡ NoMemory) × Keeps old new

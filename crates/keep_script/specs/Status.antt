@@ -5,7 +5,7 @@ use Rattle.keep_lines.specs.declared.command.LineError.TheVariants.{Bad, Memory}
 use Rattle.keep_script.specs.declared.status.Status.{Status}
 use Rattle.keep_script.specs.declared.status.Status.TheVariants as ended
 use Rattle.keep_script.specs.declared.status.Stop.{Stop}
-use Rattle.keep_script.specs.declared.status.Stop.TheVariants.{BadLine, ReadFailed, WriteFailed, NoMemory}
+use Rattle.keep_script.specs.declared.status.Stop.TheVariants.{BadLine, ReadFailed, ScriptTooLong, WriteFailed, NoMemory}
 
 -- a run stops at a line that isn't parsed
 abbrev pub stop_of : LineError → Stop
@@ -16,6 +16,7 @@ stop_of Memory = NoMemory
 abbrev pub status_at : Stop → ℕ → Status
 status_at (BadLine why) number = ended.BadLine number why
 status_at ReadFailed number = ended.ReadFailed
+status_at ScriptTooLong number = ended.ScriptTooLong
 status_at WriteFailed number = ended.WriteFailed
 status_at NoMemory number = ended.NoMemory
 

@@ -2,11 +2,12 @@
 use Rattle.std.specs.Prelude.{◌≡◌, ℕ, ◌⊎◌, List, [], ◌∷◌, ◌++◌, Option, IfSome, Bool, true, false, Result, Ok, Err, codes}
 use Rattle.std.specs.Io.KnownBytes.{Consumes, IsAtEnd}
 use Rattle.keep_script.specs.Answer.{Answered, AnswersTo, IsBad, NamesNothing, Shows}
+use Rattle.keep_script.specs.Input.{LosesPiece}
 use Rattle.keep_script.specs.Line.{HasLineEnd, lines_of}
 use Rattle.keep_script.specs.State.{State}
 use Rattle.keep_lines.specs.declared.command.Command.{Command}
 use Rattle.keep_script.specs.declared.status.Stop.{Stop}
-use Rattle.keep_script.specs.declared.status.Stop.TheVariants.{BadLine, ReadFailed, WriteFailed, NoMemory}
+use Rattle.keep_script.specs.declared.status.Stop.TheVariants.{BadLine, ReadFailed, ScriptTooLong, WriteFailed, NoMemory}
 
 -- nothing was done for the command, or the text is a first part of its answer
 abbrev pub BeginsCommand : State → Command → List ℕ → State → Type 0
@@ -18,6 +19,7 @@ abbrev pub AnswersCommand : State → Command → List ℕ → Result (Unit {0})
 AnswersCommand state command text (Ok _) after = AnswersTo state command text after
 AnswersCommand state command text (Err (BadLine why)) after = NamesNothing state command why × Shows state [] text after
 AnswersCommand state command text (Err ReadFailed) after = ⊥
+AnswersCommand state command text (Err ScriptTooLong) after = ⊥
 AnswersCommand state command text (Err WriteFailed) after = BeginsCommand state command text after
 AnswersCommand state command text (Err NoMemory) after = BeginsCommand state command text after
 
@@ -31,6 +33,7 @@ abbrev pub AnswersLine : State → List ℕ → List ℕ → Result (Unit {0}) S
 AnswersLine state line text (Ok _) after = Answered state line text after
 AnswersLine state line text (Err (BadLine why)) after = IsBad state line why × Shows state [] text after
 AnswersLine state line text (Err ReadFailed) after = ⊥
+AnswersLine state line text (Err ScriptTooLong) after = ⊥
 AnswersLine state line text (Err WriteFailed) after = BeginsAnswer state line text after
 AnswersLine state line text (Err NoMemory) after = BeginsAnswer state line text after
 
@@ -55,8 +58,8 @@ AnswersNext state left ahead left' text (Ok false) after =
     × AnswersLast state line text after
 AnswersNext state left ahead left' text (Err (BadLine why)) after =
     BeginsWith left (λ line. IsBad state line why) × Shows state [] text after
-AnswersNext state left ahead left' text (Err ReadFailed) after =
-    (piece : List ℕ) × (HasLineEnd piece → ⊥) × Consumes left left' piece × Shows state [] text after
+AnswersNext state left ahead left' text (Err ReadFailed) after = LosesPiece left left' × Shows state [] text after
+AnswersNext state left ahead left' text (Err ScriptTooLong) after = LosesPiece left left' × Shows state [] text after
 AnswersNext state left ahead left' text (Err WriteFailed) after =
     Shows state [] text after ⊎ BeginsWith left (λ line. BeginsAnswer state line text after)
 AnswersNext state left ahead left' text (Err NoMemory) after =

@@ -8,7 +8,7 @@ ghost use Rattle.keep_lines.specs.Line.{longest_line};
 ghost use Rattle.keep_lines.specs.Reply.{sizes_of};
 ghost use Rattle.keep_lines.specs.declared.command.Command.TheVariants as the_command;
 ghost use Rattle.keep_script.specs.Answer.{commit_of, request_of, shown_by};
-ghost use Rattle.keep_script.specs.Known.{Writes};
+ghost use Rattle.keep_script.specs.Known.{Writes, WritesLines};
 ghost use Rattle.keep_script.specs.State.{state_of};
 ghost use Rattle.keep_script.specs.Step.{AnswersCommand, AnswersLine};
 
@@ -40,6 +40,7 @@ impl Session {
         requires line { length line.now ≤ longest_line }
         ensures answers { Writes (W.contents writer.old) (W.contents writer.new) (λ text.
             AnswersLine (state_of self.old book.old) line.now text result (state_of self.new book.new)) }
+        ensures whole { result ≢ Err Stop.WriteFailed → WritesLines (W.contents writer.old) (W.contents writer.new) }
         ensures input { self.new.input ≡ self.old.input }
     {
         match parse(self.alloc, line)? {
@@ -57,6 +58,7 @@ impl Session {
         ensures answers { Writes (W.contents writer.old) (W.contents writer.new) (λ text.
             AnswersCommand (state_of self.old book.old) command.entry text result
             (state_of self.new book.new)) }
+        ensures whole { result ≢ Err Stop.WriteFailed → WritesLines (W.contents writer.old) (W.contents writer.new) }
         ensures input { self.new.input ≡ self.old.input }
     {
         match command {
@@ -70,9 +72,10 @@ impl Session {
 
     /// Plans the job on the present state, and commits it at once.
     fn do_job<W: Write>(&self, job: &Job, book: &mut Book, writer: &mut W) -> Result<(), Stop>
-        ensures { Writes (W.contents writer.old) (W.contents writer.new) (λ text.
+        ensures answers { Writes (W.contents writer.old) (W.contents writer.new) (λ text.
             AnswersCommand (state_of self.now book.old) (the_command.Job job.now) text result
             (state_of self.now book.new)) }
+        ensures whole { result ≢ Err Stop.WriteFailed → WritesLines (W.contents writer.old) (W.contents writer.new) }
     {
         let outcome = perform(self.alloc, job, self.settings, book);
         write_job(self.alloc, outcome, writer)
@@ -85,9 +88,10 @@ impl Session {
         book: &mut Book,
         writer: &mut W,
     ) -> Result<(), Stop>
-        ensures { Writes (W.contents writer.old) (W.contents writer.new) (λ text.
+        ensures answers { Writes (W.contents writer.old) (W.contents writer.new) (λ text.
             AnswersCommand (state_of self.now book.old) (the_command.RawFile file) text result
             (state_of self.now book.new)) }
+        ensures whole { result ≢ Err Stop.WriteFailed → WritesLines (W.contents writer.old) (W.contents writer.new) }
     {
         let Some(change) = change_of_file(self.alloc, book, file)? else {
             return Err(Stop::BadLine(Mistake::NoFile));
@@ -102,9 +106,10 @@ impl Session {
         book: &mut Book,
         writer: &mut W,
     ) -> Result<(), Stop>
-        ensures { Writes (W.contents writer.old) (W.contents writer.new) (λ text.
+        ensures answers { Writes (W.contents writer.old) (W.contents writer.new) (λ text.
             AnswersCommand (state_of self.now book.old) (the_command.Revision revision) text result
             (state_of self.now book.new)) }
+        ensures whole { result ≢ Err Stop.WriteFailed → WritesLines (W.contents writer.old) (W.contents writer.new) }
     {
         write_reply(self.alloc, ask(book, revision), writer)
     }
@@ -113,12 +118,13 @@ impl Session {
     fn tell<W: Write>(
         &self,
         question: Question<'_>,
-        book: &Book,
+        book: &mut Book,
         writer: &mut W,
     ) -> Result<(), Stop>
-        ensures { Writes (W.contents writer.old) (W.contents writer.new) (λ text.
-            AnswersCommand (state_of self.now book.now) (the_command.Question question.entry) text result
-            (state_of self.now book.now)) }
+        ensures answers { Writes (W.contents writer.old) (W.contents writer.new) (λ text.
+            AnswersCommand (state_of self.now book.old) (the_command.Question question.entry) text result
+            (state_of self.now book.new)) }
+        ensures whole { result ≢ Err Stop.WriteFailed → WritesLines (W.contents writer.old) (W.contents writer.new) }
     {
         let alloc = self.alloc;
         match question {
@@ -133,9 +139,14 @@ impl Session {
             Question::Restore(target) => {
                 let found = find(book.history(), Kind::Snapshot, target);
                 let name = found.ok_or(Stop::BadLine(Mistake::NoFile))?;
+                book.refresh();
                 write_restore(alloc, restore(alloc, &book.view(), name.id), writer)
             }
-            Question::Audit => write_audit(alloc, audit(alloc, &book.view()), writer),
+            Question::Audit => {
+                book.refresh();
+                book.hash_all();
+                write_audit(alloc, audit(alloc, &book.view()), writer)
+            }
         }
     }
 
@@ -144,6 +155,7 @@ impl Session {
         ensures answers { Writes (W.contents writer.old) (W.contents writer.new) (λ text.
             AnswersCommand (state_of self.old book.now) (the_command.Note name.entry) text result
             (state_of self.new book.now)) }
+        ensures whole { result ≢ Err Stop.WriteFailed → WritesLines (W.contents writer.old) (W.contents writer.new) }
         ensures input { self.new.input ≡ self.old.input }
     {
         let copy = book.repo()?;
@@ -168,6 +180,7 @@ fn perform(
         → job_change (shown_by book.old) (settings_view settings) job.now ≡ Err refusal) }
     ensures same { IfErr result (λ refusal. book.new ≡ book.old) }
 {
+    book.refresh();
     let planned = plan(alloc, &book.view(), settings, job)?;
     Ok(commit(book, planned))
 }

@@ -12,7 +12,7 @@ use keep_lines::Mistake;
 use std::alloc::{AllocError, Global};
 use std::io::{ErrorKind, Read, Write};
 
-/// How many bytes a run reads, and how often it asks for some.
+/// How many bytes a run reads, and how often in a row it is interrupted in a read.
 const MAX_READ: usize = 67_108_864;
 /// How many bytes a line has before its end.
 const MAX_LINE: usize = 1_048_576;
@@ -30,7 +30,6 @@ pub(crate) struct Input {
     /// How many bytes of that are used.
     used: usize,
     bytes_left: usize,
-    turns_left: usize,
     ghost in_chunk: { used ≤ vec_len chunk },
 }
 
@@ -44,7 +43,7 @@ pub(crate) enum Piece {
 }
 
 impl Input {
-    ghost use Rattle.keep_script.specs.Input.{LosesPiece, Takes, ahead_of, bytes_of, ends_line, left_of, size_of, unread_of};
+    ghost use Rattle.keep_script.specs.Input.{EndsReading, LosesPiece, Takes, ahead_of, bytes_of, ends_line, left_of, size_of, unread_of};
 
     /// An input that has read nothing.
     pub fn new(alloc: Global) -> Result<Input, AllocError>
@@ -56,7 +55,6 @@ impl Input {
             chunk: Vec::with_capacity(alloc, CHUNK)?,
             used: 0,
             bytes_left: MAX_READ,
-            turns_left: MAX_READ,
         })
     }
 
@@ -77,8 +75,10 @@ impl Input {
         ensures too_long { (why : Mistake) → result ≡ Err (Stop.BadLine why) → (why ≡ TooLong)
             × IfSome (left_of self.old (R.remaining reader.old))
             (λ bytes. longest_line < length (before_first is_line_end bytes)) }
-        ensures failed { result ≡ Err Stop.ReadFailed → LosesPiece
-            (left_of self.old (R.remaining reader.old)) (R.remaining reader.new) }
+        ensures failed { IfErr result (λ stop. EndsReading stop → LosesPiece
+            (left_of self.old (R.remaining reader.old)) (R.remaining reader.new)) }
+        ensures past_limit { result ≡ Err Stop.ScriptTooLong →
+            IfSome (left_of self.old (R.remaining reader.old)) (λ bytes. ahead_of self.old ≤ length bytes) }
         ensures quiet { Keeps (W.contents writer.old) (W.contents writer.new) }
     {
         let mut line = Vec::new(self.alloc);
@@ -90,7 +90,7 @@ impl Input {
                 return Ok(Piece::Line(line));
             }
         }
-        Err(Stop::ReadFailed)
+        Err(Stop::ScriptTooLong)
     }
 
     fn is_used_up(&self) -> bool
@@ -110,8 +110,10 @@ impl Input {
         ensures end { result ≡ Ok false → IsAtEnd (left_of self.new (R.remaining reader.new)) }
         ensures ahead { OnOk result (ahead_of self.new ≡ ahead_of self.old) }
         ensures more { result ≡ Ok false → 0 < ahead_of self.new }
-        ensures failed { result ≡ Err Stop.ReadFailed →
-            Keeps (left_of self.old (R.remaining reader.old)) (R.remaining reader.new) }
+        ensures some { result ≡ Ok true → 0 < length (unread_of self.new) }
+        ensures failed { IfErr result (λ stop. EndsReading stop →
+            Keeps (left_of self.old (R.remaining reader.old)) (R.remaining reader.new)) }
+        ensures past_limit { result ≡ Err Stop.ScriptTooLong → ahead_of self.old ≡ 0 }
         ensures never_bad { (why : Mistake) → result ≡ Err (Stop.BadLine why) → ⊥ }
         ensures quiet { Keeps (W.contents writer.old) (W.contents writer.new) }
     {
@@ -154,16 +156,17 @@ impl Input {
         ensures end { result ≡ Ok false → IsAtEnd (left_of self.new (R.remaining reader.new)) }
         ensures ahead { OnOk result (ahead_of self.new ≡ ahead_of self.old) }
         ensures more { result ≡ Ok false → 0 < ahead_of self.new }
-        ensures failed { result ≡ Err Stop.ReadFailed →
-            Keeps (R.remaining reader.old) (R.remaining reader.new) }
+        ensures some { result ≡ Ok true → 0 < length (unread_of self.new) }
+        ensures failed { IfErr result (λ stop. EndsReading stop →
+            Keeps (R.remaining reader.old) (R.remaining reader.new)) }
+        ensures past_limit { result ≡ Err Stop.ScriptTooLong → ahead_of self.old ≡ 0 }
         ensures never_bad { (why : Mistake) → result ≡ Err (Stop.BadLine why) → ⊥ }
     {
         let mut chunk = [0; CHUNK];
         for _ in 0..MAX_READ {
-            if self.bytes_left == 0 || self.turns_left == 0 {
-                return Err(Stop::ReadFailed);
+            if self.bytes_left == 0 {
+                return Err(Stop::ScriptTooLong);
             }
-            self.turns_left -= 1;
             let room = self.bytes_left.min(CHUNK);
             match reader.read(&mut chunk[..room]) {
                 Ok(count) => {

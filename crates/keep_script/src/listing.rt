@@ -1,7 +1,7 @@
-ghost use Rattle.std.specs.Prelude.{◌≡◌, length};
+ghost use Rattle.std.specs.Prelude.{◌≡◌, ◌≢◌, Err, length};
 ghost use Rattle.std.specs.FinMap as map;
 ghost use Rattle.keep_read.specs.Restored.{restored_view};
-ghost use Rattle.keep_script.specs.Known.{Puts};
+ghost use Rattle.keep_script.specs.Known.{Puts, WritesLines};
 ghost use Rattle.keep_script.specs.RawFile.{bytes_in};
 ghost use Rattle.keep_script.specs.Text as texts;
 
@@ -21,7 +21,8 @@ use std::io::Write;
 
 /// Writes the answer to `list`: each file in the order of names, and then the counts.
 pub(crate) fn write_list<W: Write>(alloc: Global, repo: &Repo, writer: &mut W) -> Result<(), Stop>
-    ensures { Puts (W.contents writer.old) (W.contents writer.new) (texts.list_answer repo.now) result }
+    ensures puts { Puts (W.contents writer.old) (W.contents writer.new) (texts.list_answer repo.now) result }
+    ensures whole { result ≢ Err Stop.WriteFailed → WritesLines (W.contents writer.old) (W.contents writer.new) }
 {
     let (names, _) = repo.list()?;
     for name in &names {
@@ -36,7 +37,8 @@ fn write_file<W: Write>(
     name: FileName,
     writer: &mut W,
 ) -> Result<(), Stop>
-    ensures { Puts (W.contents writer.old) (W.contents writer.new) (texts.file_line repo.now name) result }
+    ensures puts { Puts (W.contents writer.old) (W.contents writer.new) (texts.file_line repo.now name) result }
+    ensures whole { result ≢ Err Stop.WriteFailed → WritesLines (W.contents writer.old) (W.contents writer.new) }
 {
     let length = length_of(repo, name);
     let marked = is_marked(repo, name);
@@ -70,7 +72,8 @@ fn is_marked(repo: &Repo, name: FileName) -> bool
 
 /// Writes the answer to `count`.
 pub(crate) fn write_count<W: Write>(alloc: Global, repo: &Repo, writer: &mut W) -> Result<(), Stop>
-    ensures { Puts (W.contents writer.old) (W.contents writer.new) (texts.count_answer repo.now) result }
+    ensures puts { Puts (W.contents writer.old) (W.contents writer.new) (texts.count_answer repo.now) result }
+    ensures whole { result ≢ Err Stop.WriteFailed → WritesLines (W.contents writer.old) (W.contents writer.new) }
 {
     let counts = Counts {
         files: repo.file_count(),
@@ -85,8 +88,9 @@ pub(crate) fn write_history<W: Write>(
     history: &History,
     writer: &mut W,
 ) -> Result<(), Stop>
-    ensures { Puts (W.contents writer.old) (W.contents writer.new)
+    ensures puts { Puts (W.contents writer.old) (W.contents writer.new)
         (texts.history_answer history.now.journal) result }
+    ensures whole { result ≢ Err Stop.WriteFailed → WritesLines (W.contents writer.old) (W.contents writer.new) }
 {
     for entry in history.entries() {
         write_entry(alloc, entry, writer)?;
@@ -95,7 +99,8 @@ pub(crate) fn write_history<W: Write>(
 }
 
 fn write_entry<W: Write>(alloc: Global, entry: &Entry, writer: &mut W) -> Result<(), Stop>
-    ensures { Puts (W.contents writer.old) (W.contents writer.new) (texts.entry_line entry.now) result }
+    ensures puts { Puts (W.contents writer.old) (W.contents writer.new) (texts.entry_line entry.now) result }
+    ensures whole { result ≢ Err Stop.WriteFailed → WritesLines (W.contents writer.old) (W.contents writer.new) }
 {
     let event = EventLine {
         at: entry.at,
@@ -111,8 +116,9 @@ pub(crate) fn write_restored<W: Write>(
     restored: &Restored,
     writer: &mut W,
 ) -> Result<(), Stop>
-    ensures { Puts (W.contents writer.old) (W.contents writer.new)
+    ensures puts { Puts (W.contents writer.old) (W.contents writer.new)
         (texts.restored_answer (restored_view restored.now)) result }
+    ensures whole { result ≢ Err Stop.WriteFailed → WritesLines (W.contents writer.old) (W.contents writer.new) }
 {
     for (path, bytes) in &restored.files {
         write_restored_file(alloc, path, bytes, writer)?;
@@ -126,8 +132,9 @@ fn write_restored_file<W: Write>(
     bytes: &[u8],
     writer: &mut W,
 ) -> Result<(), Stop>
-    ensures { Puts (W.contents writer.old) (W.contents writer.new)
+    ensures puts { Puts (W.contents writer.old) (W.contents writer.new)
         (texts.restored_line (path.now, bytes.now)) result }
+    ensures whole { result ≢ Err Stop.WriteFailed → WritesLines (W.contents writer.old) (W.contents writer.new) }
 {
     let hex = print_hex(alloc, bytes)?;
     let file = RestoredFile {
@@ -138,9 +145,10 @@ fn write_restored_file<W: Write>(
 }
 
 fn write_counts<W: Write>(alloc: Global, restored: &Restored, writer: &mut W) -> Result<(), Stop>
-    ensures { let restored = restored_view restored.now in
+    ensures puts { let restored = restored_view restored.now in
         Puts (W.contents writer.old) (W.contents writer.new)
         (texts.restored_last (map.len restored.files) restored.skipped) result }
+    ensures whole { result ≢ Err Stop.WriteFailed → WritesLines (W.contents writer.old) (W.contents writer.new) }
 {
     let counts = RestoredCounts {
         files: restored.files.len(),
@@ -155,8 +163,9 @@ pub(crate) fn write_findings<W: Write>(
     findings: &[Finding],
     writer: &mut W,
 ) -> Result<(), Stop>
-    ensures { Puts (W.contents writer.old) (W.contents writer.new)
+    ensures puts { Puts (W.contents writer.old) (W.contents writer.new)
         (texts.found_answer findings.now) result }
+    ensures whole { result ≢ Err Stop.WriteFailed → WritesLines (W.contents writer.old) (W.contents writer.new) }
 {
     for finding in findings {
         put_line(alloc, &Found(finding), writer)?;

@@ -1,6 +1,6 @@
-ghost use Rattle.std.specs.Prelude.{◌≡◌, IfErr, IfSome};
+ghost use Rattle.std.specs.Prelude.{◌≡◌, ◌≢◌, Err, IfErr, IfSome};
 ghost use Rattle.std.specs.Io.KnownBytes.{Keeps};
-ghost use Rattle.keep_script.specs.Known.{Puts};
+ghost use Rattle.keep_script.specs.Known.{Puts, WritesLines};
 ghost use Rattle.keep_script.specs.Line.{line};
 
 use crate::status::Stop;
@@ -14,8 +14,10 @@ pub(crate) fn put_line<T: Display, W: Write>(
     answer: &T,
     writer: &mut W,
 ) -> Result<(), Stop>
-    ensures { IfSome (T.output answer.now) (λ text.
+    ensures puts { IfSome (T.output answer.now) (λ text.
         Puts (W.contents writer.old) (W.contents writer.new) (line text) result) }
+    ensures whole { IfSome (T.output answer.now) (λ _.
+        result ≢ Err Stop.WriteFailed → WritesLines (W.contents writer.old) (W.contents writer.new)) }
 {
     let text = format!(in alloc; "{answer}\n")?;
     put(writer, text.as_str().as_bytes())
@@ -23,7 +25,8 @@ pub(crate) fn put_line<T: Display, W: Write>(
 
 /// Writes all of the bytes.
 fn put<W: Write>(writer: &mut W, bytes: &[u8]) -> Result<(), Stop>
-    ensures { Puts (W.contents writer.old) (W.contents writer.new) bytes.now result }
+    ensures puts { Puts (W.contents writer.old) (W.contents writer.new) bytes.now result }
+    ensures reason { IfErr result (λ stop. stop ≡ Stop.WriteFailed) }
 {
     let mut rest = bytes;
     for _ in 0..u64::MAX {

@@ -1,7 +1,8 @@
+ghost use Rattle.std.specs.Prelude.{◌≢◌, Err};
 ghost use Rattle.std.specs.Result.{result_map_both};
 ghost use Rattle.keep_lines.specs.Reply.{told_text};
 ghost use Rattle.keep_read.specs.Restored.{restored_view};
-ghost use Rattle.keep_script.specs.Known.{Puts};
+ghost use Rattle.keep_script.specs.Known.{Puts, WritesLines};
 ghost use Rattle.keep_script.specs.Text as texts;
 
 use crate::listing::{write_findings, write_restored};
@@ -23,7 +24,8 @@ pub(crate) fn write_reply<W: Write>(
     reply: Result<Told, Refusal>,
     writer: &mut W,
 ) -> Result<(), Stop>
-    ensures { Puts (W.contents writer.old) (W.contents writer.new) (texts.reply_answer told_text reply) result }
+    ensures puts { Puts (W.contents writer.old) (W.contents writer.new) (texts.reply_answer told_text reply) result }
+    ensures whole { result ≢ Err Stop.WriteFailed → WritesLines (W.contents writer.old) (W.contents writer.new) }
 {
     match reply {
         Ok(told) => put_line(alloc, &Accepted(told), writer),
@@ -37,8 +39,9 @@ pub(crate) fn write_committed<W: Write>(
     outcome: Outcome,
     writer: &mut W,
 ) -> Result<(), Stop>
-    ensures { Puts (W.contents writer.old) (W.contents writer.new)
+    ensures puts { Puts (W.contents writer.old) (W.contents writer.new)
         (texts.reply_answer (texts.commit_text outcome.1) outcome.0) result }
+    ensures whole { result ≢ Err Stop.WriteFailed → WritesLines (W.contents writer.old) (W.contents writer.new) }
 {
     let (reply, sizes) = outcome;
     match reply {
@@ -53,7 +56,8 @@ pub(crate) fn write_job<W: Write>(
     outcome: Result<Outcome, PlanError>,
     writer: &mut W,
 ) -> Result<(), Stop>
-    ensures { Puts (W.contents writer.old) (W.contents writer.new) (texts.job_answer outcome) result }
+    ensures puts { Puts (W.contents writer.old) (W.contents writer.new) (texts.job_answer outcome) result }
+    ensures whole { result ≢ Err Stop.WriteFailed → WritesLines (W.contents writer.old) (W.contents writer.new) }
 {
     match outcome {
         Ok(committed) => write_committed(alloc, committed, writer),
@@ -67,8 +71,9 @@ pub(crate) fn write_restore<W: Write>(
     outcome: Result<Restored, RestoreError>,
     writer: &mut W,
 ) -> Result<(), Stop>
-    ensures { Puts (W.contents writer.old) (W.contents writer.new)
+    ensures puts { Puts (W.contents writer.old) (W.contents writer.new)
         (texts.restore_answer (result_map_both restored_view (λ refusal. refusal) outcome)) result }
+    ensures whole { result ≢ Err Stop.WriteFailed → WritesLines (W.contents writer.old) (W.contents writer.new) }
 {
     match outcome {
         Ok(restored) => write_restored(alloc, &restored, writer),
@@ -82,8 +87,9 @@ pub(crate) fn write_audit<W: Write>(
     outcome: Result<Vec<Finding>, AllocError>,
     writer: &mut W,
 ) -> Result<(), Stop>
-    ensures { Puts (W.contents writer.old) (W.contents writer.new)
+    ensures puts { Puts (W.contents writer.old) (W.contents writer.new)
         (texts.audit_answer (result_map_both (λ findings. findings.items) (λ error. error) outcome)) result }
+    ensures whole { result ≢ Err Stop.WriteFailed → WritesLines (W.contents writer.old) (W.contents writer.new) }
 {
     match outcome {
         Ok(findings) => write_findings(alloc, &findings, writer),
@@ -97,7 +103,8 @@ pub(crate) fn write_bad_line<W: Write>(
     number: u64,
     writer: &mut W,
 ) -> Result<(), Stop>
-    ensures { Puts (W.contents writer.old) (W.contents writer.new) (texts.bad_line_answer number) result }
+    ensures puts { Puts (W.contents writer.old) (W.contents writer.new) (texts.bad_line_answer number) result }
+    ensures whole { result ≢ Err Stop.WriteFailed → WritesLines (W.contents writer.old) (W.contents writer.new) }
 {
     put_line(alloc, &BadLine(number), writer)
 }

@@ -1,6 +1,6 @@
-ghost use Rattle.std.specs.Prelude.{◌≡◌, ◌≤◌, ◌<◌, ◌⊎◌, IfSome, length};
+ghost use Rattle.std.specs.Prelude.{◌≡◌, ◌≢◌, ◌≤◌, ◌<◌, ◌⊎◌, IfSome, length};
 ghost use Rattle.std.specs.Io.KnownBytes.{Keeps};
-ghost use Rattle.keep_script.specs.Known.{Writes};
+ghost use Rattle.keep_script.specs.Known.{Writes, WritesLines};
 ghost use Rattle.keep_script.specs.Line.{longest_script};
 ghost use Rattle.keep_script.specs.Run.{Ends};
 ghost use Rattle.keep_script.specs.State.{State, begun, begun_over};
@@ -18,7 +18,7 @@ use std::io::{Read, Write};
 /// Answers the lines of a script in turn, over a repository that begins without files.
 ///
 /// A line has at most 1,048,576 bytes before its end. The reader is given up after 67,108,864
-/// bytes or reads. Whatever ends the run, the lines before were answered.
+/// bytes. Whatever ends the run, the lines before were answered.
 ///
 /// The writer is flushed before each read, and at the end. The answers to `list`, `history`,
 /// `restore` and `audit` are written line by line. Where one finds no memory midway, its first
@@ -30,8 +30,11 @@ pub fn run<R: Read, W: Write>(alloc: Global, reader: &mut R, writer: &mut W, cut
     requires most { cut ≤ 8_388_608 }
     ensures answers { Writes (W.contents writer.old) (W.contents writer.new) (λ text. (after : State)
         × Ends (begun cut) (R.remaining reader.old) (R.remaining reader.new) text result after) }
+    ensures whole { result ≢ Status.WriteFailed → WritesLines (W.contents writer.old) (W.contents writer.new) }
     ensures limit { result ≡ Status.Done →
         IfSome (R.remaining reader.old) (λ script. length script < longest_script) }
+    ensures past_limit { result ≡ Status.ScriptTooLong →
+        IfSome (R.remaining reader.old) (λ script. longest_script ≤ length script) }
 {
     let settings = Settings {
         cut: Cut::after(cut),
@@ -52,8 +55,11 @@ fn run_over<R: Read, W: Write>(
         × (after.book ≡ book.new)
         × Ends (begun_over settings.cut.bytes book.old) (R.remaining reader.old) (R.remaining reader.new)
         text result after) }
+    ensures whole { result ≢ Status.WriteFailed → WritesLines (W.contents writer.old) (W.contents writer.new) }
     ensures limit { result ≡ Status.Done →
         IfSome (R.remaining reader.old) (λ script. length script < longest_script) }
+    ensures past_limit { result ≡ Status.ScriptTooLong →
+        IfSome (R.remaining reader.old) (λ script. longest_script ≤ length script) }
 {
     let Ok(mut session) = Session::new(alloc, settings) else {
         return Status::NoMemory;

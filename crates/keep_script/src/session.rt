@@ -1,7 +1,7 @@
-ghost use Rattle.std.specs.Prelude.{◌≡◌, ◌≤◌, ◌<◌, IfOk, IfSome, Ok, OnOk, [], length, true, false};
+ghost use Rattle.std.specs.Prelude.{◌≡◌, ◌≢◌, ◌≤◌, ◌<◌, Err, IfOk, IfSome, Ok, OnOk, [], length, true, false};
 ghost use Rattle.keep_jobs.specs.Job.{settings_view};
 ghost use Rattle.keep_script.specs.Input.{Counted, ahead_of, left_of, unread_of};
-ghost use Rattle.keep_script.specs.Known.{Writes};
+ghost use Rattle.keep_script.specs.Known.{Writes, WritesLines};
 ghost use Rattle.keep_script.specs.Line.{longest_script};
 ghost use Rattle.keep_script.specs.Run.{Ends, Refuses, StopsAt};
 ghost use Rattle.keep_script.specs.State.{no_notes, notes_of, state_of};
@@ -51,12 +51,15 @@ impl Session {
         reader: &mut R,
         writer: &mut W,
     ) -> Status
-        requires ahead { ahead_of self.old.input ≤ longest_script }
+        requires ahead { ahead_of self.old.input ≡ longest_script }
         ensures answers { Writes (W.contents writer.old) (W.contents writer.new) (λ text.
             Ends (state_of self.old book.old) (left_of self.old.input (R.remaining reader.old))
             (R.remaining reader.new) text result (state_of self.new book.new)) }
+        ensures whole { result ≢ Status.WriteFailed → WritesLines (W.contents writer.old) (W.contents writer.new) }
         ensures limit { result ≡ Status.Done →
             IfSome (left_of self.old.input (R.remaining reader.old)) (λ script. length script < longest_script) }
+        ensures past_limit { result ≡ Status.ScriptTooLong →
+            IfSome (left_of self.old.input (R.remaining reader.old)) (λ script. longest_script ≤ length script) }
     {
         for number in 1..u64::MAX {
             match self.answer_next(book, reader, writer) {
@@ -79,11 +82,14 @@ impl Session {
             AnswersNext (state_of self.old book.old) (left_of self.old.input (R.remaining reader.old))
             (left_of self.new.input (R.remaining reader.new)) (R.remaining reader.new) text result
             (state_of self.new book.new)) }
+        ensures whole { result ≢ Err Stop.WriteFailed → WritesLines (W.contents writer.old) (W.contents writer.new) }
         ensures spent { result ≡ Ok true → ahead_of self.new.input < ahead_of self.old.input }
         ensures counted { OnOk result (Counted
             (left_of self.old.input (R.remaining reader.old)) (ahead_of self.old.input)
             (left_of self.new.input (R.remaining reader.new)) (ahead_of self.new.input)) }
         ensures more { result ≡ Ok false → 0 < ahead_of self.new.input }
+        ensures past_limit { result ≡ Err Stop.ScriptTooLong →
+            IfSome (left_of self.old.input (R.remaining reader.old)) (λ bytes. ahead_of self.old.input ≤ length bytes) }
     {
         match self.input.next_line(reader, writer)? {
             Piece::Line(line) => {
@@ -101,7 +107,8 @@ impl Session {
 
 /// How the run ends that stops at the line of this number. Of a bad line it says so.
 fn stop_at<W: Write>(alloc: Global, number: u64, stop: Stop, writer: &mut W) -> Status
-    ensures { StopsAt (W.contents writer.old) (W.contents writer.new) number stop result }
+    ensures stops { StopsAt (W.contents writer.old) (W.contents writer.new) number stop result }
+    ensures whole { result ≢ Status.WriteFailed → WritesLines (W.contents writer.old) (W.contents writer.new) }
 {
     match stop {
         Stop::BadLine(why) => refuse(alloc, number, why, writer),
@@ -111,7 +118,8 @@ fn stop_at<W: Write>(alloc: Global, number: u64, stop: Stop, writer: &mut W) -> 
 
 /// Says that the line of this number is bad, which ends the run.
 fn refuse<W: Write>(alloc: Global, number: u64, why: Mistake, writer: &mut W) -> Status
-    ensures { Refuses (W.contents writer.old) (W.contents writer.new) number why result }
+    ensures refuses { Refuses (W.contents writer.old) (W.contents writer.new) number why result }
+    ensures whole { result ≢ Status.WriteFailed → WritesLines (W.contents writer.old) (W.contents writer.new) }
 {
     match write_bad_line(alloc, number, writer) {
         Ok(()) => Status::BadLine(number, why),

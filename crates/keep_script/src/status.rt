@@ -12,8 +12,10 @@ pub enum Status {
     Done,
     /// The line of this number, from 1, isn't one of the language, for this cause.
     BadLine(u64, Mistake),
-    /// A read failed, or the script is longer than a run reads.
+    /// A read failed.
     ReadFailed,
+    /// The script is longer than a run reads.
+    ScriptTooLong,
     /// A write failed, so what is written may break off anywhere.
     WriteFailed,
     /// The run itself found no memory: for a line, a note or an answer. Of the answer to `list`,
@@ -38,6 +40,7 @@ impl Status {
 pub(crate) enum Stop {
     BadLine(Mistake),
     ReadFailed,
+    ScriptTooLong,
     WriteFailed,
     NoMemory,
 }
@@ -50,6 +53,7 @@ impl Stop {
         match self {
             Stop::BadLine(why) => Status::BadLine(number, why),
             Stop::ReadFailed => Status::ReadFailed,
+            Stop::ScriptTooLong => Status::ScriptTooLong,
             Stop::WriteFailed => Status::WriteFailed,
             Stop::NoMemory => Status::NoMemory,
         }

@@ -122,7 +122,7 @@ fn limits_are_kept(rt: HostRuntime) -> Result<(), Fail> {
         refused,
         Status::BadLine(2, Mistake::TooLong),
     );
-    expect(&rt, alloc, &mut Endless, "", Status::ReadFailed);
+    expect(&rt, alloc, &mut Endless, "", Status::ScriptTooLong);
     Ok(())
 }
 

@@ -1,5 +1,5 @@
 use crate::View;
-use keep_catalog::CatalogError;
+use keep_catalog::{CatalogError, LiveRepo};
 use keep_journal::History;
 use keep_names::{FileName, Id, id_of};
 use keep_repo::{Bytes, Repo};
@@ -7,11 +7,11 @@ use std::alloc::{AllocError, Global};
 use std::test::Fail;
 
 /// A repository with one file, of these bytes.
-fn with_file(alloc: Global, name: FileName, bytes: &[u8]) -> Result<Repo, AllocError> {
+fn with_file(alloc: Global, name: FileName, bytes: &[u8]) -> Result<LiveRepo, AllocError> {
     let bytes = Bytes::new(alloc, bytes.to_vec(alloc)?)?;
     let mut repo = Repo::new(alloc);
     repo.insert_file(name, bytes)?;
-    Ok(repo)
+    Ok(LiveRepo::new(alloc, repo))
 }
 
 #[test]
@@ -42,7 +42,7 @@ fn a_catalog_is_refused_where_a_file_cant_be_read(rt: HostRuntime) -> Result<(),
     );
     let (catalog, unread) = view.read_past(alloc)?;
     assert!(rt; catalog.snaps().is_empty() && unread.len() == 1);
-    let empty = Repo::new(alloc);
+    let empty = LiveRepo::new(alloc, Repo::new(alloc));
     let view = View::without_events(&empty, &history);
     assert!(rt; view.catalog(alloc).is_ok());
     Ok(())

@@ -9,7 +9,7 @@ ghost use Rattle.keep_journal.specs.Opening.{IsOpen, opening_under};
 ghost use Rattle.keep_view.specs.Shown.{shown_alone, shown_of};
 
 use crate::known::known_snapshots;
-use keep_catalog::{Catalog, CatalogError, Unread};
+use keep_catalog::{Catalog, CatalogError, LiveRepo, Unread};
 use keep_journal::History;
 use keep_names::Id;
 use keep_repo::Repo;
@@ -22,7 +22,7 @@ use std::marker::Model;
 /// It borrows both, and computes nothing that isn't asked for.
 #[derive(Drop)]
 pub struct View<'a> {
-    repo: &'a Repo,
+    live: &'a LiveRepo,
     history: &'a History,
 }
 
@@ -35,35 +35,35 @@ impl<'a> Model for View<'a> {
     ghost coded = { coded_shown };
 
     ghost view = { λ v. shown_of
-        (opening_under v.history.now.journal v.repo.now) v.history.now.journal v.repo.now };
+        (opening_under v.history.now.journal v.live.now) v.history.now.journal v.live.now };
 
     ghost invariant = { λ v. IsOpen
-        (opening_under v.history.now.journal v.repo.now) v.history.now.journal v.repo.now };
+        (opening_under v.history.now.journal v.live.now) v.history.now.journal v.live.now };
 }
 
 impl<'a> View<'a> {
     /// The live repository under its history.
-    pub fn of(repo: &'a Repo, history: &'a History) -> View<'a>
+    pub fn of(live: &'a LiveRepo, history: &'a History) -> View<'a>
         requires { let journal = history.now.journal in
-            IsOpen (opening_under journal repo.now) journal repo.now }
+            IsOpen (opening_under journal live.now) journal live.now }
         ensures { let journal = history.entry.now.journal in
-            result ≡ shown_of (opening_under journal repo.entry.now) journal repo.entry.now }
+            result ≡ shown_of (opening_under journal live.entry.now) journal live.entry.now }
     {
-        View { repo, history }
+        View { live, history }
     }
 
     /// The repository under a history that has no events yet.
-    pub fn without_events(repo: &'a Repo, history: &'a History) -> View<'a>
+    pub fn without_events(live: &'a LiveRepo, history: &'a History) -> View<'a>
         requires { history.now.journal.entries ≡ [] }
-        ensures { result ≡ shown_alone repo.entry.now }
+        ensures { result ≡ shown_alone live.entry.now }
     {
-        View { repo, history }
+        View { live, history }
     }
 
     pub fn repo(&self) -> &'a Repo
         ensures { result.now ≡ self.now.repo }
     {
-        self.repo
+        self.live.repo()
     }
 
     /// The number of the last event, 0 where there is none.
@@ -80,7 +80,7 @@ impl<'a> View<'a> {
         ensures refused { IfErr result (λ error. error ≢ the_error.Memory
             → option_map the_error.Unread (slice_get (unread_in self.now.repo) 0) ≡ Some error) }
     {
-        Catalog::of(alloc, self.repo)
+        self.live.catalog(alloc)
     }
 
     /// The catalog, and the files that can't be read, by name. Those have and list nothing.
@@ -88,7 +88,7 @@ impl<'a> View<'a> {
         ensures catalog { IfOk result (λ made. made.0 ≡ self.now.repo) }
         ensures unread { IfOk result (λ made. made.1.items ≡ unread_in self.now.repo) }
     {
-        Catalog::read_past(alloc, self.repo)
+        self.live.read_past(alloc)
     }
 
     /// The names of the snapshots of the opening and of every change that isn't final and adds one.
@@ -97,6 +97,6 @@ impl<'a> View<'a> {
         ensures each { IfOk result (λ known. (id : the_id.Id) →
             contains id_cmp known id ≡ set.contains self.now.known id) }
     {
-        known_snapshots(alloc, self.history, self.repo)
+        known_snapshots(alloc, self.history, self.live.repo())
     }
 }

@@ -1,6 +1,6 @@
 use super::{TIME, dir, one_file, put_snapshot, put_tree, restore};
 use crate::{Finding, RestoreError, findings};
-use keep_catalog::{FileError, ReachError, Unread};
+use keep_catalog::{FileError, LiveRepo, ReachError, Unread};
 use keep_journal::History;
 use keep_names::{BlobId, BlobType, FileName, Id, id_of};
 use keep_repo::{Mark, Repo};
@@ -12,7 +12,8 @@ use std::test::Fail;
 // What an audit finds in a repository to which nothing happened.
 fn audit(alloc: Global, repo: &Repo) -> Result<Vec<Finding>, AllocError> {
     let history = History::new(alloc, 0);
-    findings::audit(alloc, &View::without_events(repo, &history))
+    let live = LiveRepo::new(alloc, repo.copy()?);
+    findings::audit(alloc, &View::without_events(&live, &history))
 }
 
 #[test]

@@ -1,6 +1,6 @@
 use Rattle.std.proofs.Common.{ap, ◌∙◌}
 use Rattle.std.specs.FinMap as finite
-use Rattle.keep_catalog.proofs.Kept.{no_bytes, some_bytes}
+use Rattle.keep_catalog.proofs.Slices.{no_bytes, some_bytes}
 use Rattle.keep_catalog.proofs.bytes_there.bytes_at.Goals as goal
 
 pub returns-in_default : goal.returns-in_default

@@ -1,15 +1,12 @@
-use Rattle.std.proofs.Common.{◌≡◌, map, take}
-use Rattle.std.specs.BTreeSet.{contains}
-use Rattle.std.specs.Option.{option_or}
+use Rattle.std.proofs.Common.{◌≡◌, ◌&&◌, cond, true, take}
 use Rattle.keep_names.specs.declared.blob.BlobId.{BlobId}
-use Rattle.keep_catalog.specs.Orders.{packed_blob_cmp}
-use Rattle.keep_catalog.specs.Places.{listed_of}
-use Rattle.keep_catalog.specs.Read.{listing_at}
-use Rattle.keep_catalog.specs.declared.spot.Spot.{Spot}
-use Rattle.keep_catalog.proofs.Growing.{by_index, found_among}
+use Rattle.keep_catalog.specs.Kept.{lists_at}
+use Rattle.keep_catalog.specs.Orders.{same_id}
+use Rattle.keep_catalog.specs.Places.{at, is_among, listed_of}
+use Rattle.keep_catalog.specs.declared.spot.Listing.{Listing}
 use Rattle.keep_catalog.proofs.listed.list_pack.Given as goal
 
 abbrev pub invariant-loop-entry : goal.invariant-loop-entry
 invariant-loop-entry l =
-    (blob : BlobId) (spot : Spot) → listing_at l.listed blob spot
-    ≡ option_or (listing_at l.initial.listed blob spot) (found_among (contains packed_blob_cmp l.stored) blob spot (map (by_index l.index) (listed_of (record { id = l.pack.id; blobs = take l.entry-index l.pack.blobs.items }))))
+    (blob : BlobId) (x : Listing) → lists_at l.listed blob x
+    ≡ cond (same_id l.index x.index && is_among (listed_of (record { id = l.pack.id; blobs = take l.entry-index l.pack.blobs.items })) (at blob x.spot)) true (lists_at l.initial.listed blob x)

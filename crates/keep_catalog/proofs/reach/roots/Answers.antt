@@ -1,5 +1,5 @@
 use Rattle.std.proofs.Common.{[], option_map, get_or, refl}
-use Rattle.keep_catalog.specs.Read.{snap_at}
+use Rattle.keep_catalog.specs.Kept.{snap_at}
 use Rattle.keep_catalog.specs.Snapshots.{root_of}
 use Rattle.keep_catalog.proofs.Growing.{more_noted, no_id}
 use Rattle.keep_catalog.proofs.reach.roots.Goals as goal

@@ -1,6 +1,6 @@
 use Rattle.std.proofs.Common.{◌≡◌, option_map, take}
 use Rattle.std.specs.List.{filter_map}
-use Rattle.keep_catalog.specs.Read.{snap_at}
+use Rattle.keep_catalog.specs.Kept.{snap_at}
 use Rattle.keep_catalog.specs.Snapshots.{root_of}
 use Rattle.keep_catalog.proofs.reach.roots.Given as goal
 

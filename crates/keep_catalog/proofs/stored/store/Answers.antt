@@ -1,5 +1,5 @@
-use Rattle.std.proofs.Common.{◌||◌, cond, true, map, take, get_or, sym, refl, ap, ◌∙◌}
-use Rattle.std.specs.BTreeSet.{contains}
+use Rattle.std.proofs.Common.{cond, None, Some, map, take, get_or, sym, refl, ap, ◌∙◌}
+use Rattle.std.specs.BTreeMap as tree
 use Rattle.keep_catalog.specs.Orders.{packed_blob_cmp, packed_blob_eq}
 use Rattle.keep_catalog.specs.Places.{is_among, packed_of}
 use Rattle.keep_catalog.proofs.Growing.{map_taken, no_entry, one_stored}
@@ -10,6 +10,8 @@ loop-entry-preserved c p =
     let entries = c.args.entries.now in
     let i = c.loop-entry.entry-index in
     let entry = get_or entries i no_entry in
-    let before = contains packed_blob_cmp c.args.stored.now p in
-    one_stored before _ _ (map (packed_of c.args.pack) (take i entries)) (packed_of c.args.pack entry) p (c.loop-entry.invariant p) (c.in_ok-insert.ensures.updates.0 p ∙ ap (λ place. cond (packed_blob_eq place p) true (contains packed_blob_cmp c.loop-entry.stored p)) c.of.ensures)
-    ∙ ap (λ places. before || is_among places p) (sym (map_taken entries i entry no_entry c.loop-entry-test.true refl (packed_of c.args.pack)))
+    let before = tree.get packed_blob_cmp c.args.stored.now p in
+    let now = tree.get packed_blob_cmp c.loop-entry.stored p in
+    one_stored (Some None) before now _ (map (packed_of c.args.pack) (take i entries)) (packed_of c.args.pack entry) p (c.loop-entry.invariant p)
+    (c.in_ok-insert.ensures.updates.0 p ∙ ap (λ place. cond (packed_blob_eq place p) (Some None) now) c.of.ensures)
+    ∙ ap (λ places. cond (is_among places p) (Some None) before) (sym (map_taken entries i entry no_entry c.loop-entry-test.true refl (packed_of c.args.pack)))

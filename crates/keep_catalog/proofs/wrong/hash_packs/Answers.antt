@@ -2,7 +2,7 @@ use Rattle.std.proofs.Common.{◌++◌, map, get_or, refl, sym, ap, ◌∙◌}
 use Rattle.keep_catalog.specs.Orders.{blob_eq}
 use Rattle.keep_catalog.specs.Wrong.{first_of_each, wrong_in}
 use Rattle.keep_catalog.proofs.Growing.{flat_map_taken, no_id}
-use Rattle.keep_catalog.proofs.Hashing.{in_pack}
+use Rattle.keep_catalog.proofs.Hashes.{in_pack}
 use Rattle.keep_catalog.proofs.wrong.hash_packs.Goals as goal
 
 pub loop-pack-preserved : goal.loop-pack-preserved
@@ -11,11 +11,7 @@ loop-pack-preserved c =
     let packs = c.args.packs.now in
     let i = c.loop-pack.pack-index in
     let pack = get_or packs i no_id in
-    record {
-      hashed = c.in_ok-blobs.ensures.after;
-      wrong =
-          c.in_ok-tell.ensures
-          ∙ ap (λ bs. c.loop-pack.wrong.items ++ map (in_pack pack) (first_of_each blob_eq bs)) (c.deref.ensures.value ∙ c.in_ok-blobs.ensures.blobs)
-          ∙ ap (λ ws. ws ++ wrong_in r pack) c.loop-pack.invariant.wrong
-          ∙ sym (flat_map_taken packs i pack no_id c.loop-pack-test.true refl (wrong_in r));
-    }
+    c.in_ok-tell.ensures
+    ∙ ap (λ bs. c.loop-pack.wrong.items ++ map (in_pack pack) (first_of_each blob_eq bs)) (c.deref.ensures.value ∙ c.in_ok-blobs.ensures)
+    ∙ ap (λ ws. ws ++ wrong_in r pack) c.loop-pack.invariant
+    ∙ sym (flat_map_taken packs i pack no_id c.loop-pack-test.true refl (wrong_in r))

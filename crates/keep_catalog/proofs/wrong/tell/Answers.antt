@@ -1,6 +1,6 @@
 use Rattle.std.proofs.Common.{get_or}
 use Rattle.keep_catalog.proofs.Growing.{no_blob}
-use Rattle.keep_catalog.proofs.Hashing.{more_seen, more_told}
+use Rattle.keep_catalog.proofs.Hashes.{more_seen, more_told}
 use Rattle.keep_catalog.proofs.wrong.tell.Goals as goal
 
 pub loop-blob-preserved : goal.loop-blob-preserved

@@ -1,8 +1,9 @@
-use Rattle.std.proofs.Common.{◌≡◌, ℕ, List, ◌∷◌, ◌++◌, codes, refl, ap, ◌∙◌}
+use Rattle.std.proofs.Common.{◌≡◌, ℕ, inl, inr, List, ◌∷◌, ◌++◌, codes, refl, ap, ◌∙◌}
 use Rattle.std.specs.Fmt.{decimal}
 use Rattle.keep_jobs.specs.declared.job.Job.TheVariants.{Backup}
 use Rattle.keep_lines.proofs.Mistakes.{cut_first, ends_in_no}
 use Rattle.keep_lines.specs.BackupLine.{IsBackup, backup_text}
+use Rattle.keep_lines.specs.Mistake.{AsksBackup, AsksName, AsksNumber, AsksTarget}
 use Rattle.keep_lines.specs.Word.{IsName, IsNumber, IsTarget, target_text}
 use Rattle.keep_lines.specs.declared.command.Command.TheVariants.{Job, Note, Question, Revision}
 use Rattle.keep_lines.specs.declared.question.Question.TheVariants.{Restore, Same}
@@ -14,46 +15,46 @@ returns-in-undo c =
     let text = c.args.text.now in
     let cut = cut_first text c.split_once.result _ c.split_once.ensures.cases c.in-Some.is in
     let split : text ≡ codes "undo" ++ 32 ∷ c.in-Some.rest.now = cut ∙ ap (λ (v : List ℕ). v ++ 32 ∷ c.in-Some.rest.now) c.in-undo.is-undo in
-    ends_in_no IsNumber decimal (λ n. Revision (Undo n)) (codes "undo") text c.in-Some.rest.now c.requires split (λ value is. is) (λ value. refl)
+    ends_in_no AsksNumber IsNumber decimal (λ n. Revision (Undo n)) (codes "undo") text c.in-Some.rest.now (inl refl) c.requires split (λ value is. is) (λ value. refl)
 
 pub returns-in-undo-2 : goal.returns-in-undo-2
 returns-in-undo-2 c =
     let text = c.args.text.now in
     let cut = cut_first text c.split_once.result _ c.split_once.ensures.cases c.in-Some.is in
     let split : text ≡ codes "redo" ++ 32 ∷ c.in-Some.rest.now = cut ∙ ap (λ (v : List ℕ). v ++ 32 ∷ c.in-Some.rest.now) c.in-undo.is-redo in
-    ends_in_no IsNumber decimal (λ n. Revision (Redo n)) (codes "redo") text c.in-Some.rest.now c.requires split (λ value is. is) (λ value. refl)
+    ends_in_no AsksNumber IsNumber decimal (λ n. Revision (Redo n)) (codes "redo") text c.in-Some.rest.now (inr (inl refl)) c.requires split (λ value is. is) (λ value. refl)
 
 pub returns-in-undo-3 : goal.returns-in-undo-3
 returns-in-undo-3 c =
     let text = c.args.text.now in
     let cut = cut_first text c.split_once.result _ c.split_once.ensures.cases c.in-Some.is in
     let split : text ≡ codes "empty" ++ 32 ∷ c.in-Some.rest.now = cut ∙ ap (λ (v : List ℕ). v ++ 32 ∷ c.in-Some.rest.now) c.in-undo.is-empty in
-    ends_in_no IsNumber decimal (λ n. Revision (Empty n)) (codes "empty") text c.in-Some.rest.now c.requires split (λ value is. is) (λ value. refl)
+    ends_in_no AsksNumber IsNumber decimal (λ n. Revision (Empty n)) (codes "empty") text c.in-Some.rest.now (inr (inr refl)) c.requires split (λ value is. is) (λ value. refl)
 
 pub returns-in-note : goal.returns-in-note
 returns-in-note c =
     let text = c.args.text.now in
     let cut = cut_first text c.split_once.result _ c.split_once.ensures.cases c.in-Some.is in
     let split : text ≡ codes "note" ++ 32 ∷ c.in-Some.rest.now = cut ∙ ap (λ (v : List ℕ). v ++ 32 ∷ c.in-Some.rest.now) c.in-note.is-note in
-    ends_in_no IsName (λ name. name) (λ name. Note (record { ref_ptr = (0, 0); now = name })) (codes "note") text c.in-Some.rest.now c.requires split (λ value is. is) (λ value. refl)
+    ends_in_no AsksName IsName (λ name. name) (λ name. Note (record { ref_ptr = (0, 0); now = name })) (codes "note") text c.in-Some.rest.now (inl refl) c.requires split (λ value is. is) (λ value. refl)
 
 pub returns-in-note-2 : goal.returns-in-note-2
 returns-in-note-2 c =
     let text = c.args.text.now in
     let cut = cut_first text c.split_once.result _ c.split_once.ensures.cases c.in-Some.is in
     let split : text ≡ codes "same" ++ 32 ∷ c.in-Some.rest.now = cut ∙ ap (λ (v : List ℕ). v ++ 32 ∷ c.in-Some.rest.now) c.in-note.is-same in
-    ends_in_no IsName (λ name. name) (λ name. Question (Same (record { ref_ptr = (0, 0); now = name }))) (codes "same") text c.in-Some.rest.now c.requires split (λ value is. is) (λ value. refl)
+    ends_in_no AsksName IsName (λ name. name) (λ name. Question (Same (record { ref_ptr = (0, 0); now = name }))) (codes "same") text c.in-Some.rest.now (inr refl) c.requires split (λ value is. is) (λ value. refl)
 
 pub returns-in-restore : goal.returns-in-restore
 returns-in-restore c =
     let text = c.args.text.now in
     let cut = cut_first text c.split_once.result _ c.split_once.ensures.cases c.in-Some.is in
     let split : text ≡ codes "restore" ++ 32 ∷ c.in-Some.rest.now = cut ∙ ap (λ (v : List ℕ). v ++ 32 ∷ c.in-Some.rest.now) c.in-restore.is in
-    ends_in_no IsTarget target_text (λ target. Question (Restore target)) (codes "restore") text c.in-Some.rest.now c.requires split (λ value is. is) (λ value. refl)
+    ends_in_no AsksTarget IsTarget target_text (λ target. Question (Restore target)) (codes "restore") text c.in-Some.rest.now (inl refl) c.requires split (λ value is. is) (λ value. refl)
 
 pub returns-in-backup : goal.returns-in-backup
 returns-in-backup c =
     let text = c.args.text.now in
     let cut = cut_first text c.split_once.result _ c.split_once.ensures.cases c.in-Some.is in
     let split : text ≡ codes "backup" ++ 32 ∷ c.in-Some.rest.now = cut ∙ ap (λ (v : List ℕ). v ++ 32 ∷ c.in-Some.rest.now) c.in-backup.is in
-    ends_in_no IsBackup backup_text (λ backup. Job (Backup backup)) (codes "backup") text c.in-Some.rest.now c.requires split (λ value is. is) (λ value. refl)
+    ends_in_no AsksBackup IsBackup backup_text (λ backup. Job (Backup backup)) (codes "backup") text c.in-Some.rest.now refl c.requires split (λ value is. is) (λ value. refl)

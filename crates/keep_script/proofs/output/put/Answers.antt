@@ -5,14 +5,14 @@ use Rattle.keep_script.proofs.KnownLemmas.{AppendsPart-from, AppendsPart-more, A
 use Rattle.keep_script.proofs.output.put.Goals as goal
 use Rattle.keep_script.proofs.output.put.Goals.{in-Ok, in-Err+else-ne}
 
-pub returns-in-Ok-eq0 : goal.returns-in-Ok-eq0
-returns-in-Ok-eq0 g c =
+pub returns-in-Ok-eq0-clause-puts : goal.returns-in-Ok-eq0-clause-puts
+returns-in-Ok-eq0-clause-puts g c =
     let (done, split, appended) = c.loop.invariant in
     let rest = c.loop.rest.now in
     AppendsPart-more _ _ _ _ done rest [] (split ∙ ap (λ l. done ++ l) (sym (append-nil rest))) appended (AppendsPart-taken _ _ rest c.in-Ok-eq0.field-0 c.in-Ok-eq0.ensures.bytes)
 
-pub returns-then-ne : goal.returns-then-ne
-returns-then-ne g c =
+pub returns-then-ne-clause-puts : goal.returns-then-ne-clause-puts
+returns-then-ne-clause-puts g c =
     let (done, split, appended) = c.loop.invariant in
     AppendsPart-from _ _ _ done c.loop.rest.now split (Appends-kept _ _ _ done appended c.in-Err.ensures.bytes)
 
@@ -25,7 +25,7 @@ loop-preserved g c =
       | in-Err+else-ne w ↦ (done, split ∙ ap (λ (r : Bor (List ℕ)). done ++ r.now) (sym w.rest-is), Appends-kept _ _ _ done appended w.in-Err.ensures.bytes)
     ]
 
-pub returns : goal.returns
-returns g c =
+pub returns-clause-puts : goal.returns-clause-puts
+returns-clause-puts g c =
     let (done, split, appended) = c.loop.invariant in
     AppendsPart-from _ _ _ done c.loop.rest.now split appended

@@ -13,7 +13,7 @@ use Rattle.keep_book.proofs.book.Book.commit.Goals as goal
 pub returns-in_err-check_commit-clause-reply : goal.returns-in_err-check_commit-clause-reply
 returns-in_err-check_commit-clause-reply c =
     let p = err_from_is_err_and c.from_residual.result c.from_residual.ensures.1 in
-    rw (p.1, p.2, ← c.self.view_is) (
+    rw (p.1, p.2, ← c.self.view_is, ← c.repo.ensures) (
       λ formed. refused _ _ _ (c.in_err-check_commit.ensures.formed formed),
       λ malformed. same_error _ _ (c.in_err-check_commit.ensures.malformed malformed),
     )
@@ -21,7 +21,7 @@ returns-in_err-check_commit-clause-reply c =
 pub returns-in_err-reserve-clause-reply : goal.returns-in_err-reserve-clause-reply
 returns-in_err-reserve-clause-reply c =
     let p = err_from_is_err_and c.from_residual-in_err-reserve.result c.from_residual-in_err-reserve.ensures.1 in
-    rw (p.1, p.2, ← c.self.view_is) (
+    rw (p.1, p.2, ← c.self.view_is, ← c.repo.ensures) (
       λ formed. replies_memory _ _ (accepted _ (c.in_ok-check_commit.ensures.formed formed)),
       λ malformed. absurd (malformed c.in_ok-check_commit.ensures.well_formed),
     )
@@ -29,7 +29,7 @@ returns-in_err-reserve-clause-reply c =
 pub returns-in_err-apply-clause-reply : goal.returns-in_err-apply-clause-reply
 returns-in_err-apply-clause-reply c =
     let p = err_from_is_err_and c.from_residual-in_err-apply.result c.from_residual-in_err-apply.ensures.1 in
-    rw (p.1, p.2, ← c.self.view_is) (
+    rw (p.1, p.2, ← c.self.view_is, ← c.repo.ensures) (
       λ formed. replies_memory _ _ (accepted _ (c.in_ok-check_commit.ensures.formed formed)),
       λ malformed. absurd (malformed c.in_ok-check_commit.ensures.well_formed),
     )
@@ -39,12 +39,12 @@ next c = ap (λ k. k + 1) (c.last_change-number.ensures.exact ∙ ap last_change
 
 written : (c : goal.After-post) → WrittenBack (opening_under c.self.inside.history.journal c.self.inside.live)
     (posted c.self.inside.history.journal (length_of c.self.inside.history.journal + 1) (Commit (last_change c.self.inside.history.journal + 1) c.args.planned.change))
-    c.post.new.history.journal c.apply.new.repo
+    c.post.new.history.journal c.apply.new.self
 written c =
     rw c.in_ok-apply.ensures.ok
     (written_back _ _ _ _
     (open-Commit _ c.self.inside.history.journal c.self.inside.live _ _ c.args.planned.change c.self.invariant (omega arith) refl
-    c.in_ok-check_commit.ensures.well_formed c.in_ok-check_commit.ensures.met)
+    c.in_ok-check_commit.ensures.well_formed (rw c.repo.ensures at c.in_ok-check_commit.ensures.met))
     (c.post.ensures.events ∙ rw (c.in_ok-reserve.ensures.same, next c) refl))
 
 pub invariant_of-self-2 : goal.invariant_of-self-2
@@ -52,7 +52,7 @@ invariant_of-self-2 c = (written c).is_open
 
 pub returns-clause-reply : goal.returns-clause-reply
 returns-clause-reply c =
-    rw (← c.self.view_is) (
+    rw (← c.self.view_is, ← c.repo.ensures) (
       λ formed. replies_told _ _ _ (accepted _ (c.in_ok-check_commit.ensures.formed formed))
           (rw (← c.in_ok-reserve.ensures.same, ← c.last_change-number.ensures.exact) c.post.ensures.told),
       λ malformed. absurd (malformed c.in_ok-check_commit.ensures.well_formed),

@@ -1,6 +1,7 @@
 -- The check says what the definitions say, and the law says what is left.
 use Rattle.std.proofs.Common.{arith, ◌+◌, ◌∙◌, refl}
 use Rattle.std.proofs.lemmas.Result.{err_from_is_err_and}
+use Rattle.keep_journal.proofs.Later.{well_formed_change}
 use Rattle.keep_journal.specs.History.{length_of}
 use Rattle.keep_journal.specs.Journal.{posted}
 use Rattle.keep_journal.specs.declared.event.Event.TheVariants.{Undo}
@@ -23,9 +24,12 @@ returns-in_err-reserve-clause-reply c =
     (replies_memory _ _ (accepted _ c.in_ok-check_undo.ensures.refusal))
 
 pub unapply_change-requires : goal.unapply_change-requires
-unapply_change-requires c d found =
-    (undone _ c.self.inside.history.journal c.self.inside.live c.args.n d c.self.invariant
-    (rw c.in_ok-reserve.ensures.same at found) (accepted _ c.in_ok-check_undo.ensures.refusal)).ready
+unapply_change-requires c = record {
+  once = λ d found. (well_formed_change c.self.inside.history.journal c.args.n d c.self.invariant.formed (rw c.in_ok-reserve.ensures.same at found)).once;
+  ready = λ d found.
+      (undone _ c.self.inside.history.journal c.self.inside.live c.args.n d c.self.invariant
+      (rw c.in_ok-reserve.ensures.same at found) (accepted _ c.in_ok-check_undo.ensures.refusal)).ready;
+}
 
 pub returns-in_err-unapply_change-clause-reply : goal.returns-in_err-unapply_change-clause-reply
 returns-in_err-unapply_change-clause-reply c =
@@ -34,7 +38,7 @@ returns-in_err-unapply_change-clause-reply c =
     (replies_memory _ _ (accepted _ c.in_ok-check_undo.ensures.refusal))
 
 written : (c : goal.After-post) → WrittenBack (opening_under c.self.inside.history.journal c.self.inside.live)
-    (posted c.self.inside.history.journal (length_of c.self.inside.history.journal + 1) (Undo c.args.n)) c.post.new.history.journal c.unapply_change.new.repo
+    (posted c.self.inside.history.journal (length_of c.self.inside.history.journal + 1) (Undo c.args.n)) c.post.new.history.journal c.unapply_change.new.live
 written c =
     let none = accepted _ c.in_ok-check_undo.ensures.refusal in
     let can = can_undo c.self.inside.history.journal c.args.n _ none in

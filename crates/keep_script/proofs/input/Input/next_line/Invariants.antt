@@ -12,6 +12,7 @@ invariant-loop-turn g l = record {
   none : HasLineEnd l.line.items → ⊥;
   short : vec_len l.line ≤ longest_line;
   spent : ahead_of l.self + vec_len l.line ≡ ahead_of l.initial.self;
+  grown : l._turn ≤ vec_len l.line;
   used : 0 < l._turn → unread_of l.self ≡ [];
   quiet : Keeps (g.W.Write.contents l.initial.writer) (g.W.Write.contents l.writer);
 }

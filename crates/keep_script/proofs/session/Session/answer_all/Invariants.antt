@@ -2,6 +2,7 @@
 use Rattle.std.proofs.Common.{◌+◌, ◌≤◌}
 use Rattle.keep_script.proofs.RunLemmas.{Progress}
 use Rattle.keep_script.specs.Input.{Counted, ahead_of, left_of}
+use Rattle.keep_script.specs.Known.{WritesLines}
 use Rattle.keep_script.specs.Line.{longest_script}
 use Rattle.keep_script.specs.State.{state_of}
 use Rattle.keep_script.proofs.session.Session.answer_all.Given as goal
@@ -12,6 +13,7 @@ invariant-loop-number g l = record {
       (left_of l.initial.self.input (g.R.Read.remaining l.initial.reader)) (left_of l.self.input (g.R.Read.remaining l.reader))
       (g.W.Write.contents l.initial.writer) (g.W.Write.contents l.writer)
       (state_of l.initial.self l.initial.book) (state_of l.self l.book) l.number;
+  whole : WritesLines (g.W.Write.contents l.initial.writer) (g.W.Write.contents l.writer);
   counted : Counted
       (left_of l.initial.self.input (g.R.Read.remaining l.initial.reader)) (ahead_of l.initial.self.input)
       (left_of l.self.input (g.R.Read.remaining l.reader)) (ahead_of l.self.input);

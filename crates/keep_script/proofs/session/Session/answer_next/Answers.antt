@@ -3,14 +3,16 @@ use Rattle.std.proofs.KnownBytes.{Appends-trans}
 use Rattle.std.proofs.lemmas.Bool.Decides.{nat_tests}
 use Rattle.std.proofs.lemmas.Result.{err_from_is_err_and}
 use Rattle.keep_script.proofs.CountLemmas.{Counted-piece}
+use Rattle.keep_script.proofs.KnownLemmas.{WritesLines-after}
 use Rattle.keep_script.proofs.LineLemmas.{Starts-ended, Starts-last}
 use Rattle.keep_script.proofs.StepLemmas.{AnswersLast-some, AnswersNext-failed, AnswersNext-unread, Appends-none}
+use Rattle.keep_script.specs.declared.status.Stop.TheVariants.{WriteFailed}
 use Rattle.keep_script.proofs.session.Session.answer_next.Goals as goal
 
 pub returns-in_err-line-clause-answers : goal.returns-in_err-line-clause-answers
 returns-in_err-line-clause-answers g c =
     let passed = err_from_is_err_and c.from_residual.result c.from_residual.ensures.1 in
-    AnswersNext-unread _ _ _ _ _ _ c.in_err-line.field-0.0 _ c.in_err-line.ensures.quiet (λ why e. c.in_err-line.ensures.too_long why (ap Err e)) (λ e. c.in_err-line.ensures.failed (ap Err e)) (passed.1 ∙ ap Err passed.2)
+    AnswersNext-unread _ _ _ _ _ _ c.in_err-line.field-0.0 _ c.in_err-line.ensures.quiet (λ why e. c.in_err-line.ensures.too_long why (ap Err e)) c.in_err-line.ensures.failed (passed.1 ∙ ap Err passed.2)
 
 pub returns-in_err-answer_line-in-Line-clause-answers : goal.returns-in_err-answer_line-in-Line-clause-answers
 returns-in_err-answer_line-in-Line-clause-answers g c =
@@ -53,3 +55,17 @@ returns-in_ok-answer_line-in-Line-clause-counted g c = rw c.in_ok-answer_line-in
 
 pub returns-in_ok-answer_line-in-Last-2-clause-counted : goal.returns-in_ok-answer_line-in-Last-2-clause-counted
 returns-in_ok-answer_line-in-Last-2-clause-counted g c = rw c.in_ok-answer_line-in-Last-2.ensures.input (Counted-piece _ _ _ _ c.in_ok-line.field-0 c.in_ok-line.ensures.taken c.in_ok-line.ensures.spent)
+
+pub returns-in_err-answer_line-in-Line-clause-whole : goal.returns-in_err-answer_line-in-Line-clause-whole
+returns-in_err-answer_line-in-Line-clause-whole g c = λ failed.
+    let passed = err_from_is_err_and c.from_residual-in_err-answer_line-in-Line.result c.from_residual-in_err-answer_line-in-Line.ensures.1 in
+    WritesLines-after _ _ _ c.next_line.ensures.quiet (c.in_err-answer_line-in-Line.ensures.whole (λ e.
+    let cause : c.in_err-answer_line-in-Line.field-0.0 ≡ WriteFailed = cc e in
+    failed (passed.1 ∙ ap Err (passed.2 ∙ cause))))
+
+pub returns-in_err-answer_line-in-Last-2-clause-whole : goal.returns-in_err-answer_line-in-Last-2-clause-whole
+returns-in_err-answer_line-in-Last-2-clause-whole g c = λ failed.
+    let passed = err_from_is_err_and c.from_residual-in_err-answer_line-in-Last-2.result c.from_residual-in_err-answer_line-in-Last-2.ensures.1 in
+    WritesLines-after _ _ _ c.next_line.ensures.quiet (c.in_err-answer_line-in-Last-2.ensures.whole (λ e.
+    let cause : c.in_err-answer_line-in-Last-2.field-0.0 ≡ WriteFailed = cc e in
+    failed (passed.1 ∙ ap Err (passed.2 ∙ cause))))

@@ -6,10 +6,10 @@ use Rattle.keep_script.proofs.AnswerLemmas.{AnswersCommand-puts}
 use Rattle.keep_script.specs.State.{notes_of, state_of}
 use Rattle.keep_script.proofs.session.Session.revise.Goals as goal
 
-pub returns : goal.returns
-returns g c =
+pub returns-clause-answers : goal.returns-clause-answers
+returns-clause-answers g c =
     let session = c.args.self.now in
-    AnswersCommand-puts _ _ (state_of session c.args.book.now) (state_of session c.ask.new.book) (the_command.Revision c.args.revision) _ _ c.write_reply.ensures (record {
+    AnswersCommand-puts _ _ (state_of session c.args.book.now) (state_of session c.ask.new.book) (the_command.Revision c.args.revision) _ _ c.write_reply.ensures.puts (record {
       reply = c.ask.result;
       replies = c.ask.ensures.replies;
       text = refl;

@@ -6,11 +6,11 @@ use Rattle.keep_script.proofs.RestoreLemmas.{Restored-tells}
 use Rattle.keep_script.specs.State.{state_of}
 use Rattle.keep_script.proofs.session.Session.tell.Goals as goal
 
-pub returns-in_ok-noted-in-Same : goal.returns-in_ok-noted-in-Same
-returns-in_ok-noted-in-Same g c =
+pub returns-in_ok-noted-in-Same-clause-answers : goal.returns-in_ok-noted-in-Same-clause-answers
+returns-in_ok-noted-in-Same-clause-answers g c =
     let state = state_of c.args.self.now c.args.book.now in
     let same = rw c.live-in-Same.ensures at c.same_as-same.ensures in
-    AnswersCommand-puts _ _ state state (the_command.Question c.args.question) _ _ c.put_line.ensures (rw c.in-Same.is (
+    AnswersCommand-puts _ _ state state (the_command.Question c.args.question) _ _ c.put_line.ensures.puts (rw c.in-Same.is (
       (
         c.in_ok-noted-in-Same.noted.now,
         sym c.get.ensures ∙ ap option_copied c.in_ok-noted-in-Same.ensures.ok_part,
@@ -21,12 +21,13 @@ returns-in_ok-noted-in-Same g c =
       refl,
     ))
 
-pub returns-in_ok-name-in-Restore : goal.returns-in_ok-name-in-Restore
-returns-in_ok-name-in-Restore g c =
+pub returns-in_ok-name-in-Restore-clause-answers : goal.returns-in_ok-name-in-Restore-clause-answers
+returns-in_ok-name-in-Restore-clause-answers g c =
     let state = state_of c.args.self.now c.args.book.now in
+    let after = state_of c.args.self.now c.refresh.new.self in
     let meant = rw c.history-in-Restore.ensures at c.find-found.ensures in
-    let told = rw c.view.ensures at c.restore.ensures.restored in
-    AnswersCommand-puts _ _ state state (the_command.Question c.args.question) _ _ c.write_restore.ensures (rw c.in-Restore.is (
+    let told = rw (c.view.ensures, c.refresh.ensures) at c.restore.ensures.restored in
+    AnswersCommand-puts _ _ state after (the_command.Question c.args.question) _ _ c.write_restore.ensures.puts (rw c.in-Restore.is (
       Restored-tells state c.in-Restore.target c.in_ok-name-in-Restore.name c.restore.result (sym meant ∙ c.in_ok-name-in-Restore.ensures.ok_part) told,
-      refl,
+      ap (state_of c.args.self.now) c.refresh.ensures,
     ))

@@ -1,0 +1,18 @@
+use Rattle.std.proofs.Common.{◌&&◌, cond, false, None, map, refl, ap, ◌∙◌}
+use Rattle.std.specs.List.{flat_map}
+use Rattle.keep_index.specs.Index.{pack_view}
+use Rattle.keep_names.specs.declared.file_name.FileName.{FileName}
+use Rattle.keep_catalog.specs.Kept.{lists_at}
+use Rattle.keep_catalog.specs.Orders.{name_eq, same_id}
+use Rattle.keep_catalog.specs.Places.{at, is_among, listed_of}
+use Rattle.keep_catalog.proofs.Coming.{index_goes, noted_at}
+use Rattle.keep_catalog.proofs.tables.Tables.drop_index.Goals as goal
+
+pub returns : goal.returns
+returns c r present kept =
+    let old = c.args.self.now in
+    let index = c.args.index in
+    index_goes r old _ kept index c.args.bytes.now present
+    (λ blob l. c.in_ok-unlist.ensures blob l ∙ ap (λ ps. cond (same_id index l.index && is_among (flat_map listed_of ps) (at blob l.spot)) false (lists_at old.listed blob l)) (ap (map pack_view) c.deref.ensures.value ∙ c.in_ok-packs.ensures.packs))
+    (λ q. c.remove.ensures.updates.0 q ∙ ap (λ (n : FileName). cond (name_eq n q) None (noted_at old q)) c.index.ensures)
+    refl refl

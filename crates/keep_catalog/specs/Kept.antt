@@ -1,0 +1,123 @@
+-- What a catalog keeps of the files of a repository. All but `snap_at` is of private invariants alone.
+use Rattle.std.specs.Prelude.{◌≡◌, ⊤, ℕ, Bool, false, List, [], ◌∷◌, map, Option, None, Some, is_some}
+use Rattle.std.specs.BTreeMap.{BTreeMap, IsOrdered}
+use Rattle.std.specs.BTreeMap as tree
+use Rattle.std.specs.BTreeSet.{BTreeSet, contains}
+use Rattle.std.specs.FinMap as finite
+use Rattle.std.specs.List.{flat_map}
+use Rattle.std.specs.Option.{option_map}
+use Rattle.std.specs.Result.{result_ok}
+use Rattle.keep_names.specs.Orders.{blob_cmp, id_cmp, name_cmp}
+use Rattle.keep_names.specs.declared.blob.BlobId.{BlobId}
+use Rattle.keep_names.specs.declared.file_name.FileName.{FileName}
+use Rattle.keep_names.specs.declared.id.Id.{Id}
+use Rattle.keep_pack.specs.Reading.{header_of}
+use Rattle.keep_repo.specs.Repository.{Repository}
+use Rattle.keep_snap.specs.Snap.{SnapData, snap_view}
+use Rattle.keep_snap.specs.declared.snap.Snap.{Snap}
+use Rattle.keep_change.specs.NamedBytes.{NamedBytes}
+use Rattle.keep_change.specs.Result.{put_files, take_files}
+use Rattle.keep_catalog.specs.Files.{index_of, snap_in, snap_of, what_is_read, why_unread}
+use Rattle.keep_catalog.specs.Orders.{listing_cmp, packed_blob_cmp}
+use Rattle.keep_catalog.specs.Places.{at, is_among, is_honest, is_stored, listed_in, listed_of, packed_of}
+use Rattle.keep_catalog.specs.declared.spot.Listing.{Listing}
+use Rattle.keep_catalog.specs.declared.spot.PackedBlob.{PackedBlob}
+use Rattle.keep_catalog.specs.declared.tables.Tables.{Tables}
+
+-- ---- what the bytes of a file say
+
+-- the places that the header in the bytes of this pack has
+abbrev pub places_stored : Id → List ℕ → List PackedBlob
+places_stored pack bytes = map (packed_of pack) (what_is_read (Some (header_of bytes)))
+
+-- the places that the index in the bytes lists
+abbrev pub places_listed : List ℕ → List PackedBlob
+places_listed bytes = flat_map listed_of (what_is_read (Some (index_of bytes)))
+
+-- what the snapshot in the bytes says
+abbrev pub snap_read : List ℕ → Option SnapData
+snap_read bytes = result_ok (snap_of bytes)
+
+-- ---- tables
+
+-- the places that headers have, each with whether it is honest, where that was hashed
+abbrev pub Stored : Type 0
+Stored = BTreeMap PackedBlob (Option Bool)
+
+-- the listings of each blob
+abbrev pub Listed : Type 0
+Listed = BTreeMap BlobId (BTreeSet Listing)
+
+-- snapshots by name
+abbrev pub Snaps : Type 0
+Snaps = BTreeMap Id Snap
+
+-- whether a set has the listing
+abbrev pub has : Option (BTreeSet Listing) → Listing → Bool
+has None l = false
+has (Some listings) l = contains listing_cmp listings l
+
+-- whether the blob is kept with this listing
+abbrev pub lists_at : Listed → BlobId → Listing → Bool
+lists_at listed blob l = has (tree.get blob_cmp listed blob) l
+
+-- whether the index of the listing lists the blob there
+abbrev pub lists_in : Repository → BlobId → Listing → Bool
+lists_in r blob l = is_among (listed_in r l.index) (at blob l.spot)
+
+-- what is kept of the snapshot of this name
+abbrev pub snap_at : Snaps → Id → Option SnapData
+snap_at snaps snapshot = option_map snap_view (tree.get id_cmp snaps snapshot)
+
+-- just the places that the headers have are kept
+abbrev pub IsStoredIn : Repository → Stored → Type 0
+IsStoredIn r stored = (p : PackedBlob) → is_some (tree.get packed_blob_cmp stored p) ≡ is_stored r p
+
+-- what was hashed is remembered as it is
+abbrev pub IsHashedIn : Repository → Stored → Type 0
+IsHashedIn r stored =
+    (p : PackedBlob) (honest : Bool)
+    → tree.get packed_blob_cmp stored p ≡ Some (Some honest) → is_honest r p.blob p.spot ≡ honest
+
+-- just the listings of the indexes are kept
+abbrev pub IsListedIn : Repository → Listed → Type 0
+IsListedIn r listed = (blob : BlobId) (l : Listing) → lists_at listed blob l ≡ lists_in r blob l
+
+-- just the snapshots that can be read are kept
+abbrev pub AreSnapsOf : Repository → Snaps → Type 0
+AreSnapsOf r snaps = (snapshot : Id) → snap_at snaps snapshot ≡ snap_in r snapshot
+
+-- the tables say just what the files of the repository say
+pub record IsKept (r : Repository) (t : Tables) : Type 0 where
+  pub stored : IsStoredIn r t.stored
+  pub hashed : IsHashedIn r t.stored
+  pub listed : IsListedIn r t.listed
+  pub snaps : AreSnapsOf r t.snaps
+  pub ordered : IsOrdered id_cmp t.snaps
+  pub unread : (name : FileName) → tree.get name_cmp t.unread name ≡ why_unread r name
+
+-- ---- files that come and go
+
+-- the repository with the file
+abbrev pub with_file : Repository → FileName → List ℕ → Repository
+with_file r name bytes = record r { files = finite.insert r.files name bytes }
+
+-- the repository without the file
+abbrev pub without_file : Repository → FileName → Repository
+without_file r name = record r { files = finite.remove r.files name }
+
+abbrev pub with_files : List NamedBytes → Repository → Repository
+with_files fs r = record r { files = put_files fs r.files }
+
+abbrev pub without_files : List NamedBytes → Repository → Repository
+without_files fs r = record r { files = take_files fs r.files }
+
+-- each of these isn't there when it is put
+abbrev pub AreNew : List NamedBytes → finite.FinMap name_cmp (List ℕ) → Type 0
+AreNew [] files = ⊤
+AreNew (f ∷ fs) files = (finite.get files f.name ≡ None) × AreNew fs (finite.insert files f.name f.bytes)
+
+-- each of these is there, with just these bytes, when it is taken
+abbrev pub AreThere : List NamedBytes → finite.FinMap name_cmp (List ℕ) → Type 0
+AreThere [] files = ⊤
+AreThere (f ∷ fs) files = (finite.get files f.name ≡ Some f.bytes) × AreThere fs (finite.remove files f.name)

@@ -1,0 +1,90 @@
+ghost use Rattle.std.specs.Prelude.{◌≡◌, ◌&&◌, option_map};
+ghost use Rattle.std.specs.BTreeSet.{IsOrdered};
+ghost use Rattle.std.specs.List.{find, list_any};
+ghost use Rattle.keep_catalog.specs.Kept.{IsHashedIn, IsStoredIn};
+ghost use Rattle.keep_catalog.specs.Orders.{listing_cmp};
+ghost use Rattle.keep_catalog.specs.Places as spec;
+ghost use Rattle.keep_catalog.specs.Places.{at};
+
+use crate::bytes_there::is_honest;
+use crate::spot::{Listing, PackedBlob, Spot};
+use crate::stored::Stored;
+use keep_names::{BlobId, Id};
+use keep_repo::Repo;
+use std::collections::BTreeSet;
+
+// The first of the listings whose spot the header has and is open.
+pub(crate) fn first_open(
+    repo: &Repo,
+    stored: &Stored,
+    blob: BlobId,
+    listings: &BTreeSet<Listing>,
+) -> Option<(Spot, Id)>
+    requires stored { IsStoredIn repo.now stored.now }
+    requires hashed { IsHashedIn repo.now stored.now }
+    ensures first { result ≡ option_map (λ l. (l.spot, l.index))
+        (find (λ l. spec.is_stored repo.now (at blob l.spot) && spec.is_open repo.now blob l.spot) listings.now.keys) }
+    ensures ordered { IsOrdered listing_cmp listings.now }
+{
+    for listing in listings {
+        let spot = listing.spot;
+        if is_open(repo, stored, PackedBlob { blob, spot }) {
+            return Some((spot, listing.index));
+        }
+    }
+    None
+}
+
+// Whether a header has the place, its bytes have the blob's id, and its pack has no mark.
+fn is_open(repo: &Repo, stored: &Stored, place: PackedBlob) -> bool
+    requires stored { IsStoredIn repo.now stored.now }
+    requires hashed { IsHashedIn repo.now stored.now }
+    ensures { result ≡ (spec.is_stored repo.now place && spec.is_open repo.now place.blob place.spot) }
+{
+    stored.contains_key(&place)
+        && !repo.is_marked(place.spot.pack)
+        && is_honest(repo, stored, place)
+}
+
+// Whether a header has the blob at one of the listings.
+pub(crate) fn some_stored(
+    repo: &Repo,
+    stored: &Stored,
+    blob: BlobId,
+    listings: &BTreeSet<Listing>,
+) -> bool
+    requires { IsStoredIn repo.now stored.now }
+    ensures value { result ≡ list_any (λ l. spec.is_stored repo.now (at blob l.spot)) listings.now.keys }
+    ensures ordered { IsOrdered listing_cmp listings.now }
+{
+    for listing in listings {
+        let spot = listing.spot;
+        if stored.contains_key(&PackedBlob { blob, spot }) {
+            return true;
+        }
+    }
+    false
+}
+
+// Whether a header has the blob at one of the listings, and the bytes there have its id.
+pub(crate) fn some_honest(
+    repo: &Repo,
+    stored: &Stored,
+    blob: BlobId,
+    listings: &BTreeSet<Listing>,
+) -> bool
+    requires stored { IsStoredIn repo.now stored.now }
+    requires hashed { IsHashedIn repo.now stored.now }
+    ensures value { result ≡ list_any (λ l. spec.is_stored repo.now (at blob l.spot)
+        && spec.is_honest repo.now blob l.spot) listings.now.keys }
+    ensures ordered { IsOrdered listing_cmp listings.now }
+{
+    for listing in listings {
+        let spot = listing.spot;
+        let place = PackedBlob { blob, spot };
+        if stored.contains_key(&place) && is_honest(repo, stored, place) {
+            return true;
+        }
+    }
+    false
+}

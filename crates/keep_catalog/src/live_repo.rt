@@ -1,0 +1,152 @@
+ghost use Rattle.std.specs.Prelude.{◌≡◌, ◌≢◌, [], IfErr, IfOk, IfSome, IsTrue, OnErr, OnOk, option_map, slice_get};
+ghost use Rattle.keep_change.specs.Change.{is_ready};
+ghost use Rattle.keep_change.specs.Form.{HasNoFacetTwice};
+ghost use Rattle.keep_change.specs.Result.{put_files, result_of, reverse_of};
+ghost use Rattle.keep_repo.specs.Repository.{Repository, held};
+ghost use Rattle.keep_catalog.specs.Files.{unread_in};
+ghost use Rattle.keep_catalog.specs.Kept.{AreNew, AreThere, IsKept, with_files, without_files};
+ghost use Rattle.keep_catalog.specs.declared.catalog_error.CatalogError.TheVariants as the_error;
+
+use crate::catalog::{Catalog, unread_files};
+use crate::catalog_error::CatalogError;
+use crate::hashing::hash_places;
+use crate::tables::Tables;
+use crate::unread::Unread;
+use keep_change::{Change, StoredFile};
+use keep_repo::Repo;
+use std::alloc::{AllocError, Global};
+use std::marker::Model;
+
+#[cfg(test)]
+mod tests;
+
+/// A repository that changes, and lends the catalog of what it holds.
+///
+/// Its files are read when `refresh` is called first. From then on each change costs what its own files hold.
+/// Where there is no memory for that, the change is made all the same, and the next `refresh` reads all files anew.
+#[derive(Drop)]
+pub struct LiveRepo {
+    alloc: Global,
+    repo: Repo,
+    // What its files say, where they were read, and each change since was followed.
+    tables: Option<Tables>,
+}
+
+impl Model for LiveRepo {
+    ghost use Rattle.std.specs.Prelude.{IfSome};
+    ghost use Rattle.keep_repo.specs.Repository.{Repository, coded_repository};
+    ghost use Rattle.keep_catalog.specs.Kept.{IsKept};
+
+    ghost Value = { Repository };
+
+    ghost coded = { coded_repository };
+
+    ghost view = { λ l. l.repo };
+
+    ghost invariant = { λ l. IfSome l.tables (IsKept l.repo) };
+}
+
+impl LiveRepo {
+    /// The repository, of which nothing is read yet.
+    pub fn new(alloc: Global, repo: Repo) -> LiveRepo
+        ensures { result ≡ repo }
+    {
+        LiveRepo {
+            alloc,
+            repo,
+            tables: None,
+        }
+    }
+
+    pub fn repo(&self) -> &Repo
+        ensures { result.now ≡ self.now }
+    {
+        &self.repo
+    }
+
+    /// Reads all files, unless that was done before and each change since was followed. Where there is no memory for
+    /// it, a catalog reads them when it is asked for.
+    pub fn refresh(&mut self)
+        ensures { self.new ≡ self.old }
+    {
+        if self.tables.is_none() {
+            self.tables = Tables::of(self.alloc, &self.repo).ok();
+        }
+    }
+
+    /// Hashes each blob of each pack that wasn't hashed before, if the files were read. Where memory runs out, some
+    /// are.
+    pub fn hash_all(&mut self)
+        ensures { self.new ≡ self.old }
+    {
+        if let Some(tables) = &mut self.tables {
+            let _ = hash_places(self.alloc, &self.repo, &mut tables.stored);
+        }
+    }
+
+    /// Makes the change. Where memory runs out for it the repository is as it was.
+    pub fn apply(&mut self, change: &Change) -> Result<(), AllocError>
+        requires once { HasNoFacetTwice change.now }
+        requires ready { IsTrue (is_ready (held self.old) change.now) }
+        ensures ok { OnOk result (self.new ≡ result_of change.now self.old) }
+        ensures err { OnErr result (self.new ≡ self.old) }
+    {
+        change.apply(&mut self.repo)?;
+        let (adds, drops) = (change.adds.as_slice(), change.drops.as_slice());
+        self.tables = followed(self.tables.take(), adds, drops);
+        Ok(())
+    }
+
+    /// Takes the change back. Where memory runs out for it the repository is as it was.
+    pub fn unapply(&mut self, change: &Change) -> Result<(), AllocError>
+        requires once { HasNoFacetTwice change.now }
+        requires ready { IsTrue (is_ready (held self.old) (reverse_of change.now)) }
+        ensures ok { OnOk result (self.new ≡ result_of (reverse_of change.now) self.old) }
+        ensures err { OnErr result (self.new ≡ self.old) }
+    {
+        change.unapply(&mut self.repo)?;
+        let (adds, drops) = (change.adds.as_slice(), change.drops.as_slice());
+        self.tables = followed(self.tables.take(), drops, adds);
+        Ok(())
+    }
+
+    /// The catalog, if each pack, index and snapshot can be read. Else the first that can't, by name.
+    pub fn catalog(&self, alloc: Global) -> Result<Catalog<'_>, CatalogError>
+        ensures catalog { IfOk result (λ catalog. catalog ≡ self.entry.now) }
+        ensures all_read { IfOk result (λ _. unread_in self.entry.now ≡ []) }
+        ensures refused { IfErr result (λ error. error ≢ the_error.Memory
+            → option_map the_error.Unread (slice_get (unread_in self.entry.now) 0) ≡ Some error) }
+    {
+        let (catalog, unread) = self.read_past(alloc)?;
+        match unread.first() {
+            Some(first) => Err(CatalogError::Unread(*first)),
+            None => Ok(catalog),
+        }
+    }
+
+    /// The catalog, and the files that can't be read, by name. Those have and list nothing.
+    pub fn read_past(&self, alloc: Global) -> Result<(Catalog<'_>, Vec<Unread>), AllocError>
+        ensures catalog { IfOk result (λ made. made.0 ≡ self.entry.now) }
+        ensures unread { IfOk result (λ made. made.1.items ≡ unread_in self.entry.now) }
+    {
+        match &self.tables {
+            Some(tables) => {
+                let unread = unread_files(alloc, &tables.unread)?;
+                Ok((Catalog::lent(&self.repo, tables), unread))
+            }
+            None => Catalog::read_past(alloc, &self.repo),
+        }
+    }
+}
+
+// The tables after these files came and those went, none where memory ran out.
+fn followed(tables: Option<Tables>, adds: &[StoredFile], drops: &[StoredFile]) -> Option<Tables>
+    ensures { (r : Repository) → AreNew adds.now r.files → AreThere drops.now (put_files adds.now r.files)
+        → IfSome tables (IsKept r) → IfSome result (IsKept (without_files drops.now (with_files adds.now r))) }
+{
+    let mut tables = tables?;
+    match tables.follow(adds, drops) {
+        Ok(()) => Some(tables),
+        Err(_) => None,
+    }
+}
