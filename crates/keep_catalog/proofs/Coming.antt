@@ -16,10 +16,10 @@ use Rattle.keep_names.specs.declared.id.Id.{Id}
 use Rattle.keep_repo.specs.Repository.{Repository}
 use Rattle.keep_repo.specs.declared.facet.Mark.{Mark}
 use Rattle.keep_snap.specs.Snap.{SnapData, snap_view}
-use Rattle.keep_catalog.specs.Files.{snap_in, why_of, why_unread}
-use Rattle.keep_catalog.specs.Kept.{AreSnapsOf, IsHashedIn, IsKept, IsListedIn, IsStoredIn, Snaps, lists_at, places_listed, snap_at, snap_read, with_file, without_file}
+use Rattle.keep_catalog.specs.Files.{snap_read, snap_in, why_of, why_unread}
+use Rattle.keep_catalog.specs.Kept.{AreSnapsOf, IsHashedIn, IsKept, IsListedIn, IsStoredIn, Snaps, lists_at, snap_at, with_file, without_file}
 use Rattle.keep_catalog.specs.Orders.{name_eq, packed_blob_cmp, same_id}
-use Rattle.keep_catalog.specs.Places.{at, is_among, listed_in}
+use Rattle.keep_catalog.specs.Places.{places_listed, at, is_among, listed_in}
 use Rattle.keep_catalog.specs.declared.spot.Listing.{Listing}
 use Rattle.keep_catalog.specs.declared.spot.PackedBlob.{PackedBlob}
 use Rattle.keep_catalog.specs.declared.tables.Tables.{Tables}
@@ -74,7 +74,7 @@ module _ (r : Repository) (old new : Tables) (bytes : List ℕ) (kept : IsKept r
         unread = unread_comes r after name bytes (noted_at old) (noted_at new) kept.unread so absent noted;
       }
 
-  pub index_comes : (index : Id) → finite.get r.files (named Index index) ≡ None → ((blob : BlobId) (l : Listing) → lists_at new.listed blob l ≡ cond (same_id index l.index && is_among (places_listed bytes) (at blob l.spot)) true (lists_at old.listed blob l)) → Noted (named Index index) → new.stored ≡ old.stored → new.snaps ≡ old.snaps → IsKept (with_file r (named Index index) bytes) new
+  pub index_comes : (index : Id) → finite.get r.files (named Index index) ≡ None → ((blob : BlobId) (l : Listing) → lists_at new.listed blob l ≡ cond (same_id index l.index && is_among (places_listed (Some bytes)) (at blob l.spot)) true (lists_at old.listed blob l)) → Noted (named Index index) → new.stored ≡ old.stored → new.snaps ≡ old.snaps → IsKept (with_file r (named Index index) bytes) new
   index_comes index absent put noted stored snaps =
       let name = named Index index in
       let after = with_file r name bytes in
@@ -88,7 +88,7 @@ module _ (r : Repository) (old new : Tables) (bytes : List ℕ) (kept : IsKept r
         unread = unread_comes r after name bytes (noted_at old) (noted_at new) kept.unread so absent noted;
       }
 
-  pub snapshot_comes : (snapshot : Id) → finite.get r.files (named Snapshot snapshot) ≡ None → ((q : Id) → snap_at new.snaps q ≡ option_or (cond (same_id snapshot q) (snap_read bytes) None) (snap_at old.snaps q)) → IsOrdered id_cmp new.snaps → Noted (named Snapshot snapshot) → new.stored ≡ old.stored → new.listed ≡ old.listed → IsKept (with_file r (named Snapshot snapshot) bytes) new
+  pub snapshot_comes : (snapshot : Id) → finite.get r.files (named Snapshot snapshot) ≡ None → ((q : Id) → snap_at new.snaps q ≡ option_or (cond (same_id snapshot q) (snap_read (Some bytes)) None) (snap_at old.snaps q)) → IsOrdered id_cmp new.snaps → Noted (named Snapshot snapshot) → new.stored ≡ old.stored → new.listed ≡ old.listed → IsKept (with_file r (named Snapshot snapshot) bytes) new
   snapshot_comes snapshot absent put ordered noted stored listed =
       let name = named Snapshot snapshot in
       let after = with_file r name bytes in
@@ -107,13 +107,13 @@ module _ (r : Repository) (old new : Tables) (bytes : List ℕ) (kept : IsKept r
 
         comes_with : (after : Repository) → IsReplaced r after (named Snapshot snapshot) (Some bytes) → AreSnapsOf after new.snaps
         comes_with after so q =
-            put q ∙ ap (λ b. option_or (cond b (snap_read bytes) None) (snap_at old.snaps q)) (id_symm snapshot q)
-            ∙ ap (option_or (cond (same_id q snapshot) (snap_read bytes) None)) (kept.snaps q)
+            put q ∙ ap (λ b. option_or (cond b (snap_read (Some bytes)) None) (snap_at old.snaps q)) (id_symm snapshot q)
+            ∙ ap (option_or (cond (same_id q snapshot) (snap_read (Some bytes)) None)) (kept.snaps q)
             ∙ cases (same_id q snapshot) refl ∙ sym (snap_after r after snapshot (Some bytes) so q) where
-              cases : (b : Bool) → same_id q snapshot ≡ b → option_or (cond b (snap_read bytes) None) (snap_in r q) ≡ cond b (snap_read bytes) (snap_in r q)
+              cases : (b : Bool) → same_id q snapshot ≡ b → option_or (cond b (snap_read (Some bytes)) None) (snap_in r q) ≡ cond b (snap_read (Some bytes)) (snap_in r q)
               cases true same =
-                  ap (option_or (snap_read bytes)) (ap (snap_in r) (tells_apart id_exact q snapshot same) ∙ snap_by r snapshot None absent)
-                  ∙ or_none (snap_read bytes)
+                  ap (option_or (snap_read (Some bytes))) (ap (snap_in r) (tells_apart id_exact q snapshot same) ∙ snap_by r snapshot None absent)
+                  ∙ or_none (snap_read (Some bytes))
               cases false other = refl
 
 -- one file goes
@@ -136,7 +136,7 @@ module _ (r : Repository) (old new : Tables) (kept : IsKept r old) where
         unread = unread_goes r after name [] (noted_at old) (noted_at new) kept.unread so forgotten;
       }
 
-  pub index_goes : (index : Id) (bytes : List ℕ) → finite.get r.files (named Index index) ≡ Some bytes → ((blob : BlobId) (l : Listing) → lists_at new.listed blob l ≡ cond (same_id index l.index && is_among (places_listed bytes) (at blob l.spot)) false (lists_at old.listed blob l)) → Forgotten (named Index index) → new.stored ≡ old.stored → new.snaps ≡ old.snaps → IsKept (without_file r (named Index index)) new
+  pub index_goes : (index : Id) (bytes : List ℕ) → finite.get r.files (named Index index) ≡ Some bytes → ((blob : BlobId) (l : Listing) → lists_at new.listed blob l ≡ cond (same_id index l.index && is_among (places_listed (Some bytes)) (at blob l.spot)) false (lists_at old.listed blob l)) → Forgotten (named Index index) → new.stored ≡ old.stored → new.snaps ≡ old.snaps → IsKept (without_file r (named Index index)) new
   index_goes index bytes present took forgotten stored snaps =
       let name = named Index index in
       let after = without_file r name in

@@ -13,9 +13,9 @@ use Rattle.keep_names.specs.declared.file_name.Kind.TheVariants.{Pack, Index}
 use Rattle.keep_names.specs.declared.id.Id.{Id}
 use Rattle.keep_repo.specs.Repository.{Repository}
 use Rattle.keep_catalog.specs.Files.{why_of, why_unread}
-use Rattle.keep_catalog.specs.Kept.{IsHashedIn, IsListedIn, IsStoredIn, Listed, Stored, lists_at, lists_in, places_listed, places_stored}
+use Rattle.keep_catalog.specs.Kept.{IsHashedIn, IsListedIn, IsStoredIn, Listed, Stored, lists_at, lists_in}
 use Rattle.keep_catalog.specs.Orders.{name_eq, packed_blob_cmp, same_id}
-use Rattle.keep_catalog.specs.Places.{at, is_among, is_honest, is_stored}
+use Rattle.keep_catalog.specs.Places.{places_listed, places_stored, at, is_among, is_honest, is_stored}
 use Rattle.keep_catalog.specs.declared.spot.Listing.{Listing}
 use Rattle.keep_catalog.specs.declared.spot.PackedBlob.{PackedBlob}
 use Rattle.keep_catalog.specs.declared.unread.FileError.{FileError}
@@ -52,7 +52,7 @@ some_or false v o = refl
 
 module _ (pack : Id) (bytes : List ℕ) where
   abbrev pub stored_here : PackedBlob → Bool
-  stored_here p = is_among (places_stored pack bytes) p
+  stored_here p = is_among (places_stored pack (Some bytes)) p
 
   of_this : (p : PackedBlob) → stored_here p ≡ true → same_id p.spot.pack pack ≡ true
   of_this p h = ap (λ x. same_id x pack) (of_pack pack _ p h) ∙ id_refl pack
@@ -102,7 +102,7 @@ module _ (r after : Repository) (pack : Id) (bytes : List ℕ) (old new : Stored
 
 module _ (r after : Repository) (index : Id) (bytes : List ℕ) (old new : Listed) (kept : IsListedIn r old) where
   abbrev listed_here : BlobId → Listing → Bool
-  listed_here blob l = is_among (places_listed bytes) (at blob l.spot)
+  listed_here blob l = is_among (places_listed (Some bytes)) (at blob l.spot)
 
   is_here : (a b was : Bool) → (b ≡ true → was ≡ false) → cond (b && a) true was ≡ cond b a was
   is_here true true was f = refl

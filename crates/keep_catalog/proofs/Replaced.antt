@@ -3,10 +3,8 @@ use Rattle.std.proofs.Common.{◌≡◌, ℕ, Bool, true, false, ◌||◌, cond,
 use Rattle.std.proofs.lemmas.Map.Views.{tells_apart}
 use Rattle.std.specs.Cmp.{tied_itself}
 use Rattle.std.specs.FinMap as finite
-use Rattle.std.specs.List.{flat_map}
-use Rattle.std.specs.Option.{option_and_then, option_map, option_map_or}
+use Rattle.std.specs.Option.{option_and_then, option_map_or}
 use Rattle.std.specs.Ordering.{is_eq}
-use Rattle.std.specs.Result.{result_ok}
 use Rattle.keep_names.proofs.Orders.{id_exact, name_exact, name_total}
 use Rattle.keep_names.specs.FileName.{named}
 use Rattle.keep_names.specs.declared.blob.Blob.{Blob}
@@ -14,13 +12,11 @@ use Rattle.keep_names.specs.declared.blob.BlobId.{BlobId}
 use Rattle.keep_names.specs.declared.file_name.FileName.{FileName}
 use Rattle.keep_names.specs.declared.file_name.Kind.TheVariants.{Pack, Index, Snapshot}
 use Rattle.keep_names.specs.declared.id.Id.{Id}
-use Rattle.keep_pack.specs.Reading.{header_of}
 use Rattle.keep_repo.specs.Repository.{Repository}
-use Rattle.keep_snap.specs.Snap.{SnapData}
-use Rattle.keep_catalog.specs.Files.{file_in, index_of, snap_in, snap_of, what_is_read, why_of, why_unread}
+use Rattle.keep_catalog.specs.Files.{snap_read, file_in, snap_in, why_of, why_unread}
 use Rattle.keep_catalog.specs.Kept.{lists_in, with_file, without_file}
 use Rattle.keep_catalog.specs.Orders.{name_eq, packed_blob_eq, same_id}
-use Rattle.keep_catalog.specs.Places.{at, bytes_at, has_id, is_among, is_honest, is_stored, listed_in, listed_of, packed_of, slice_of, stored_in}
+use Rattle.keep_catalog.specs.Places.{places_listed, places_stored, at, bytes_at, has_id, is_among, is_honest, is_stored, listed_in, packed_of, slice_of, stored_in}
 use Rattle.keep_catalog.specs.declared.spot.Listing.{Listing}
 use Rattle.keep_catalog.specs.declared.spot.PackedBlob.{PackedBlob}
 use Rattle.keep_catalog.proofs.SpotOrders.{packed_blob_eq_same}
@@ -38,18 +34,6 @@ file_taken r name q = finite.get-remove name_total r.files name q
 pub name_eq_refl : (name : FileName) → name_eq name name ≡ true
 name_eq_refl name = ap is_eq (tied_itself name_total name)
 
--- the places that a header of these bytes has, none where there are none
-abbrev pub places_of : Id → Option (List ℕ) → List PackedBlob
-places_of pack o = map (packed_of pack) (what_is_read (option_map header_of o))
-
--- the places that an index of these bytes lists
-abbrev pub listings_of_bytes : Option (List ℕ) → List PackedBlob
-listings_of_bytes o = flat_map listed_of (what_is_read (option_map index_of o))
-
--- what a snapshot of these bytes says
-abbrev pub snap_of_bytes : Option (List ℕ) → Option SnapData
-snap_of_bytes o = option_and_then result_ok (option_map snap_of o)
-
 -- ---- what it says by itself
 
 -- a place that some list of entries of a pack has is of that pack
@@ -60,25 +44,25 @@ of_pack pack (entry ∷ entries) p h = cases (of_pack pack entries p) (packed_bl
   cases others true same _ = ap (λ (q : PackedBlob). q.spot.pack) (packed_blob_eq_same p (packed_of pack entry) same)
   cases others false other rest = others rest
 
-pub stored_by : (r : Repository) (pack : Id) (o : Option (List ℕ)) → finite.get r.files (named Pack pack) ≡ o → stored_in r pack ≡ places_of pack o
+pub stored_by : (r : Repository) (pack : Id) (o : Option (List ℕ)) → finite.get r.files (named Pack pack) ≡ o → stored_in r pack ≡ places_stored pack o
 unfolding stored_in file_in
-stored_by r pack o is = ap (places_of pack) is
+stored_by r pack o is = ap (places_stored pack) is
 
-pub listed_by : (r : Repository) (index : Id) (o : Option (List ℕ)) → finite.get r.files (named Index index) ≡ o → listed_in r index ≡ listings_of_bytes o
+pub listed_by : (r : Repository) (index : Id) (o : Option (List ℕ)) → finite.get r.files (named Index index) ≡ o → listed_in r index ≡ places_listed o
 unfolding listed_in file_in
-listed_by r index o is = ap listings_of_bytes is
+listed_by r index o is = ap places_listed is
 
-pub snap_by : (r : Repository) (name : Id) (o : Option (List ℕ)) → finite.get r.files (named Snapshot name) ≡ o → snap_in r name ≡ snap_of_bytes o
+pub snap_by : (r : Repository) (name : Id) (o : Option (List ℕ)) → finite.get r.files (named Snapshot name) ≡ o → snap_in r name ≡ snap_read o
 unfolding snap_in file_in
-snap_by r name o is = ap snap_of_bytes is
+snap_by r name o is = ap snap_read is
 
 -- the header of a place's own pack
-pub stored_own : (r : Repository) (pack : Id) (o : Option (List ℕ)) → finite.get r.files (named Pack pack) ≡ o → (p : PackedBlob) → same_id p.spot.pack pack ≡ true → is_stored r p ≡ is_among (places_of pack o) p
+pub stored_own : (r : Repository) (pack : Id) (o : Option (List ℕ)) → finite.get r.files (named Pack pack) ≡ o → (p : PackedBlob) → same_id p.spot.pack pack ≡ true → is_stored r p ≡ is_among (places_stored pack o) p
 stored_own r pack o is p same =
     ap (λ x. is_among (stored_in r x) p) (tells_apart id_exact p.spot.pack pack same)
     ∙ ap (λ places. is_among places p) (stored_by r pack o is)
 
-pub lists_own : (r : Repository) (index : Id) (o : Option (List ℕ)) → finite.get r.files (named Index index) ≡ o → (blob : BlobId) (l : Listing) → same_id l.index index ≡ true → lists_in r blob l ≡ is_among (listings_of_bytes o) (at blob l.spot)
+pub lists_own : (r : Repository) (index : Id) (o : Option (List ℕ)) → finite.get r.files (named Index index) ≡ o → (blob : BlobId) (l : Listing) → same_id l.index index ≡ true → lists_in r blob l ≡ is_among (places_listed o) (at blob l.spot)
 lists_own r index o is blob l same =
     ap (λ x. is_among (listed_in r x) (at blob l.spot)) (tells_apart id_exact l.index index same)
     ∙ ap (λ places. is_among places (at blob l.spot)) (listed_by r index o is)
@@ -113,9 +97,9 @@ module _ (r after : Repository) (name : FileName) (o : Option (List ℕ)) (repla
 
 module _ (r after : Repository) (pack : Id) (o : Option (List ℕ)) (replaced : IsReplaced r after (named Pack pack) o) where
   -- what headers have
-  pub stored_after : (p : PackedBlob) → is_stored after p ≡ cond (same_id p.spot.pack pack) (is_among (places_of pack o) p) (is_stored r p)
+  pub stored_after : (p : PackedBlob) → is_stored after p ≡ cond (same_id p.spot.pack pack) (is_among (places_stored pack o) p) (is_stored r p)
   stored_after p = cases (same_id p.spot.pack pack) refl where
-    cases : (b : Bool) → same_id p.spot.pack pack ≡ b → is_stored after p ≡ cond b (is_among (places_of pack o) p) (is_stored r p)
+    cases : (b : Bool) → same_id p.spot.pack pack ≡ b → is_stored after p ≡ cond b (is_among (places_stored pack o) p) (is_stored r p)
     cases true same = stored_own after pack o (there r after (named Pack pack) o replaced) p same
     cases false other =
         ap (λ places. is_among places p)
@@ -151,9 +135,9 @@ module _ (r after : Repository) (index : Id) (o : Option (List ℕ)) (replaced :
   packs_as_indexes pack = elsewhere r after (named Index index) o replaced (named Pack pack) refl
 
   -- what indexes list
-  pub lists_after : (blob : BlobId) (l : Listing) → lists_in after blob l ≡ cond (same_id l.index index) (is_among (listings_of_bytes o) (at blob l.spot)) (lists_in r blob l)
+  pub lists_after : (blob : BlobId) (l : Listing) → lists_in after blob l ≡ cond (same_id l.index index) (is_among (places_listed o) (at blob l.spot)) (lists_in r blob l)
   lists_after blob l = cases (same_id l.index index) refl where
-    cases : (b : Bool) → same_id l.index index ≡ b → lists_in after blob l ≡ cond b (is_among (listings_of_bytes o) (at blob l.spot)) (lists_in r blob l)
+    cases : (b : Bool) → same_id l.index index ≡ b → lists_in after blob l ≡ cond b (is_among (places_listed o) (at blob l.spot)) (lists_in r blob l)
     cases true same = lists_own after index o (there r after (named Index index) o replaced) blob l same
     cases false other =
         ap (λ places. is_among places (at blob l.spot))
@@ -175,9 +159,9 @@ module _ (r after : Repository) (name : Id) (o : Option (List ℕ)) (replaced : 
       ∙ sym (listed_by r index _ refl)
 
   -- what snapshots say
-  pub snap_after : (q : Id) → snap_in after q ≡ cond (same_id q name) (snap_of_bytes o) (snap_in r q)
+  pub snap_after : (q : Id) → snap_in after q ≡ cond (same_id q name) (snap_read o) (snap_in r q)
   snap_after q = cases (same_id q name) refl where
-    cases : (b : Bool) → same_id q name ≡ b → snap_in after q ≡ cond b (snap_of_bytes o) (snap_in r q)
+    cases : (b : Bool) → same_id q name ≡ b → snap_in after q ≡ cond b (snap_read o) (snap_in r q)
     cases true same =
         ap (snap_in after) (tells_apart id_exact q name same)
         ∙ snap_by after name o (there r after (named Snapshot name) o replaced)

@@ -80,9 +80,13 @@ headers_in r = filter_map (λ pack. readable pack (header_in r pack)) (ids_in r 
 abbrev pub indexes_in : Repository → List (Id × List PackData)
 indexes_in r = filter_map (λ index. readable index (index_in r index)) (ids_in r Index)
 
--- what this snapshot says, none where there is no such snapshot, or none that can be read
+-- what the snapshot in these bytes says, none where there are none, or none that can be read
+abbrev pub snap_read : Option (List ℕ) → Option SnapData
+snap_read bytes = option_and_then result_ok (option_map snap_of bytes)
+
+-- what this snapshot says
 unfoldable pub snap_in : Repository → Id → Option SnapData
-snap_in r snapshot = option_and_then result_ok (snapshot_in r snapshot)
+snap_in r snapshot = snap_read (file_in r Snapshot snapshot)
 
 -- what this snapshot says, with its name
 abbrev pub named_snap : Repository → Id → Option (Id × SnapData)

@@ -1,42 +1,25 @@
 -- What a catalog keeps of the files of a repository. All but `snap_at` is of private invariants alone.
-use Rattle.std.specs.Prelude.{◌≡◌, ⊤, ℕ, Bool, false, List, [], ◌∷◌, map, Option, None, Some, is_some}
+use Rattle.std.specs.Prelude.{◌≡◌, ⊤, ℕ, Bool, false, List, [], ◌∷◌, Option, None, Some, is_some}
 use Rattle.std.specs.BTreeMap.{BTreeMap, IsOrdered}
 use Rattle.std.specs.BTreeMap as tree
 use Rattle.std.specs.BTreeSet.{BTreeSet, contains}
 use Rattle.std.specs.FinMap as finite
-use Rattle.std.specs.List.{flat_map}
 use Rattle.std.specs.Option.{option_map}
-use Rattle.std.specs.Result.{result_ok}
 use Rattle.keep_names.specs.Orders.{blob_cmp, id_cmp, name_cmp}
 use Rattle.keep_names.specs.declared.blob.BlobId.{BlobId}
 use Rattle.keep_names.specs.declared.file_name.FileName.{FileName}
 use Rattle.keep_names.specs.declared.id.Id.{Id}
-use Rattle.keep_pack.specs.Reading.{header_of}
 use Rattle.keep_repo.specs.Repository.{Repository}
 use Rattle.keep_snap.specs.Snap.{SnapData, snap_view}
 use Rattle.keep_snap.specs.declared.snap.Snap.{Snap}
 use Rattle.keep_change.specs.NamedBytes.{NamedBytes}
 use Rattle.keep_change.specs.Result.{put_files, take_files}
-use Rattle.keep_catalog.specs.Files.{index_of, snap_in, snap_of, what_is_read, why_unread}
+use Rattle.keep_catalog.specs.Files.{snap_in, why_unread}
 use Rattle.keep_catalog.specs.Orders.{listing_cmp, packed_blob_cmp}
-use Rattle.keep_catalog.specs.Places.{at, is_among, is_honest, is_stored, listed_in, listed_of, packed_of}
+use Rattle.keep_catalog.specs.Places.{at, is_among, is_honest, is_stored, listed_in}
 use Rattle.keep_catalog.specs.declared.spot.Listing.{Listing}
 use Rattle.keep_catalog.specs.declared.spot.PackedBlob.{PackedBlob}
 use Rattle.keep_catalog.specs.declared.tables.Tables.{Tables}
-
--- ---- what the bytes of a file say
-
--- the places that the header in the bytes of this pack has
-abbrev pub places_stored : Id → List ℕ → List PackedBlob
-places_stored pack bytes = map (packed_of pack) (what_is_read (Some (header_of bytes)))
-
--- the places that the index in the bytes lists
-abbrev pub places_listed : List ℕ → List PackedBlob
-places_listed bytes = flat_map listed_of (what_is_read (Some (index_of bytes)))
-
--- what the snapshot in the bytes says
-abbrev pub snap_read : List ℕ → Option SnapData
-snap_read bytes = result_ok (snap_of bytes)
 
 -- ---- tables
 

@@ -8,9 +8,10 @@ use Rattle.keep_names.specs.declared.blob.BlobId.{BlobId}
 use Rattle.keep_names.specs.declared.file_name.Kind.TheVariants.{Pack, Index}
 use Rattle.keep_names.specs.declared.id.Id.{Id}
 use Rattle.keep_repo.specs.Repository.{Repository}
+use Rattle.keep_pack.specs.Reading.{header_of}
 use Rattle.keep_index.specs.Index.{PackData}
 use Rattle.keep_names.specs.declared.blob.Blob.{Blob}
-use Rattle.keep_catalog.specs.Files.{file_in, ids_in, header_in, index_in, what_is_read}
+use Rattle.keep_catalog.specs.Files.{file_in, ids_in, index_of, what_is_read}
 use Rattle.keep_catalog.specs.Orders.{spot_cmp, blob_eq, id_eq, packed_blob_eq}
 use Rattle.keep_catalog.specs.declared.spot.PackedBlob.{PackedBlob}
 use Rattle.keep_catalog.specs.declared.spot.Spot.{Spot}
@@ -27,17 +28,26 @@ is_among places p = list_any (packed_blob_eq p) places
 abbrev pub packed_of : Id → Blob → PackedBlob
 packed_of pack b = record { blob = b.blob; spot = record { pack = pack; offset = b.offset; length = b.length } }
 
--- what the header of this pack has; nothing where there is no such pack, or none that can be read
+-- the places that the header in these bytes of a pack has; nothing where there are none, or none that can be
+-- read
+abbrev pub places_stored : Id → Option (List ℕ) → List PackedBlob
+places_stored pack bytes = map (packed_of pack) (what_is_read (option_map header_of bytes))
+
+-- what the header of this pack has
 unfoldable pub stored_in : Repository → Id → List PackedBlob
-stored_in r pack = map (packed_of pack) (what_is_read (header_in r pack))
+stored_in r pack = places_stored pack (file_in r Pack pack)
 
 -- what an index says of a pack
 abbrev pub listed_of : PackData → List PackedBlob
 listed_of listed = map (packed_of listed.id) listed.blobs
 
--- what this index lists; nothing where there is no such index, or none that can be read
+-- the places that the index in these bytes lists; nothing where there are none, or none that can be read
+abbrev pub places_listed : Option (List ℕ) → List PackedBlob
+places_listed bytes = flat_map listed_of (what_is_read (option_map index_of bytes))
+
+-- what this index lists
 unfoldable pub listed_in : Repository → Id → List PackedBlob
-listed_in r index = flat_map listed_of (what_is_read (index_in r index))
+listed_in r index = places_listed (file_in r Index index)
 
 -- whether the header of the place's pack has it
 abbrev pub is_stored : Repository → PackedBlob → Bool

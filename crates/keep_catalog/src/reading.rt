@@ -5,8 +5,7 @@ ghost use Rattle.keep_index.specs.declared.index_error.IndexError.TheVariants.{D
 ghost use Rattle.keep_names.specs.declared.file_name.Kind.TheVariants.{Pack, Index, Snapshot};
 ghost use Rattle.keep_pack.specs.Reading.{header_of};
 ghost use Rattle.keep_pack.specs.declared.pack_error.PackError.TheVariants as the_pack_error;
-ghost use Rattle.keep_catalog.specs.Files.{index_of, what_is_read, why_of};
-ghost use Rattle.keep_catalog.specs.Kept.{snap_read};
+ghost use Rattle.keep_catalog.specs.Files.{index_of, snap_read, what_is_read, why_of};
 ghost use Rattle.keep_snap.specs.Snap.{snap_view};
 ghost use Rattle.keep_snap.specs.declared.snap.SnapError.TheVariants as the_snap_error;
 
@@ -56,7 +55,7 @@ pub(crate) fn read_listed(alloc: Global, bytes: &[u8]) -> Result<Read<Vec<Indexe
 
 // The snapshot, if it can be read.
 pub(crate) fn read_snapshot(alloc: Global, bytes: &[u8]) -> Result<Read<Option<Snap>>, AllocError>
-    ensures snap { IfOk result (λ read. option_map snap_view read.0 ≡ snap_read bytes.now) }
+    ensures snap { IfOk result (λ read. option_map snap_view read.0 ≡ snap_read (Some bytes.now)) }
     ensures why { IfOk result (λ read. read.1 ≡ why_of Snapshot bytes.now) }
 {
     match read_snap(alloc, bytes) {

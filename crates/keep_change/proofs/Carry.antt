@@ -101,7 +101,7 @@ times-reversed q ws = ap (count_by (facet_eq q)) (same_facets ws)
     same_facets [] = refl
     same_facets (w ∷ ws) = ap (λ fs. w.facet ∷ fs) (same_facets ws)
 
-some_times : (p : Facet → Bool) (fs : List Facet) → list_any p fs ≡ true → 1 ≤ count_by p fs
+pub some_times : (p : Facet → Bool) (fs : List Facet) → list_any p fs ≡ true → 1 ≤ count_by p fs
 some_times p [] e = cc e
 some_times p (f ∷ fs) e =
     elim (p f) as (λ b. p f ≡ b → (b || list_any p fs) ≡ true → 1 ≤ count_by p (f ∷ fs)) [

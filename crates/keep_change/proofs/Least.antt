@@ -106,7 +106,7 @@ filled_unmet None = refl
 filled_unmet (Some (Stored bytes)) = refl
 filled_unmet (Some (Marked mark)) = refl
 
-empty_unmet : (x : Option Content) → not (is_none x) ≡ is_some x
+pub empty_unmet : (x : Option Content) → not (is_none x) ≡ is_some x
 empty_unmet None = refl
 empty_unmet (Some x) = refl
 

@@ -1,8 +1,11 @@
 pub mod Apart
+pub mod Arriving
 pub mod Asking
 pub mod Before
 pub mod Carry
 pub mod Exchange
+pub mod Filling
+pub mod Following
 pub mod History
 pub mod Holdings
 pub mod Law

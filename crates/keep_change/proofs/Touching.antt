@@ -7,6 +7,7 @@ use Rattle.std.proofs.lemmas.Simd.{map-map}
 use Rattle.keep_repo.specs.declared.facet.Facet.{Facet}
 use Rattle.keep_repo.specs.declared.facet.Facet.TheVariants.{File, Mark}
 use Rattle.keep_change.specs.declared.change.Change.{Change}
+use Rattle.keep_change.specs.Change.{asked}
 use Rattle.keep_change.specs.Touch.{written_facets, facets}
 
 or_assoc : (a b c d : Bool) → (a || (b || (c || d))) ≡ (((a || b) || c) || d)
@@ -42,10 +43,16 @@ list_any-written p c = simp (map-append, map-map, list_any-append) (or_assoc
     (list_any p (map (λ f. File f.name) c.adds)) (list_any p (map (λ f. File f.name) c.drops))
     (list_any p (map (λ m. Mark m.pack) c.sets)) (list_any p (map (λ m. Mark m.pack) c.clears)))
 
+-- the facets that a change only looks at, list by list
+pub list_any-asked : (p : Facet → Bool) (c : Change) → list_any p (map (λ a. a.facet) (asked c)) ≡
+    (list_any p (map File c.present) || (list_any p (map File c.absent)
+    || (list_any p (map Mark c.marked) || list_any p (map Mark c.unmarked))))
+list_any-asked p c = simp (map-append, map-map, list_any-append) refl
+
 pub list_any-facets : (p : Facet → Bool) (c : Change) → list_any p (facets c) ≡
     ((((list_any p (written_facets c) || list_any p (map File c.present)) || list_any p (map File c.absent))
     || list_any p (map Mark c.marked)) || list_any p (map Mark c.unmarked))
 list_any-facets p c =
     list_any-append p (written_facets c) _
-    ∙ ap (λ b. list_any p (written_facets c) || b) (simp (map-append, map-map, list_any-append) refl)
+    ∙ ap (λ b. list_any p (written_facets c) || b) (list_any-asked p c)
     ∙ or_regroup (list_any p (written_facets c)) (list_any p (map File c.present)) (list_any p (map File c.absent)) (list_any p (map Mark c.marked)) (list_any p (map Mark c.unmarked))

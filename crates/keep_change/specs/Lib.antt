@@ -1,4 +1,5 @@
 pub mod Change
+pub mod Filling
 pub mod Fold
 pub mod Form
 pub mod Holdings

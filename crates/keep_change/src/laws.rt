@@ -1,3 +1,4 @@
+ghost use Rattle.keep_change.specs.Filling.{FacetsFollow, FilesComeFrom};
 ghost use Rattle.keep_change.specs.Law.{RedoIsExact, TakingBackRestores, UndoIsExact};
 ghost use Rattle.keep_change.specs.Lists.{SortedListsAreWellFormed, WhatIsAskedIsMet};
 
@@ -24,4 +25,11 @@ pub fn sorted_lists_are_well_formed()
 /// What a planner shows of the repository that it plans on, so that its change is met there.
 pub fn what_is_asked_is_met()
     ensures { WhatIsAskedIsMet }
+{}
+
+/// What a change that is met finds and leaves, facet by facet, as its lists say; and where the files of its
+/// result come from.
+pub fn results_follow_the_lists()
+    ensures facets { FacetsFollow }
+    ensures files { FilesComeFrom }
 {}

@@ -18,8 +18,8 @@ mod well_formedness;
 pub use change::{Change, PackMark, Planned};
 pub use holder::Holder;
 pub use laws::{
-    redo_is_exact, sorted_lists_are_well_formed, taking_back_restores, undo_is_exact,
-    what_is_asked_is_met,
+    redo_is_exact, results_follow_the_lists, sorted_lists_are_well_formed, taking_back_restores,
+    undo_is_exact, what_is_asked_is_met,
 };
 pub use listed::Listed;
 pub use member::Member;

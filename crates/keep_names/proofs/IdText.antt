@@ -46,12 +46,6 @@ id_text-decoded text bytes lower read =
     let same : bytes ≡ found.0.0 = ap (λ (r : Result (List ℕ) FromHexError). result_unwrap_or r []) (sym read ∙ again) in
     ap encode_lower same ∙ found.2
 
--- a text of an id decodes
-pub decode_sized-IsIdText : (text : List ℕ) → IsIdText text → (bytes : List ℕ) × (decode_sized text 32 ≡ Ok bytes)
-decode_sized-IsIdText text h =
-    let found = id_of_text text h in
-    (found.0.0, decode_sized-id_text found.0 text found.1 found.2)
-
 -- the bytes of 64 digits are the id of that text
 pub digest-exact : (text digest : List ℕ) → length text ≡ 64 → IsBytes digest → encode_lower digest ≡ text
     → (id : Id) → IsDigest id → id_text id ≡ text → record { 0 = digest } ≡ id

@@ -5,3 +5,4 @@ pub mod IdText
 pub mod Orders
 pub mod OrdersSaid
 pub mod Paths
+pub mod TellsApart

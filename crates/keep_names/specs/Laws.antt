@@ -1,5 +1,7 @@
 -- The orders of names and blobs in plain words, and that digests are ids.
-use Rattle.std.specs.Prelude.{◌≡◌, ℕ, ◌<◌, List, ◌∷◌, ◌++◌}
+use Rattle.std.specs.Prelude.{◌≡◌, ◌↔◌, ℕ, ◌<◌, true, List, ◌∷◌, ◌++◌}
+use Rattle.std.specs.Ordering.{eq_by_cmp}
+use Rattle.std.specs.declared.cmp.Ordering.{Ordering}
 use Rattle.std.specs.declared.cmp.Ordering.TheVariants.{Less}
 use Rattle.keep_names.specs.Id.{IsDigest}
 use Rattle.keep_names.specs.Orders.{blob_cmp, blob_type_cmp, id_cmp, kind_cmp, name_cmp}
@@ -40,3 +42,7 @@ BlobsAreOrdered =
 -- each SHA-256 is an id: it has 32 bytes
 abbrev pub DigestsAreIds : Type 0
 DigestsAreIds = (bytes : List ℕ) → IsDigest (record { 0 = sha256 bytes })
+
+-- two that the order doesn't tell apart are one
+abbrev pub TellsApart : {K : Type 0} → (K → K → Ordering) → Type 0
+TellsApart {K} R = (a b : K) → (eq_by_cmp R a b ≡ true) ↔ (a ≡ b)

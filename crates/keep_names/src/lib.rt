@@ -13,4 +13,4 @@ pub use blob::{Blob, BlobId, BlobType};
 pub use file_name::{FileName, Kind, path_of};
 pub use hex_digit::decode_hex;
 pub use id::{BadId, Id, id_of, parse_id, print_id, text_names_id};
-pub use laws::{digests_are_ids, names_are_ordered};
+pub use laws::{digests_are_ids, names_are_ordered, orders_tell_apart};
