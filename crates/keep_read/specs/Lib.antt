@@ -1,5 +1,6 @@
 pub mod Contents
 pub mod Findings
 pub mod Found
+pub mod Losses
 pub mod Refusals
 pub mod Restored

@@ -15,7 +15,7 @@ mod walk;
 
 pub use finding::Finding;
 pub use findings::audit;
-pub use laws::paths_are_apart;
+pub use laws::{paths_are_apart, sound_repositories_lose_no_blob};
 pub use restoration::restore;
 pub use restore_error::RestoreError;
 pub use restored::Restored;

@@ -1,0 +1,11 @@
+pub mod BackedUp
+pub mod Covering
+pub mod Empty
+pub mod Giving
+pub mod Keeping
+pub mod Owing
+pub mod Parts
+pub mod Places
+pub mod Planning
+pub mod Retreed
+pub mod Selected
