@@ -25,7 +25,7 @@ use Rattle.keep_change.specs.declared.change.PackMark.{PackMark}
 use Rattle.keep_plan.proofs.Made.{added_so, settled_made}
 use Rattle.keep_plan.proofs.Ordered.{All-of_map, each_so}
 use Rattle.keep_plan.specs.Refusal.{unless, unread_first}
-use Rattle.keep_plan.specs.Settling.{CanBeMade, absent_files, is_there, settled}
+use Rattle.keep_plan.specs.Settling.{CanBeMade, is_there, settled}
 use Rattle.keep_plan.specs.declared.plan_error.PlanError.{PlanError}
 use Rattle.keep_plan.specs.declared.plan_error.PlanError.TheVariants.{SnapshotThere}
 use Rattle.keep_plan.specs.declared.stored.Stored.{Stored}
@@ -43,7 +43,7 @@ module _ (P : NamedBytes → Type 0) (pack : (blobs : List BlobData) → P (pack
   packs_so [] rest h = h
   packs_so (p ∷ ps) rest h = (pack p, packs_so ps rest h)
 
-  built_so : (packs : List (List BlobData)) → AllByRecursion P (packs_and_index packs)
+  pub built_so : (packs : List (List BlobData)) → AllByRecursion P (packs_and_index packs)
   built_so [] = tt
   built_so (p ∷ ps) = packs_so (p ∷ ps) (index_file (p ∷ ps) ∷ []) (index (p ∷ ps), tt)
 
@@ -195,6 +195,11 @@ module _ (r : Repository) (stored : Stored) (snapshot : NamedBytes) (can : CanBe
     unmarked = can.unmarked;
   }
 
+-- what all built files are, those that are added are
+pub adds_so : (r : Repository) (P : NamedBytes → Type 0) (blobs : List BlobData) → AllByRecursion P (built r blobs) → AllByRecursion P (stored_of r blobs).adds
+unfolding stored_of settled
+adds_so r P blobs all = added_so r P (built r blobs) all
+
 -- ---- the plan
 
 module _ (r : Repository) (facts : FactsData) where
@@ -202,19 +207,15 @@ module _ (r : Repository) (facts : FactsData) where
   unfolding snapshot_file
   snapshot_own tree = refl
 
-  below_snapshot : (tree : Id) (blobs : List BlobData) → AllByRecursion (λ (f : NamedBytes). name_cmp f.name (snapshot_file facts tree).name ≡ Less) (absent_files r (built r blobs))
-  unfolding snapshot_file
-  below_snapshot tree blobs =
-      let id = (snapshot_file facts tree).name.id in
-      added_so r (IsBelow id) (built r blobs) (built_so (IsBelow id) (pack_below id) (index_below id) (packs_built r blobs))
-
   can_be_made : (blobs : List BlobData) → CanBeMade r (stored_of r blobs)
   unfolding stored_of
   can_be_made blobs = settled_made r (names_once blobs) (built r blobs) (built_own r blobs)
 
   adds_below : (tree : Id) (blobs : List BlobData) → AllByRecursion (λ (f : NamedBytes). name_cmp f.name (snapshot_file facts tree).name ≡ Less) (stored_of r blobs).adds
-  unfolding stored_of settled
-  adds_below tree blobs = below_snapshot tree blobs
+  unfolding snapshot_file
+  adds_below tree blobs =
+      let id = (snapshot_file facts tree).name.id in
+      adds_so r (IsBelow id) blobs (built_so (IsBelow id) (pack_below id) (index_below id) (packs_built r blobs))
 
   module _ (P : Change → Type 0) (so : (blobs : List BlobData) (tree : Id) → is_there r (snapshot_file facts tree).name ≡ false → P (change_of (stored_of r blobs) (snapshot_file facts tree))) (c : Change) where
     planned_so : (blobs : List BlobData) (tree : Id) → planned r (stored_of r blobs) (snapshot_file facts tree) ≡ Ok c → P c

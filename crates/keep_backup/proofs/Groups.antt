@@ -4,15 +4,15 @@ use Rattle.std.proofs.lemmas.List.{map-append}
 use Rattle.std.proofs.lemmas.List.Elements.{filter_map-append}
 use Rattle.std.proofs.lemmas.Slice.Eq.{bytes_eq-Decides}
 use Rattle.std.specs.Cmp.{tied_itself}
-use Rattle.std.specs.Cmp.Lexicographic.{nat_list_cmp_total, slice_cmp}
+use Rattle.std.specs.Cmp.Lexicographic.{lists_total, nat_list_cmp_total, slice_cmp}
 use Rattle.std.specs.FinMap.{entries, entries-insert, from_entries, keys, nat_cmp-IsAntisymmetric, put, slice_cmp-IsAntisymmetric}
 use Rattle.std.specs.FinMap.Entries.{by_order}
 use Rattle.std.specs.List.{AllByRecursion, cons_option}
-use Rattle.keep_catalog.specs.Ordered.{keyed}
+use Rattle.keep_catalog.specs.Ordered.{in_order, keyed}
 use Rattle.keep_plan.proofs.Ordered.{All-entries}
 use Rattle.keep_repo.proofs.Maps.{no_entries}
 use Rattle.keep_backup.specs.Folders.{Folder, no_nodes, first_name, first_names, folder_at, node_at, nodes_at, seen_from}
-use Rattle.keep_backup.specs.Paths.{FileData, path_of}
+use Rattle.keep_backup.specs.Paths.{FileData, by_path, path_of}
 use Rattle.keep_backup.specs.Walk.{blobs_below, nodes_of}
 
 abbrev pub Name : Type 0
@@ -26,7 +26,7 @@ same_name = slice_cmp-IsAntisymmetric nat_cmp-IsAntisymmetric
 
 -- ---- keys in order
 
-abbrev Key : Type 0
+abbrev pub Key : Type 0
 Key = Name × Unit {0}
 
 abbrev After : Name → Key → Type 0
@@ -60,6 +60,24 @@ keys_grouped x e (f ∷ es) ls here all later =
     ap (map (λ k. k.0)) (entries-insert nat_list_cmp_total (from_entries ((f ∷ es) ++ ls)) e.0 e.1
     ∙ ap (λ k. put name_cmp k e.1 (entries (from_entries {R = name_cmp} ((f ∷ es) ++ ls)))) here)
     ∙ put_first x e.1 (entries (from_entries {R = name_cmp} ((f ∷ es) ++ ls))) (keys (from_entries {R = name_cmp} ls)) (keys_grouped x f es ls all.0 all.1 later)
+
+-- what all names are, those in order are
+module _ (P : Name → Type 0) where
+  keyed_so : (ks : List Name) → AllByRecursion P ks → AllByRecursion (λ (e : Key). P e.0) (map keyed ks)
+  keyed_so [] all = tt
+  keyed_so (k ∷ ks) all = (all.0, keyed_so ks all.1)
+
+  keys_so : (es : List Key) → AllByRecursion (λ (e : Key). P e.0) es → AllByRecursion P (map (λ (e : Key). e.0) es)
+  keys_so [] all = tt
+  keys_so (e ∷ es) all = (all.0, keys_so es all.1)
+
+  pub in_order_so : (ks : List Name) → AllByRecursion P ks → AllByRecursion P (in_order name_cmp ks)
+  in_order_so ks all = keys_so (entries (from_entries {R = name_cmp} (map keyed ks))) (All-entries nat_list_cmp_total same_name (λ (e : Key). P e.0) (map keyed ks) (keyed_so ks all))
+
+-- and what all files are, those in the order of their paths are
+pub by_path_so : (P : FileData → Type 0) (fs : List FileData) → AllByRecursion P fs → AllByRecursion P (by_path fs)
+unfolding by_path
+by_path_so P fs all = All-entries (lists_total nat_list_cmp_total) (slice_cmp-IsAntisymmetric same_name) P fs all
 
 -- ---- files by their first name
 

@@ -24,7 +24,7 @@ module _ (name : BlobId) where
   abbrev is_it : BlobData → Bool
   is_it b = blob_eq name (blob_id_of b)
 
-  named_any : (bs : List BlobData) → list_any (blob_eq name) (map blob_id_of bs) ≡ list_any is_it bs
+  pub named_any : (bs : List BlobData) → list_any (blob_eq name) (map blob_id_of bs) ≡ list_any is_it bs
   named_any [] = refl
   named_any (b ∷ bs) = ap (λ t. is_it b || t) (named_any bs)
 

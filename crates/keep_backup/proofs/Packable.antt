@@ -54,7 +54,7 @@ empties_kept (k ∷ ks) =
 
 -- ---- short blobs
 
-no_or : (a b : Bool) → (a || b) ≡ false → (a ≡ false) × (b ≡ false)
+pub no_or : (a b : Bool) → (a || b) ≡ false → (a ≡ false) × (b ≡ false)
 no_or true b h = cc h
 no_or false b h = (refl, h)
 
@@ -80,7 +80,7 @@ none_full t r offered none =
     none_left is_full (is_of t) (filter (is_new r) (first_of_each is_same offered))
     (none_left is_full (is_new r) (first_of_each is_same offered) (none_first is_full offered none))
 
-is_short : (n : ℕ) → nat_le (2 ^ 32) n ≡ false → n < 2 ^ 32
+pub is_short : (n : ℕ) → nat_le (2 ^ 32) n ≡ false → n < 2 ^ 32
 is_short n h = grind (arith, nat_tests)
 
 short_kept : (kept : List (BlobId × Text)) → list_any is_full (map blob_view kept) ≡ false → AllByRecursion IsShort kept
@@ -189,7 +189,7 @@ of_nil t (b ∷ bs) = cases (of_nil t bs) (is_of t b) refl where
   cases ih false is =
       ih ∙ zero_more (count_by (is_nil t) bs) ∙ ap (λ o. cond (o && is_empty b) 1 0 + count_by (is_nil t) bs) (sym is) ∙ sym (counted (is_nil t) b bs)
 
-few_new : (t : BlobType) (r : Repository) (offered : List BlobData) → count_by is_empty (new_of t r offered) ≤ 1
+pub few_new : (t : BlobType) (r : Repository) (offered : List BlobData) → count_by is_empty (new_of t r offered) ≤ 1
 unfolding new_of
 few_new t r offered =
     let a : count_by is_empty (filter (is_of t) (filter (is_new r) (first_of_each is_same offered))) ≡ count_by (is_nil t) (filter (is_new r) (first_of_each is_same offered)) = of_nil t (filter (is_new r) (first_of_each is_same offered)) in

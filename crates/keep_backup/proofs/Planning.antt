@@ -68,7 +68,7 @@ module _ (r : Repository) (cut : ℕ) (files : List FileData) where
 -- ---- the plan
 
 module _ (r : Repository) (facts : FactsData) (cut : ℕ) (given : List (List ℕ × List ℕ)) where
-  with_files : (o : Result (List FileData) PlanError) → files_in_order given ≡ o → backup_change r facts cut given ≡ backup_of r facts cut o
+  pub with_files : (o : Result (List FileData) PlanError) → files_in_order given ≡ o → backup_change r facts cut given ≡ backup_of r facts cut o
   unfolding backup_change
   with_files o is = ap (backup_of r facts cut) is
 

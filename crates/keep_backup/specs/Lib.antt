@@ -5,6 +5,7 @@ pub mod Folders
 pub mod Kept
 pub mod Packs
 pub mod Paths
+pub mod Safe
 pub mod Stored
 pub mod Storing
 pub mod Walk

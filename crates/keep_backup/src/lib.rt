@@ -10,6 +10,7 @@ mod plan;
 mod plan_tests;
 #[cfg(test)]
 mod refusal_tests;
+mod safety;
 mod snapshot;
 mod stored;
 mod storing;
@@ -22,5 +23,6 @@ mod walk_tests;
 pub use cut::Cut;
 pub use laws::{a_planned_backup_can_be_made, each_blob_is_kept, packs_are_cut_when_full};
 pub use plan::plan_backup;
+pub use safety::{a_planned_backup_is_safe, what_is_stored_is_given};
 pub use snapshot::BackupFacts;
 pub use stored::store;

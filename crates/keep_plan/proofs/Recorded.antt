@@ -31,6 +31,10 @@ module _ {K : Type 0} {R : K → K → Ordering} (total : IsTotalOrder R) where
   among_first q xs ys h =
       in_order-same total q (xs ++ ys) ∙ list_any-append (eq_by_cmp R q) xs ys ∙ or_left (list_any (eq_by_cmp R q) xs) (list_any (eq_by_cmp R q) ys) h
 
+  pub among_second : (q : K) (xs ys : List K) → list_any (eq_by_cmp R q) ys ≡ true → list_any (eq_by_cmp R q) (in_order R (xs ++ ys)) ≡ true
+  among_second q xs ys h =
+      in_order-same total q (xs ++ ys) ∙ list_any-append (eq_by_cmp R q) xs ys ∙ or_right (list_any (eq_by_cmp R q) xs) (list_any (eq_by_cmp R q) ys) h
+
 itself : {K : Type 0} {R : K → K → Ordering} → IsTotalOrder R → (q : K) → eq_by_cmp R q q ≡ true
 itself total q = ap is_eq (tied_itself total q)
 

@@ -16,6 +16,7 @@ use Rattle.std.proofs.lemmas.List.{map-append}
 use Rattle.std.proofs.lemmas.List.Elements.{filter-append}
 use Rattle.std.proofs.lemmas.List.Folds.{list_any-append}
 use Rattle.std.proofs.lemmas.Map.Views.{tells_apart}
+use Rattle.keep_change.specs.Filling.{has_pack}
 use Rattle.keep_names.proofs.Orders.{id_exact, id_total, name_exact, name_total}
 use Rattle.keep_names.specs.Orders.{id_cmp, name_cmp}
 use Rattle.keep_names.specs.declared.file_name.FileName.{FileName}
@@ -28,7 +29,7 @@ use Rattle.keep_catalog.proofs.Ordered.{find_append, found_key, here, keys_keyed
 use Rattle.keep_change.specs.Lists.{file_names}
 use Rattle.keep_change.specs.NamedBytes.{NamedBytes}
 use Rattle.keep_plan.specs.Marks.{AreMarks}
-use Rattle.keep_plan.specs.Settling.{absent_files, absent_of, is_in, is_there, marks_on, names_there, pack_mark, under_name}
+use Rattle.keep_plan.specs.Settling.{absent_files, absent_of, is_there, marks_on, names_there, pack_mark, under_name}
 
 -- ---- entries one after the other
 
@@ -121,11 +122,11 @@ module _ {K : Type 0} {R : K → K → Ordering} (total : IsTotalOrder R) (exact
 
 module _ (r : Repository) where
   -- the marks that are on these packs, of the whole repository's
-  pub marks_kept : (packs : List Id) (q : Id) → get (retain_keys r.marks (is_in packs)) q ≡ cond (is_in packs q) (get r.marks q) None
-  marks_kept packs q = get-retain_keys r.marks (is_in packs) q (λ x tied. ap (is_in packs) (sym (id_exact q x tied)))
+  pub marks_kept : (packs : List Id) (q : Id) → get (retain_keys r.marks (has_pack packs)) q ≡ cond (has_pack packs q) (get r.marks q) None
+  marks_kept packs q = get-retain_keys r.marks (has_pack packs) q (λ x tied. ap (has_pack packs) (sym (id_exact q x tied)))
 
-  is_in-more : (packs : List Id) (pack q : Id) → is_in (packs ++ pack ∷ []) q ≡ (is_in packs q || (eq_by_cmp id_cmp q pack || false))
-  is_in-more packs pack q = list_any-append (eq_by_cmp id_cmp q) packs (pack ∷ [])
+  has_pack-more : (packs : List Id) (pack q : Id) → has_pack (packs ++ pack ∷ []) q ≡ (has_pack packs q || (eq_by_cmp id_cmp q pack || false))
+  has_pack-more packs pack q = list_any-append (eq_by_cmp id_cmp q) packs (pack ∷ [])
 
   pub mark_put : (packs : List Id) (pack : Id) (mark : Mark) (old new : BTreeMap Id Mark) → get r.marks pack ≡ Some mark
       → ((q : Id) → tree.get id_cmp new q ≡ cond (is_at (id_cmp pack) q) (Some mark) (tree.get id_cmp old q))
@@ -133,8 +134,8 @@ module _ (r : Repository) where
   mark_put packs pack mark old new is put are q =
       put q ∙ ap (λ t. cond t (Some mark) (tree.get id_cmp old q)) ((eq_by_cmp_equiv id_total).symm pack q)
       ∙ ap (cond (eq_by_cmp id_cmp q pack) (Some mark)) (are q)
-      ∙ cases (eq_by_cmp id_cmp q pack) refl (is_in packs q)
-      ∙ ap (λ t. cond t (get r.marks q) None) (sym (is_in-more packs pack q)) where
+      ∙ cases (eq_by_cmp id_cmp q pack) refl (has_pack packs q)
+      ∙ ap (λ t. cond t (get r.marks q) None) (sym (has_pack-more packs pack q)) where
         marked : (q : Id) → eq_by_cmp id_cmp q pack ≡ true → Some mark ≡ get r.marks q
         marked q same = sym is ∙ ap (get r.marks) (sym (tells_apart id_exact q pack same))
 
@@ -146,8 +147,8 @@ module _ (r : Repository) where
 
   pub mark_none : (packs : List Id) (pack : Id) (old : BTreeMap Id Mark) → get r.marks pack ≡ None → AreMarks r packs old → AreMarks r (packs ++ pack ∷ []) old
   mark_none packs pack old none are q =
-      are q ∙ cases (eq_by_cmp id_cmp q pack) refl (is_in packs q)
-      ∙ ap (λ t. cond t (get r.marks q) None) (sym (is_in-more packs pack q)) where
+      are q ∙ cases (eq_by_cmp id_cmp q pack) refl (has_pack packs q)
+      ∙ ap (λ t. cond t (get r.marks q) None) (sym (has_pack-more packs pack q)) where
         cases : (here : Bool) → eq_by_cmp id_cmp q pack ≡ here → (before : Bool) → cond before (get r.marks q) None ≡ cond (before || (eq_by_cmp id_cmp q pack || false)) (get r.marks q) None
         cases _ is true = refl
         cases true same false =
@@ -175,7 +176,7 @@ absent_are r files adds ordered so =
 
 pub marks_are : (r : Repository) (packs : List Id) (marks : BTreeMap Id Mark) → tree.IsOrdered id_cmp marks → AreMarks r packs marks → map pack_mark marks.entries ≡ marks_on r packs
 marks_are r packs marks ordered are =
-    ap (map pack_mark) (entries_are id_total id_exact marks (retain_keys r.marks (is_in packs)) ordered (λ q. are q ∙ sym (marks_kept r packs q)))
+    ap (map pack_mark) (entries_are id_total id_exact marks (retain_keys r.marks (has_pack packs)) ordered (λ q. are q ∙ sym (marks_kept r packs q)))
 
 pub same_items : (files : List NamedBytes) → map (λ file. file) files ≡ files
 same_items [] = refl

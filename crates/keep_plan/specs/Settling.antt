@@ -1,9 +1,7 @@
 -- What becomes of files that a planner builds.
-use Rattle.std.specs.Prelude.{◌≡◌, Bool, true, not, List, ◌++◌, map, filter, All, IsSome, None, Some, is_some}
+use Rattle.std.specs.Prelude.{◌≡◌, Bool, true, not, ◌||◌, List, ◌++◌, map, filter, All, IsSome, None, Some, is_some}
 use Rattle.std.specs.FinMap as finite
-use Rattle.std.specs.List.{list_any}
 use Rattle.std.specs.List.Sorted.{IsStrictlySortedBy}
-use Rattle.std.specs.Ordering.{eq_by_cmp}
 use Rattle.keep_names.specs.FileName.{named}
 use Rattle.keep_names.specs.Orders.{id_cmp, name_cmp}
 use Rattle.keep_names.specs.declared.blob.BlobId.{BlobId}
@@ -12,6 +10,7 @@ use Rattle.keep_names.specs.declared.file_name.Kind.TheVariants.{Pack, Index}
 use Rattle.keep_names.specs.declared.id.Id.{Id}
 use Rattle.keep_repo.specs.Repository.{Repository}
 use Rattle.keep_repo.specs.declared.facet.Mark.{Mark}
+use Rattle.keep_change.specs.Filling.{has_name, has_pack}
 use Rattle.keep_change.specs.Form.{AreNamedByBytes}
 use Rattle.keep_change.specs.Lists.{file_names, marked_packs}
 use Rattle.keep_change.specs.declared.change.PackMark.{PackMark}
@@ -46,16 +45,12 @@ names_there r files = filter (is_there r) (file_names files)
 abbrev pub packs_among : List NamedBytes → List Id
 packs_among files = ids_among Pack (file_names files)
 
--- whether the id is one of these
-abbrev pub is_in : List Id → Id → Bool
-is_in ids id = list_any (eq_by_cmp id_cmp id) ids
-
 -- the marks that are on these packs, by pack
 abbrev pub pack_mark : Id × Mark → PackMark
 pack_mark entry = record { pack = entry.0; mark = entry.1 }
 
 abbrev pub marks_on : Repository → List Id → List PackMark
-marks_on r packs = map pack_mark (finite.entries (finite.retain_keys r.marks (is_in packs)))
+marks_on r packs = map pack_mark (finite.entries (finite.retain_keys r.marks (has_pack packs)))
 
 -- those of the packs that have none
 abbrev pub unmarked_of : Repository → List Id → List Id
@@ -88,6 +83,14 @@ pub record CanBeMade (r : Repository) (stored : Stored) : Type 0 where
 -- The use of a blob at this spot, which this index lists, is recorded: the spot's pack and the index have to be
 -- present, and the pack unmarked.
 pub record RecordsUse (stored : Stored) (place : Spot × Id) : Type 0 where
-  pub pack : list_any (eq_by_cmp name_cmp (named Pack place.0.pack)) stored.present ≡ true
-  pub index : list_any (eq_by_cmp name_cmp (named Index place.1)) stored.present ≡ true
-  pub mark : is_in stored.unmarked place.0.pack ≡ true
+  pub pack : has_name stored.present (named Pack place.0.pack) ≡ true
+  pub index : has_name stored.present (named Index place.1) ≡ true
+  pub mark : has_pack stored.unmarked place.0.pack ≡ true
+
+-- What becomes of built files: each of them is added or to be present, and of each pack among them the mark is
+-- cleared or the pack is to be unmarked.
+pub record Settles (built : List NamedBytes) (stored : Stored) : Type 0 where
+  pub files : (name : FileName) → has_name (file_names built) name ≡ true
+      → (has_name (file_names stored.adds) name || has_name stored.present name) ≡ true
+  pub packs : (pack : Id) → has_pack (packs_among built) pack ≡ true
+      → (has_pack (marked_packs stored.clears) pack || has_pack stored.unmarked pack) ≡ true

@@ -11,7 +11,7 @@ ghost use Rattle.keep_catalog.specs.Words.{reach_number, reach_text};
 ghost use Rattle.keep_catalog.specs.declared.reach_error.ReachError as the_reach;
 ghost use Rattle.keep_catalog.specs.declared.spot.Spot as the_spot;
 ghost use Rattle.keep_plan.specs.Refusal.{of_reach, plan_number, plan_text};
-ghost use Rattle.keep_plan.specs.Settling.{CanBeMade, RecordsUse, settled};
+ghost use Rattle.keep_plan.specs.Settling.{CanBeMade, RecordsUse, Settles, settled};
 
 /// What a reach refuses, a planner refuses by the same words and number.
 pub fn refusals_keep_their_words()
@@ -32,4 +32,11 @@ pub fn each_use_is_recorded()
     ensures { (r : Repository) (used : List the_blob.BlobId) (built : List NamedBytes) (blob : the_blob.BlobId)
         (place : the_spot.Spot × the_id.Id) → list_any (blob_eq blob) used ≡ true
         → chosen_listing r blob ≡ Some place → RecordsUse (settled r used built) place }
+{}
+
+/// Each built file is added, or was there and is to be present; and of each pack among them the mark is cleared, or
+/// it had none and is to be unmarked.
+pub fn each_built_file_is_settled()
+    ensures { (r : Repository) (used : List the_blob.BlobId) (built : List NamedBytes)
+        → Settles built (settled r used built) }
 {}

@@ -11,7 +11,10 @@ mod stored;
 mod tests;
 mod unreached;
 
-pub use laws::{each_use_is_recorded, refusals_keep_their_words, what_is_settled_can_be_made};
+pub use laws::{
+    each_built_file_is_settled, each_use_is_recorded, refusals_keep_their_words,
+    what_is_settled_can_be_made,
+};
 pub use plan_error::PlanError;
 pub use reuses::Reuses;
 pub use settling::settle_files;

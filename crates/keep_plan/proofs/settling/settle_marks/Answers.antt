@@ -1,8 +1,9 @@
 use Rattle.std.proofs.Common.{◌≡◌, None, List, take, cond, ap, ◌∙◌}
 use Rattle.std.specs.FinMap.{get}
 use Rattle.std.proofs.lemmas.List.{take_all}
+use Rattle.keep_change.specs.Filling.{has_pack}
 use Rattle.keep_names.specs.declared.id.Id.{Id}
-use Rattle.keep_plan.specs.Settling.{is_in, packs_among}
+use Rattle.keep_plan.specs.Settling.{packs_among}
 use Rattle.keep_plan.proofs.Outcomes.{if_ok}
 use Rattle.keep_plan.proofs.Settled.{marks_are}
 use Rattle.keep_plan.proofs.settling.settle_marks.Goals as goal
@@ -14,5 +15,5 @@ returns-clause-clears c =
     take_all c.loop-pack.pack-index c.deref-pack-items.result.now c.loop-pack-test.false ∙ c.deref-pack-items.ensures.value ∙ c.in_ok-packs.ensures in
     if_ok _ _ c.marks_in.result
     (λ listed is. is ∙ marks_are r (packs_among c.args.files.now) c.loop-pack.clears c.marks_in.ensures.ordered
-    (λ q. c.loop-pack.invariant.marks q ∙ ap (λ (packs : List Id). cond (is_in packs q) (get r.marks q) None) all))
+    (λ q. c.loop-pack.invariant.marks q ∙ ap (λ (packs : List Id). cond (has_pack packs q) (get r.marks q) None) all))
     c.marks_in.ensures.marks
