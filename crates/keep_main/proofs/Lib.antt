@@ -1,3 +1,4 @@
+mod BadWordLemmas
 mod NumberLemmas
 mod OptionLemmas
 mod RefusedLemmas

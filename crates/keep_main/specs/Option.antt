@@ -1,5 +1,5 @@
 -- The options of the program, as clap takes them from the words behind the program's name.
-use Rattle.std.specs.Prelude.{ℕ, Bool, true, not, ◌&&◌, List, Option, Some, None, if◌then◌else◌, codes}
+use Rattle.std.specs.Prelude.{◌≡◌, ◌<◌, ℕ, Bool, true, not, ◌&&◌, IsSome, List, Option, Some, None, if◌then◌else◌, codes, slice_get, take}
 use Rattle.std.specs.List.{list_any}
 use Rattle.std.specs.Str.{bytes_eq}
 use Rattle.std.specs.Option.{option_map_or}
@@ -46,3 +46,9 @@ are_options words =
 -- the options that the words give, if they are options
 abbrev pub options_of : List (List ℕ) → Option Options
 options_of words = if are_options words then options_in (matches_of command words) else None
+
+-- the bad one of words that aren't options: it stands behind their longest beginning that is options
+abbrev pub IsBadWord : List (List ℕ) → List ℕ → Type 0
+IsBadWord words word =
+    (count : ℕ) × (slice_get words count ≡ Some word) × IsSome (options_of (take count words))
+    × ((longer : ℕ) → count < longer → options_of (take longer words) ≡ None)

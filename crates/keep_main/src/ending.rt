@@ -5,54 +5,57 @@ use crate::options::BadOptions;
 use keep_script::Status;
 use std::fmt;
 
+const USAGE: &str = "usage: keepd [--cut N] < SCRIPT";
+
 /// How the program ended. It prints as the line on standard error that says why.
 #[derive(Clone, Copy, Debug, PartialEq, Eq)]
-pub(crate) enum Ending {
+pub(crate) enum Ending<'a> {
     /// The script was run, to this end.
     Ran(Status),
-    /// The words behind the program's name aren't its options.
-    BadOptions,
+    /// The words behind the program's name aren't its options. The bad one is named, but where one
+    /// isn't UTF-8 none is.
+    BadOptions(Option<&'a str>),
 }
 
-impl Ending {
+impl Ending<'_> {
     ghost use Rattle.keep_main.specs.Ending.{code_of};
     ghost use Rattle.keep_main.specs.declared.ending.Ending.TheVariants as the_ending;
 
     /// The exit status: 0 where each line was answered, 1 where the run failed, 2 where a line isn't
     /// of the language or the words aren't options.
     pub fn code(self) -> u8
-        ensures { result ≡ code_of self }
+        ensures { result ≡ code_of self.entry }
     {
         match self {
             Ending::Ran(Status::Done) => 0,
             Ending::Ran(Status::ReadFailed | Status::ScriptTooLong) => 1,
             Ending::Ran(Status::WriteFailed | Status::NoMemory) => 1,
-            Ending::Ran(Status::BadLine(_, _)) | Ending::BadOptions => 2,
+            Ending::Ran(Status::BadLine(_, _)) | Ending::BadOptions(_) => 2,
         }
     }
 
     /// Whether each line was answered, so that there is nothing to say.
     pub fn is_done(self) -> bool
-        ensures { IsTrue result ↔ (self ≡ the_ending.Ran the_status.Done) }
+        ensures { IsTrue result ↔ (self.entry ≡ the_ending.Ran the_status.Done) }
     {
         matches!(self, Ending::Ran(Status::Done))
     }
 }
 
-impl From<BadOptions> for Ending {
+impl From<BadOptions> for Ending<'_> {
     ghost use Rattle.keep_main.specs.Ending.{ending_of};
 
     ghost from_gives = { λ error ending. ending ≡ ending_of error };
 
-    fn from(error: BadOptions) -> Ending {
+    fn from(error: BadOptions) -> Self {
         match error {
-            BadOptions::Refused => Ending::BadOptions,
+            BadOptions::Refused => Ending::BadOptions(None),
             BadOptions::Memory => Ending::Ran(Status::NoMemory),
         }
     }
 }
 
-impl fmt::Display for Ending {
+impl fmt::Display for Ending<'_> {
     ghost use Rattle.std.specs.Prelude.{Some};
     ghost use Rattle.keep_main.specs.Ending.{ending_text};
 
@@ -68,9 +71,8 @@ impl fmt::Display for Ending {
             }
             Ending::Ran(Status::WriteFailed) => f.write_str("keepd: cannot write the answers"),
             Ending::Ran(Status::NoMemory) => f.write_str("keepd: no memory"),
-            Ending::BadOptions => {
-                f.write_str("keepd: bad options; usage: keepd [--cut N] < SCRIPT")
-            }
+            Ending::BadOptions(None) => write!(f, "keepd: bad options; {USAGE}"),
+            Ending::BadOptions(Some(word)) => write!(f, "keepd: bad option: {word}; {USAGE}"),
         }
     }
 }

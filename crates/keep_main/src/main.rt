@@ -25,7 +25,7 @@ fn read_words(rt: &HostRuntime) -> Result<Vec<String>, BadOptions> {
 }
 
 /// Runs the program between standard input and output.
-fn serve(rt: &HostRuntime, words: &[String]) -> Ending {
+fn serve<'a>(rt: &HostRuntime, words: &'a [String]) -> Ending<'a> {
     let alloc = rt.alloc();
     let words: Result<Vec<&str>, _> = words.iter().map(|word| word.as_str()).collect(alloc);
     let (Ok(words), Ok(mut writer)) = (words, BufWriter::new(alloc, rt.stdout())) else {
@@ -34,13 +34,17 @@ fn serve(rt: &HostRuntime, words: &[String]) -> Ending {
     keepd(alloc, words.as_slice(), &mut rt.stdin(), &mut writer)
 }
 
-fn main(rt: HostRuntime) -> ExitCode {
-    let ending = match read_words(&rt) {
-        Ok(words) => serve(&rt, words.as_slice()),
-        Err(error) => Ending::from(error),
-    };
+/// Says why the program ended, unless each line was answered.
+fn tell(rt: &HostRuntime, ending: Ending<'_>) -> ExitCode {
     if !ending.is_done() {
         let _ = writeln!(rt.stderr(), "{ending}");
     }
     ExitCode::from(ending.code())
+}
+
+fn main(rt: HostRuntime) -> ExitCode {
+    match read_words(&rt) {
+        Ok(words) => tell(&rt, serve(&rt, words.as_slice())),
+        Err(error) => tell(&rt, Ending::from(error)),
+    }
 }

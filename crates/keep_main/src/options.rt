@@ -1,4 +1,4 @@
-ghost use Rattle.std.specs.Prelude.{◌≡◌, ◌≤◌, IfOk, codes, map, ok_or, option_map};
+ghost use Rattle.std.specs.Prelude.{◌≡◌, ◌≤◌, IfOk, IsSomeAnd, None, codes, map, ok_or, option_map};
 ghost use Rattle.std.specs.List.{list_any};
 ghost use Rattle.std.specs.Str.{bytes_eq};
 ghost use Rattle.clap.specs.Words.{app_of, found_of, kind_of, rows_of, with_rule};
@@ -62,6 +62,26 @@ pub(crate) fn read_options<'a>(alloc: Global, words: &'a [&'a str]) -> Result<Op
     let command = command(alloc)?;
     let matches = command.try_get_matches_from(words)?;
     options_in(&matches)
+}
+
+/// The word behind the longest beginning of the words that is options. There is one, since no words
+/// at all are options.
+pub(crate) fn find_bad_word<'a>(
+    alloc: Global,
+    words: &[&'a str],
+) -> Result<Option<&'a str>, AllocError>
+    requires { options.options_of (map (λ word. word.now) words.now) ≡ None }
+    ensures { IfOk result (λ bad. IsSomeAnd bad (λ word.
+        options.IsBadWord (map (λ word. word.now) words.entry.now) word.now)) }
+{
+    for count in (0..words.len()).rev() {
+        match read_options(alloc, &words[..count]) {
+            Ok(_) => return Ok(Some(words[count])),
+            Err(BadOptions::Refused) => {}
+            Err(BadOptions::Memory) => return Err(AllocError),
+        }
+    }
+    Ok(None)
 }
 
 /// Whether `--` is among the words.

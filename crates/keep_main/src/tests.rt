@@ -66,7 +66,7 @@ impl Write for Full {
 }
 
 /// What the program is to answer, what it says of its end, and its exit status.
-type Wanted = (&'static str, &'static str, u8);
+type Wanted<'a> = (&'a str, &'a str, u8);
 
 fn expect<R: Read>(
     rt: &impl Abort,
@@ -74,7 +74,7 @@ fn expect<R: Read>(
     words: &[&str],
     reader: &mut R,
     (room, flushes): (usize, usize),
-    wanted: Wanted,
+    wanted: Wanted<'_>,
 ) {
     let mut writer = Full {
         held: Vec::new(alloc),
@@ -142,26 +142,41 @@ fn words_give_the_options(rt: HostRuntime) {
 #[test]
 fn other_words_are_bad_options(rt: HostRuntime) {
     let alloc = rt.alloc();
-    let refused = ("", "keepd: bad options; usage: keepd [--cut N] < SCRIPT", 2);
-    for words in [
-        ["--cut", "0"].as_slice(),
-        &["--cut", "8388609"],
-        &["--cut", "x"],
-        &["--cut", ""],
-        &["--cut"],
-        &["--cut="],
-        &["--cut", "-4"],
-        &["--cut", "4", "--cut", "5"],
-        &["--help"],
-        &["-h"],
-        &["--version"],
-        &["help"],
-        &["--cut", "4", "help"],
-        &[""],
-        &["--"],
+    for (words, bad) in [
+        (["--cut", "0"].as_slice(), "--cut"),
+        (&["--cut", "8388609"], "--cut"),
+        (&["--cut", "x"], "--cut"),
+        (&["--cut", ""], "--cut"),
+        (&["--cut"], "--cut"),
+        (&["--cut="], "--cut="),
+        (&["--cut=x", "--cut=4"], "--cut=x"),
+        (&["--cut", "-4"], "--cut"),
+        (&["--cut", "4", "--cut", "5"], "--cut"),
+        (&["--cut", "4", "--cut=5"], "--cut=5"),
+        (&["--help"], "--help"),
+        (&["-h"], "-h"),
+        (&["--version"], "--version"),
+        (&["help"], "help"),
+        (&["--cut", "4", "--keep", "5"], "--keep"),
+        (&["--cut", "4", "help"], "help"),
+        (&["--cut=4", "first", "second"], "first"),
+        (&["first", "--cut", "4"], "first"),
+        (&[""], ""),
+        (&["--"], "--"),
+        (&["--cut", "4", "--"], "--"),
     ] {
         let mut script = b"count".as_slice();
-        expect(&rt, alloc, words, &mut script, AMPLE, refused);
+        let said = format!(in alloc;
+            "keepd: bad option: {bad}; usage: keepd [--cut N] < SCRIPT"
+        ).expect(&rt, "memory");
+        expect(
+            &rt,
+            alloc,
+            words,
+            &mut script,
+            AMPLE,
+            ("", said.as_str(), 2),
+        );
         assert_eq!(rt; script.len(), 5);
         assert!(rt; read_options(alloc, words) == Err(BadOptions::Refused));
     }
@@ -198,10 +213,19 @@ fn failures_give_their_status(rt: HostRuntime) {
 }
 
 #[test]
-fn want_of_memory_is_told(rt: HostRuntime) -> Result<(), Fail> {
-    let ending = Ending::from(BadOptions::Memory);
-    let said = format!(in rt.alloc(); "{ending}")?;
-    assert_eq!(rt; ending.code(), 1);
-    assert_eq!(rt; said.as_str(), "keepd: no memory");
+fn unread_options_give_their_status(rt: HostRuntime) -> Result<(), Fail> {
+    for (error, cause, code) in [
+        (BadOptions::Memory, "keepd: no memory", 1),
+        (
+            BadOptions::Refused,
+            "keepd: bad options; usage: keepd [--cut N] < SCRIPT",
+            2,
+        ),
+    ] {
+        let ending = Ending::from(error);
+        let said = format!(in rt.alloc(); "{ending}")?;
+        assert_eq!(rt; ending.code(), code);
+        assert_eq!(rt; said.as_str(), cause);
+    }
     Ok(())
 }
