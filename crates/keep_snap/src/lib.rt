@@ -1,8 +1,9 @@
-//! Snapshots of a repository, the times that they write, and the facts that filters ask about.
+//! Snapshots of a repository, the times that they write, the facts that filters ask about, and edits of their tags.
 #![tactic(auto)]
 
 mod copies;
 mod fact;
+mod relabel;
 mod snap;
 #[cfg(test)]
 mod tests;
@@ -10,6 +11,7 @@ mod time;
 mod written;
 
 pub use fact::{SnapFacts, facts};
+pub use relabel::retag;
 pub use snap::{Snap, SnapError, read_snap};
 pub use time::{Month, Time, parse_time};
-pub use written::{snapshots_read_back, write_snap};
+pub use written::{retagged_snapshots_can_be_written, snapshots_read_back, write_snap};

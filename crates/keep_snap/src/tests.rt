@@ -1,4 +1,4 @@
-use crate::{Month, Snap, SnapError, facts, parse_time, read_snap, write_snap};
+use crate::{Month, Snap, SnapError, facts, parse_time, read_snap, retag, write_snap};
 use keep_docs::DocError;
 use keep_names::parse_id;
 use std::test::Fail;
@@ -21,6 +21,8 @@ const WHOLE_WRITTEN: &str = "{\"excludes\":[\"*.o\"],\"gid\":100,\"hostname\":\"
     \"username\":\"root\"}";
 
 const TREE: &str = "ca978112ca1bbdcafac231b39a23dc4da786eff8147c4e72b9807785afee48bb";
+
+const OLD: &str = "2cf24dba5fb0a30e26e83b2ac5b9e29e1b161e5c1fa7425e73043362938b9824";
 
 #[test]
 fn times_are_instants_and_days(rt: HostRuntime) -> Result<(), Fail> {
@@ -204,6 +206,26 @@ fn a_dir_stands_for_the_paths(rt: HostRuntime) -> Result<(), Fail> {
     let written = format!(in alloc; "{{\"dir\":\"/tmp\",\"paths\":[\"/tmp\"],{rest}\"{TREE}\"}}")?;
     let snap = read_snap(alloc, text.as_bytes())?;
     assert_eq!(rt; write_snap(alloc, &snap)?.as_slice(), written.as_bytes());
+    Ok(())
+}
+
+#[test]
+fn a_snapshot_under_other_tags_names_the_first(rt: HostRuntime) -> Result<(), Fail> {
+    let alloc = rt.alloc();
+    let rest = "\"time\":\"2015-01-08T21:40:19Z\",\"tree\":";
+    let text = format!(in alloc; "{{\"paths\":[],\"tags\":[\"a\"],{rest}\"{TREE}\",\"uid\":0}}")?;
+    let snap = read_snap(alloc, text.as_bytes())?;
+    let tags = vec![in alloc; String::from_str(alloc, "b")?]?;
+    let made = retag(alloc, &snap, parse_id(OLD)?, tags)?;
+    let written = format!(in alloc;
+        "{{\"original\":\"{OLD}\",\"paths\":[],\"tags\":[\"b\"],{rest}\"{TREE}\",\"uid\":0}}"
+    )?;
+    assert_eq!(rt; write_snap(alloc, &made)?.as_slice(), written.as_bytes());
+    let bare = retag(alloc, &made, parse_id(TREE)?, Vec::new(alloc))?;
+    let written = format!(in alloc;
+        "{{\"original\":\"{OLD}\",\"paths\":[],{rest}\"{TREE}\",\"uid\":0}}"
+    )?;
+    assert_eq!(rt; write_snap(alloc, &bare)?.as_slice(), written.as_bytes());
     Ok(())
 }
 
