@@ -1,0 +1,10 @@
+pub mod Chosen
+pub mod Counting
+pub mod Dropping
+pub mod Kept
+pub mod Lists
+pub mod Once
+pub mod Ranks
+pub mod Sorting
+pub mod Tags
+pub mod Turns
