@@ -28,7 +28,8 @@ use Rattle.keep_backup.specs.declared.snapshot.BackupFacts.{BackupFacts}
 
 -- the change takes over what is stored: each of its lists has at least as much
 pub record Takes (c : Change) (stored : Stored) : Type 0 where
-  pub adds : (name : FileName) → has_name (file_names stored.adds) name ≡ true → has_name (file_names c.adds) name ≡ true
+  pub adds : (name : FileName) → has_name (file_names stored.adds) name ≡ true
+      → has_name (file_names c.adds) name ≡ true
   pub present : (name : FileName) → has_name stored.present name ≡ true → has_name c.present name ≡ true
   pub clears : (pack : Id) → has_pack (marked_packs stored.clears) pack ≡ true
       → has_pack (marked_packs c.clears) pack ≡ true

@@ -26,7 +26,8 @@ AreKnown known r = (snapshot : Id) → is_filled r (file_facet Snapshot snapshot
 -- known, is sound after it.
 abbrev pub IsSafe : Repository → (Id → Bool) → Change → Type 0
 IsSafe all known c =
-    (r : Repository) → IsPartOf r all → AreKnown known r → is_met (held r) c ≡ true → IsSound r → IsSound (result_of c r)
+    (r : Repository) → IsPartOf r all → AreKnown known r → is_met (held r) c ≡ true
+    → IsSound r → IsSound (result_of c r)
 
 -- ---- what a change says of a blob
 
@@ -89,7 +90,8 @@ pub record IsCareful (all : Repository) (known : Id → Bool) (c : Change) : Typ
 -- what is sound, and is all met, is sound by the names of files; and the other way round
 abbrev pub SoundByNames : Type 0
 SoundByNames =
-    (r all : Repository) → IsPartOf r all → HasOneText all → (IsSound r → IsSoundIn all r) × (IsSoundIn all r → IsSound r)
+    (r all : Repository) → IsPartOf r all → HasOneText all
+    → (IsSound r → IsSoundIn all r) × (IsSoundIn all r → IsSound r)
 
 -- a careful change is safe
 abbrev pub CarefulIsSafe : Type 0
