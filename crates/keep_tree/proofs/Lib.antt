@@ -2,3 +2,5 @@ pub mod Depth
 pub mod Distinct
 pub mod Inverse
 pub mod ReadBack
+pub mod Spelling
+pub mod Tails

@@ -1,0 +1,30 @@
+ghost use Rattle.std.specs.Prelude.{◌≡◌, ℕ, List};
+
+use std::marker::Model;
+
+/// Characters, decoded once.
+#[derive(Debug, Drop)]
+pub struct Letters {
+    chars: Vec<char>,
+}
+
+impl Model for Letters {
+    ghost Value = { List ℕ };
+
+    ghost view = { λ s. s.chars.items };
+}
+
+impl Letters {
+    /// These characters. It takes no memory.
+    pub fn from_vec(chars: Vec<char>) -> Letters
+        ensures { result ≡ chars.items }
+    {
+        Letters { chars }
+    }
+
+    pub fn as_slice(&self) -> &[char]
+        ensures { result.now ≡ self.now }
+    {
+        self.chars.as_slice()
+    }
+}
