@@ -1,4 +1,5 @@
 pub mod Index
+pub mod Joining
 pub mod Reading
 pub mod Refusal
 pub mod Writing

@@ -3,6 +3,7 @@
 
 mod index;
 mod index_error;
+mod leaving;
 mod reading;
 #[cfg(test)]
 mod tests;
@@ -10,5 +11,6 @@ mod writing;
 
 pub use index::{Index, IndexedPack};
 pub use index_error::IndexError;
+pub use leaving::{what_is_left_is_listed, without_packs};
 pub use reading::read_index;
 pub use writing::{write_index, written_indexes_read_back};
