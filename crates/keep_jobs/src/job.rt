@@ -1,4 +1,5 @@
 use keep_backup::Cut;
+use keep_labels::Count;
 
 /// What all jobs of a run go by.
 #[derive(Clone, Copy, Debug)]
@@ -21,4 +22,35 @@ pub struct Backup {
     pub time: String,
     /// Each by the text of its absolute path, with its bytes.
     pub files: Vec<(String, Vec<u8>)>,
+}
+
+/// A part of an edit of tags.
+#[derive(Debug, Drop)]
+pub enum TagWord {
+    Add(String),
+    Remove(String),
+    /// To put a list in the tags' place, with this one in it. The empty text names none.
+    Set(String),
+}
+
+/// A part of a policy of forget.
+#[derive(Debug, Drop)]
+pub enum Rule {
+    Last(Count),
+    Daily(Count),
+    Weekly(Count),
+    Monthly(Count),
+    Yearly(Count),
+    /// Snapshots with this tag are kept.
+    Tag(String),
+}
+
+/// What a rule counts, if it counts.
+#[derive(Clone, Copy, Debug, PartialEq, Eq)]
+pub enum Span {
+    Last,
+    Day,
+    Week,
+    Month,
+    Year,
 }

@@ -17,7 +17,8 @@ use std::alloc::{AllocError, Global};
 
 /// The change that the job asks for, planned on what the view shows, or its planner's refusal.
 pub fn plan(alloc: Global, view: &View, settings: Settings, job: &Job) -> Result<Planned, PlanError>
-    ensures change { Answers Memory (λ planned. planned.change) (job_change view.now (settings_view settings) job.now) result }
+    ensures change { Answers Memory (λ planned. planned.change)
+        (job_change view.now (settings_view settings) job.now) result }
     ensures seen { IfOk result (λ planned. planned.seen ≡ view.now.length) }
     ensures well_formed { IfOk result (λ planned. IsWellFormed planned.change) }
     ensures met { IfOk result (λ planned. is_met (held view.now.repo) planned.change ≡ true) }

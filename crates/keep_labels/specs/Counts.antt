@@ -15,7 +15,8 @@ later_periods group turn age all x =
     count_by (λ t. is_eq (group t x) && is_lt (turn t x) && is_newest turn age all t) all
 
 -- it is the newest of its period, and fewer later periods of its group have one
-abbrev pub is_first_of : {X : Type 0} → (X → X → Ordering) → (X → X → Ordering) → (X → X → Ordering) → ℕ → List X → X → Bool
+abbrev pub is_first_of : {X : Type 0} → (X → X → Ordering) → (X → X → Ordering) → (X → X → Ordering) → ℕ
+    → List X → X → Bool
 is_first_of group turn age most all x =
     is_newest turn age all x && nat_lt (later_periods group turn age all x) most
 

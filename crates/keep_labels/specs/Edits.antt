@@ -1,5 +1,6 @@
 -- What an edit makes of a list of tags, and which edits are bad.
 use Rattle.std.specs.Prelude.{ℕ, Bool, true, false, cond, not, ◌&&◌, ◌||◌, List, [], ◌∷◌, ◌++◌, Option, None, Some, filter, map, option_map, string_bytes}
+use Rattle.std.specs.Cmp.Lexicographic.{pointwise}
 use Rattle.std.specs.List.{list_any}
 use Rattle.std.specs.Str.{bytes_eq}
 use Rattle.keep_labels.specs.declared.edit.Edit.{Edit}
@@ -47,21 +48,21 @@ edited_by (Some set) add remove tags = fresh_tags [] set
 abbrev pub edited : EditData → Tags → Tags
 edited edit tags = edited_by edit.replace edit.add edit.remove tags
 
-abbrev pub is_none : Tags → Bool
-is_none [] = true
-is_none (tag ∷ tags) = false
-
-abbrev pub is_empty_tag : List ℕ → Bool
-is_empty_tag [] = true
-is_empty_tag (byte ∷ tag) = false
+abbrev pub is_empty : {X : Type 0} → List X → Bool
+is_empty [] = true
+is_empty (x ∷ xs) = false
 
 abbrev pub has_empty_tag : Tags → Bool
-has_empty_tag tags = list_any is_empty_tag tags
+has_empty_tag tags = list_any is_empty tags
 
 abbrev pub is_bad_by : Option Tags → Tags → Tags → Bool
-is_bad_by None add remove = (is_none add && is_none remove) || has_empty_tag add || has_empty_tag remove
-is_bad_by (Some set) add remove = not (is_none add && is_none remove) || has_empty_tag set
+is_bad_by None add remove = (is_empty add && is_empty remove) || has_empty_tag add || has_empty_tag remove
+is_bad_by (Some set) add remove = not (is_empty add && is_empty remove) || has_empty_tag set
 
 -- whether an edit asks nothing, sets beside adding or removing, or has an empty tag
 abbrev pub is_bad_edit : EditData → Bool
 is_bad_edit edit = is_bad_by edit.replace edit.add edit.remove
+
+-- whether the tags are the same, in the same order
+abbrev pub are_same : Tags → Tags → Bool
+are_same before after = pointwise bytes_eq before after

@@ -1,6 +1,10 @@
 pub mod Counts
 pub mod Edits
+pub mod Forgetting
 pub mod Keeping
 pub mod Orders
 pub mod Rising
+pub mod Safe
+pub mod Swapping
+pub mod Tagging
 pub mod Walk

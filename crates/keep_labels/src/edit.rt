@@ -1,5 +1,5 @@
-ghost use Rattle.std.specs.Prelude.{◌≡◌, ◌↔◌, false, IfOk, map, string_bytes};
-ghost use Rattle.keep_labels.specs.Edits.{edit_view, edited, is_bad_edit, with_added, with_removed};
+ghost use Rattle.std.specs.Prelude.{◌≡◌, ◌↔◌, false, IfOk, map, not, string_bytes};
+ghost use Rattle.keep_labels.specs.Edits.{are_same, edit_view, edited, is_bad_edit, with_added, with_removed};
 ghost use Rattle.keep_labels.specs.Edits as spec;
 
 use std::alloc::{AllocError, Global};
@@ -28,7 +28,8 @@ impl Edit {
     /// were there, those that it adds, where one that is there isn't added again, and of these all but those
     /// that it removes.
     pub fn apply(&self, alloc: Global, tags: &[String]) -> Result<Vec<String>, AllocError>
-        ensures { IfOk result (λ made. map string_bytes made.items ≡ edited (edit_view self.now) (map string_bytes tags.now)) }
+        ensures { IfOk result (λ made. map string_bytes made.items
+            ≡ edited (edit_view self.now) (map string_bytes tags.now)) }
     {
         let Some(set) = &self.replace else {
             let mut made = Vec::with_capacity(alloc, tags.len())?;
@@ -44,14 +45,16 @@ impl Edit {
 
 /// Whether the tags are others, or stand in another order.
 pub fn are_changed(before: &[String], after: &[String]) -> bool
-    ensures { result ≡ false ↔ map string_bytes before.now ≡ map string_bytes after.now }
+    ensures value { result ≡ not (are_same (map string_bytes before.now) (map string_bytes after.now)) }
+    ensures same { result ≡ false ↔ map string_bytes before.now ≡ map string_bytes after.now }
 {
     before != after
 }
 
 // The tags with those that aren't there yet behind them.
 fn added(tags: Vec<String>, add: &[String]) -> Result<Vec<String>, AllocError>
-    ensures { IfOk result (λ made. map string_bytes made.items ≡ with_added (map string_bytes tags.items) (map string_bytes add.now)) }
+    ensures { IfOk result (λ made. map string_bytes made.items
+        ≡ with_added (map string_bytes tags.items) (map string_bytes add.now)) }
 {
     let mut tags = tags;
     for tag in add {
@@ -65,7 +68,8 @@ fn added(tags: Vec<String>, add: &[String]) -> Result<Vec<String>, AllocError>
 
 // The tags that aren't removed.
 fn removed(alloc: Global, tags: &[String], remove: &[String]) -> Result<Vec<String>, AllocError>
-    ensures { IfOk result (λ made. map string_bytes made.items ≡ with_removed (map string_bytes tags.now) (map string_bytes remove.now)) }
+    ensures { IfOk result (λ made. map string_bytes made.items
+        ≡ with_removed (map string_bytes tags.now) (map string_bytes remove.now)) }
 {
     let mut made = Vec::new(alloc);
     for tag in tags {

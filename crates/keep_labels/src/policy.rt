@@ -3,6 +3,7 @@ ghost use Rattle.std.specs.BTreeSet.{contains};
 ghost use Rattle.keep_names.specs.Orders.{id_cmp};
 ghost use Rattle.keep_names.specs.declared.id.Id as the_id;
 ghost use Rattle.keep_snap.specs.Facts.{facts_view};
+ghost use Rattle.keep_labels.specs.Forgetting as spec;
 ghost use Rattle.keep_labels.specs.Keeping.{EachOnce, by_count, by_tag, dropped_names, has_passing, policy_view};
 ghost use Rattle.keep_labels.specs.Orders.{sorting_cmp};
 ghost use Rattle.keep_labels.specs.Walk.{Rises, seen_view};
@@ -30,6 +31,17 @@ pub struct Policy {
     pub yearly: Option<Count>,
     /// A snapshot that has one of these is kept.
     pub tags: Vec<String>,
+}
+
+impl Policy {
+    /// Whether it counts nothing and has no tag. It would keep nothing.
+    pub(crate) fn has_no_rule(&self) -> bool
+        ensures { result ≡ spec.has_no_rule (policy_view self.now) }
+    {
+        let by_count = self.last.is_some() | self.daily.is_some() | self.weekly.is_some();
+        let by_month = self.monthly.is_some() | self.yearly.is_some();
+        !by_count & !by_month & self.tags.is_empty()
+    }
 }
 
 /// The names of the snapshots that the policy doesn't keep, in their order.

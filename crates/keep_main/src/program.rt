@@ -30,7 +30,8 @@ pub(crate) fn keepd<'a, R: Read, W: Write>(
         (status : Status) × (result ≡ Ending.Ran status)
         × Writes (W.contents writer.old) (W.contents writer.new) (λ text. (after : State)
         × Ends (begun options.cut) (R.remaining reader.old) (R.remaining reader.new) text status after)) }
-    ensures whole { result ≢ Ending.Ran Status.WriteFailed → WritesLines (W.contents writer.old) (W.contents writer.new) }
+    ensures whole { result ≢ Ending.Ran Status.WriteFailed →
+        WritesLines (W.contents writer.old) (W.contents writer.new) }
     ensures past_limit { result ≡ Ending.Ran Status.ScriptTooLong →
         IfSome (R.remaining reader.old) (λ script. longest_script ≤ length script) }
 {
