@@ -1,9 +1,10 @@
-//! Reads its input as a document, or as a pack that it hashes too, or backs it up as a file, and says how
-//! much there was. So the time that this takes can be measured.
+//! Reads its input as a document, or as a pack that it hashes too, or backs it up as a file, or forgets as many
+//! snapshots as it has bytes, and says how much there was. So the time that this takes can be measured.
 #![tactic(auto)]
 
 mod backup;
 mod document;
+mod forget;
 mod input;
 mod pack;
 mod task;
@@ -12,6 +13,7 @@ mod tests;
 
 use crate::backup::back_up;
 use crate::document::measure;
+use crate::forget::forget;
 use crate::input::read_all;
 use crate::pack::summarize;
 use crate::task::{Task, task_named};
@@ -55,13 +57,17 @@ fn tell(rt: &HostRuntime, task: Task) -> Result<()> {
             let told = back_up(alloc, bytes)?;
             println!(rt; "snapshot {} adds {}", told.snapshot, told.adds)?;
         }
+        Task::Forget => match forget(alloc, &bytes)? {
+            Some(count) => println!(rt; "dropped {count}")?,
+            None => println!(rt; "too many")?,
+        },
     }
     Ok(())
 }
 
 fn main(rt: HostRuntime) -> ExitCode {
     let Ok(Some(task)) = task_asked(&rt) else {
-        let _ = eprintln!(rt; "usage: keep_bench document|pack|backup < INPUT");
+        let _ = eprintln!(rt; "usage: keep_bench document|pack|backup|forget < INPUT");
         return ExitCode::from(BAD_OPTIONS);
     };
     match tell(&rt, task) {

@@ -6,6 +6,7 @@ pub(crate) enum Task {
     Document,
     Pack,
     Backup,
+    Forget,
 }
 
 /// The task that a word of the command line names.
@@ -13,11 +14,13 @@ pub(crate) fn task_named(word: &str) -> Option<Task>
     ensures document { (result ≡ Some Task.Document) ↔ (word.now ≡ codes "document") }
     ensures pack { (result ≡ Some Task.Pack) ↔ (word.now ≡ codes "pack") }
     ensures backup { (result ≡ Some Task.Backup) ↔ (word.now ≡ codes "backup") }
+    ensures forget { (result ≡ Some Task.Forget) ↔ (word.now ≡ codes "forget") }
 {
     match word {
         "document" => Some(Task::Document),
         "pack" => Some(Task::Pack),
         "backup" => Some(Task::Backup),
+        "forget" => Some(Task::Forget),
         _ => None,
     }
 }
