@@ -1,5 +1,7 @@
-ghost use Rattle.std.specs.Prelude.{◌≡◌, ℕ, List};
+ghost use Rattle.std.specs.Prelude.{◌≡◌, ℕ, IfOk, List};
+ghost use Rattle.std.specs.Str.{chars};
 
+use std::alloc::{AllocError, Global};
 use std::marker::Model;
 
 /// Characters, decoded once.
@@ -27,4 +29,12 @@ impl Letters {
     {
         self.chars.as_slice()
     }
+}
+
+/// The characters of a text.
+pub fn letters_of(alloc: Global, text: &str) -> Result<Letters, AllocError>
+    ensures { IfOk result (λ letters. letters ≡ chars text.now) }
+{
+    let letters: Vec<char> = text.chars().collect(alloc)?;
+    Ok(Letters::from_vec(letters))
 }

@@ -1,6 +1,10 @@
 //! Trees of a repository: what a folder holds, read exactly and written in one spelling.
 #![tactic(auto)]
 
+mod laws;
+mod leaving;
+#[cfg(test)]
+mod leaving_tests;
 mod letters;
 mod matching;
 mod name_match;
@@ -10,16 +14,24 @@ mod parsing;
 mod pattern;
 #[cfg(test)]
 mod pattern_tests;
+mod rest;
+mod rests;
+#[cfg(test)]
+mod rests_tests;
+mod step;
 #[cfg(test)]
 mod tests;
 mod tree;
 mod written;
 
-pub use letters::Letters;
+pub use laws::{rests_tell_apart, what_is_left_decides};
+pub use leaving::without;
+pub use letters::{Letters, letters_of};
 pub use matching::matches_path;
 pub use names::is_name;
 pub use node::{Node, NodeKind};
 pub use parsing::{PatternError, parse_pattern};
 pub use pattern::{Component, Pattern};
+pub use rests::Rests;
 pub use tree::{Tree, TreeError, read_tree};
 pub use written::{trees_read_back, write_tree};

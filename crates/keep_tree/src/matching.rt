@@ -104,14 +104,14 @@ fn walk<'a>(components: &'a [Component], path: &'a [Letters]) -> Halt<'a>
     }
 }
 
-fn is_deep(component: &Component) -> bool
+pub(crate) fn is_deep(component: &Component) -> bool
     ensures { result ≡ spec.is_deep component.now }
 {
     matches!(component, Component::AnyDepth)
 }
 
 // Whether a component takes a name.
-fn takes_name(component: &Component, name: &Letters) -> bool
+pub(crate) fn takes_name(component: &Component, name: &Letters) -> bool
     ensures { result ≡ spec.takes_name component.now name.now }
 {
     match component {

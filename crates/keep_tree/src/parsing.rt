@@ -1,12 +1,11 @@
 ghost use Rattle.std.specs.Prelude.{◌≡◌, ◌||◌, IfOk, map, ok_or};
 ghost use Rattle.std.specs.List.{list_any};
-ghost use Rattle.std.specs.Str.{chars};
 ghost use Rattle.keep_docs.specs.Doc.{Answers};
 ghost use Rattle.keep_tree.specs.Matching.{is_nil};
 ghost use Rattle.keep_tree.specs.Parsing as spec;
 ghost use Rattle.keep_tree.specs.declared.parsing.PatternError.TheVariants.{BadPattern, Memory};
 
-use crate::letters::Letters;
+use crate::letters::letters_of;
 use crate::pattern::{Component, Pattern};
 use std::alloc::{AllocError, Global};
 
@@ -155,12 +154,4 @@ fn component_of(alloc: Global, part: &str) -> Result<Component, AllocError>
     }
     let letters = letters_of(alloc, part)?;
     Ok(Component::Name(letters))
-}
-
-// The characters of a part.
-fn letters_of(alloc: Global, part: &str) -> Result<Letters, AllocError>
-    ensures { IfOk result (λ letters. letters ≡ chars part.now) }
-{
-    let letters: Vec<char> = part.chars().collect(alloc)?;
-    Ok(Letters::from_vec(letters))
 }

@@ -1,0 +1,8 @@
+/// The first components of a pattern: those behind them are left to be matched. They are in order by pattern, and
+/// then by how many are used.
+#[derive(Clone, Copy, Debug, PartialEq, Eq, PartialOrd, Ord)]
+pub(crate) struct Rest {
+    // The place of the pattern among others.
+    pub(crate) pattern: usize,
+    pub(crate) used: usize,
+}
