@@ -8,7 +8,7 @@ use Rattle.keep_names.proofs.Orders.{blob_total}
 use Rattle.keep_names.specs.declared.blob.BlobType.{BlobType}
 use Rattle.keep_repo.specs.Repository.{Repository}
 use Rattle.keep_catalog.specs.Orders.{blob_eq}
-use Rattle.keep_catalog.specs.Wrong.{first_of_each}
+use Rattle.keep_index.specs.Joining.{first_of_each}
 use Rattle.keep_backup.specs.Blobs.{BlobData, blob_id_of, is_new, is_of, is_same, names_once, new_of}
 
 -- whether the blob is among those that were offered

@@ -5,7 +5,7 @@ use Rattle.std.proofs.lemmas.List.Folds.{list_any-append}
 use Rattle.std.proofs.lemmas.Map.Views.{tells_apart}
 use Rattle.keep_catalog.specs.Orders.{blob_eq}
 use Rattle.keep_catalog.specs.Places.{chosen_listing}
-use Rattle.keep_catalog.specs.Wrong.{first_of_each}
+use Rattle.keep_index.specs.Joining.{first_of_each}
 use Rattle.keep_catalog.specs.declared.spot.Spot.{Spot}
 use Rattle.keep_names.proofs.Orders.{blob_exact}
 use Rattle.keep_names.specs.declared.blob.BlobId.{BlobId}

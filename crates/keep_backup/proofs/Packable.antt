@@ -10,7 +10,7 @@ use Rattle.keep_names.specs.declared.blob.BlobType.TheVariants.{Content, Tree}
 use Rattle.keep_repo.specs.Repository.{Repository}
 use Rattle.keep_pack.specs.Pack.{HasOwnId}
 use Rattle.keep_catalog.specs.Orders.{blob_eq}
-use Rattle.keep_catalog.specs.Wrong.{first_of_each}
+use Rattle.keep_index.specs.Joining.{first_of_each}
 use Rattle.keep_catalog.proofs.SpotOrders.{blob_eq_refl}
 use Rattle.keep_backup.specs.Blobs.{BlobData, blob_id_of, is_full, is_new, is_of, is_same, is_tree_type, new_of}
 use Rattle.keep_backup.specs.Storing.{AreKept, CanBePacked, Text, blob_view, text_bytes}

@@ -8,7 +8,7 @@ use Rattle.keep_names.specs.declared.blob.BlobType.TheVariants.{Content, Tree}
 use Rattle.keep_repo.specs.Repository.{Repository}
 use Rattle.keep_catalog.specs.Orders.{blob_eq}
 use Rattle.keep_catalog.specs.Places.{chosen_listing}
-use Rattle.keep_catalog.specs.Wrong.{first_of_each}
+use Rattle.keep_index.specs.Joining.{first_of_each}
 
 -- a blob: its type and its bytes
 abbrev pub BlobData : Type 0

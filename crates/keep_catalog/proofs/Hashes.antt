@@ -14,7 +14,8 @@ use Rattle.keep_repo.specs.Repository.{Repository}
 use Rattle.keep_catalog.specs.Orders.{blob_eq, packed_blob_cmp, packed_blob_eq}
 use Rattle.keep_catalog.specs.Places.{is_honest, is_stored, packed_of}
 use Rattle.keep_catalog.specs.Kept.{IsHashedIn, IsStoredIn, Stored}
-use Rattle.keep_catalog.specs.Wrong.{first_of_each, wrong_at}
+use Rattle.keep_index.specs.Joining.{first_of_each}
+use Rattle.keep_catalog.specs.Wrong.{wrong_at}
 use Rattle.keep_catalog.specs.declared.spot.PackedBlob.{PackedBlob}
 use Rattle.keep_catalog.proofs.Growing.{map_taken, taken_any, taken_more}
 use Rattle.keep_catalog.proofs.SpotOrders.{packed_blob_eq_same}

@@ -1,6 +1,7 @@
 -- Blobs whose bytes have another hash than their id.
-use Rattle.std.specs.Prelude.{Bool, List, [], ◌∷◌, Option, None, Some, map, filter, not, if◌then◌else◌}
+use Rattle.std.specs.Prelude.{List, Option, None, Some, map, if◌then◌else◌}
 use Rattle.std.specs.List.{filter_map, flat_map}
+use Rattle.keep_index.specs.Joining.{first_of_each}
 use Rattle.keep_names.specs.declared.blob.BlobId.{BlobId}
 use Rattle.keep_names.specs.declared.file_name.Kind.TheVariants.{Pack}
 use Rattle.keep_names.specs.declared.id.Id.{Id}
@@ -9,11 +10,6 @@ use Rattle.keep_catalog.specs.Files.{ids_in}
 use Rattle.keep_catalog.specs.Orders.{blob_eq}
 use Rattle.keep_catalog.specs.Places.{is_honest, stored_in}
 use Rattle.keep_catalog.specs.declared.spot.PackedBlob.{PackedBlob}
-
--- each once, where it stands first
-abbrev pub first_of_each : {X : Type 0} → (X → X → Bool) → List X → List X
-first_of_each same [] = []
-first_of_each same (x ∷ xs) = x ∷ filter (λ y. not (same x y)) (first_of_each same xs)
 
 -- the blob at a place, where the bytes have another hash
 abbrev pub wrong_at : Repository → PackedBlob → Option BlobId

@@ -7,7 +7,8 @@ ghost use Rattle.keep_names.specs.declared.blob.BlobId as the_blob;
 ghost use Rattle.keep_catalog.specs.Orders.{blob_eq};
 ghost use Rattle.keep_catalog.specs.Places.{stored_in, packed_of};
 ghost use Rattle.keep_catalog.specs.Kept.{IsHashedIn};
-ghost use Rattle.keep_catalog.specs.Wrong.{first_of_each, wrong_at, wrong_blobs_in, wrong_in};
+ghost use Rattle.keep_catalog.specs.Wrong.{wrong_at, wrong_blobs_in, wrong_in};
+ghost use Rattle.keep_index.specs.Joining.{first_of_each};
 
 use crate::bytes_there::is_honest;
 use crate::catalog::Catalog;

@@ -3,6 +3,7 @@
 
 mod index;
 mod index_error;
+mod joining;
 mod leaving;
 mod reading;
 #[cfg(test)]
@@ -11,6 +12,7 @@ mod writing;
 
 pub use index::{Index, IndexedPack};
 pub use index_error::IndexError;
+pub use joining::{join, what_is_joined_is_listed};
 pub use leaving::{what_is_left_is_listed, without_packs};
 pub use reading::read_index;
 pub use writing::{write_index, written_indexes_read_back};

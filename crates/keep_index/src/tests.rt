@@ -1,6 +1,8 @@
-use crate::{IndexError, read_index, write_index};
+use crate::{Index, IndexError, IndexedPack, join, read_index, without_packs, write_index};
 use keep_docs::DocError;
-use keep_names::{Blob, BlobId, BlobType, id_of};
+use keep_names::{Blob, BlobId, BlobType, Id, id_of};
+use std::alloc::{AllocError, Global};
+use std::collections::BTreeSet;
 use std::test::Fail;
 
 // The index of two packs. The first is that of the one data blob `hello`, the second is empty. The ids are
@@ -144,5 +146,66 @@ fn refusals_have_words_and_numbers(rt: HostRuntime) -> Result<(), Fail> {
         assert_eq!(rt; format!(in rt.alloc(); "{error}")?.as_str(), word);
         assert_eq!(rt; error.number(), number, "{word}");
     }
+    Ok(())
+}
+
+// A blob with its offset in the pack.
+type At = (Id, u64);
+
+// An index of these packs, whose blobs are pieces of files, five bytes each.
+fn index(alloc: Global, packs: &[(Id, &[At])]) -> Result<Index, AllocError> {
+    let mut index = Index {
+        packs: Vec::new(alloc),
+    };
+    for (id, blobs) in packs {
+        let blobs = entries(alloc, blobs)?;
+        index.packs.push(IndexedPack { id: *id, blobs })?;
+    }
+    Ok(index)
+}
+
+fn entries(alloc: Global, blobs: &[At]) -> Result<Vec<Blob>, AllocError> {
+    let mut entries = Vec::new(alloc);
+    for (id, offset) in blobs {
+        entries.push(Blob {
+            blob: BlobId::content(*id),
+            offset: *offset,
+            length: 5,
+        })?;
+    }
+    Ok(entries)
+}
+
+#[test]
+fn indexes_are_joined_as_first_seen(rt: HostRuntime) -> Result<(), Fail> {
+    let alloc = rt.alloc();
+    let [a, b, c] = [id_of(b"a"), id_of(b"b"), id_of(b"c")];
+    let older = index(alloc, &[(c, &[(b, 0), (a, 5), (b, 0)]), (a, &[])])?;
+    let newer = index(
+        alloc,
+        &[(a, &[(a, 0)]), (b, &[]), (c, &[(a, 5), (b, 9), (a, 9)])],
+    )?;
+    let joined = index(
+        alloc,
+        &[
+            (c, &[(b, 0), (a, 5), (b, 9), (a, 9)]),
+            (a, &[(a, 0)]),
+            (b, &[]),
+        ],
+    )?;
+    assert_eq!(rt; join(alloc, &[older, newer])?, joined);
+    Ok(())
+}
+
+#[test]
+fn the_other_packs_are_left(rt: HostRuntime) -> Result<(), Fail> {
+    let alloc = rt.alloc();
+    let [a, b, c] = [id_of(b"a"), id_of(b"b"), id_of(b"c")];
+    let all = index(alloc, &[(a, &[(a, 0)]), (b, &[(b, 0), (c, 5)])])?;
+    let mut gone = BTreeSet::new(alloc);
+    gone.insert(a)?;
+    gone.insert(c)?;
+    let left = index(alloc, &[(b, &[(b, 0), (c, 5)])])?;
+    assert_eq!(rt; without_packs(alloc, &all.packs, &gone)?, left.packs);
     Ok(())
 }

@@ -1,6 +1,7 @@
 use Rattle.std.proofs.Common.{◌++◌, map, get_or, refl, sym, ap, ◌∙◌}
 use Rattle.keep_catalog.specs.Orders.{blob_eq}
-use Rattle.keep_catalog.specs.Wrong.{first_of_each, wrong_in}
+use Rattle.keep_index.specs.Joining.{first_of_each}
+use Rattle.keep_catalog.specs.Wrong.{wrong_in}
 use Rattle.keep_catalog.proofs.Growing.{flat_map_taken, no_id}
 use Rattle.keep_catalog.proofs.Hashes.{in_pack}
 use Rattle.keep_catalog.proofs.wrong.hash_packs.Goals as goal

@@ -4,7 +4,7 @@ use Rattle.std.specs.List.{list_any}
 use Rattle.keep_names.specs.Orders.{blob_cmp}
 use Rattle.keep_names.specs.declared.blob.BlobId.{BlobId}
 use Rattle.keep_catalog.specs.Orders.{blob_eq}
-use Rattle.keep_catalog.specs.Wrong.{first_of_each}
+use Rattle.keep_index.specs.Joining.{first_of_each}
 use Rattle.keep_catalog.proofs.Hashes.{in_pack}
 use Rattle.keep_catalog.proofs.wrong.tell.Given as goal
 
