@@ -1,5 +1,5 @@
 -- Whom each count keeps of snapshots: their orders are total, and whom the walk keeps are those.
-use Rattle.std.proofs.Common.{◌≡◌, ℕ, Bool, true, false, not, ◌&&◌, nat_lt, List, [], ◌++◌, filter, map, count_by, cond, Option, None, IsPermutation, Ordering, Less, Equal, Greater, is_eq, is_lt, inl, inr, refl, sym, ap, ap₂, ◌∙◌, append-nil}
+use Rattle.std.proofs.Common.{◌≡◌, ℕ, Bool, true, false, not, ◌&&◌, nat_lt, List, filter, map, count_by, cond, Option, None, Some, IsPermutation, Ordering, Less, Equal, Greater, is_eq, is_lt, inl, inr, refl, sym, ap, ap₂, ◌∙◌}
 use Rattle.std.proofs.lemmas.Cmp.{back_total, int_cmp_total, lists_total, nat_cmp_total, nat_list_cmp_total, on_total, then_total}
 use Rattle.std.proofs.lemmas.List.Sorted.{list_any-IsPermutation, sum_by-IsPermutation}
 use Rattle.std.specs.Cmp.{IsTotalOrder}
@@ -10,7 +10,7 @@ use Rattle.keep_names.specs.contracts.id.IdOrd.TheImpl.Laws as the_id_laws
 use Rattle.keep_names.specs.declared.id.Id.{Id}
 use Rattle.keep_snap.specs.Facts.{FactsData}
 use Rattle.keep_labels.specs.Counts.{is_among_last, is_first_of, is_newest, later_periods}
-use Rattle.keep_labels.specs.Keeping.{has_passing, is_counted}
+use Rattle.keep_labels.specs.Keeping.{by_count, has_passing, is_counted}
 use Rattle.keep_labels.specs.Orders.{age_cmp, group_cmp, period_cmp, sorting_cmp, turn_cmp}
 use Rattle.keep_labels.specs.Walk.{Rises, names_counted}
 use Rattle.keep_labels.specs.declared.order.Counted.{Counted}
@@ -22,13 +22,13 @@ use Rattle.keep_labels.proofs.Ranks.{UpTo}
 use Rattle.keep_labels.proofs.Tags.{list_any-map}
 use Rattle.keep_labels.proofs.Turns.{walk_keeps}
 
-group_total : IsTotalOrder group_cmp
+pub group_total : IsTotalOrder group_cmp
 group_total = then_total (on_total (λ s. s.host) nat_list_cmp_total) (on_total (λ s. s.paths) (lists_total nat_list_cmp_total))
 
-age_total : IsTotalOrder age_cmp
+pub age_total : IsTotalOrder age_cmp
 age_total = then_total (on_total (λ s. s.instant) (back_total int_cmp_total)) (on_total (λ s. s.name) the_id_laws.total-law)
 
-period_total : (counted : Counted) → IsTotalOrder (period_cmp counted)
+pub period_total : (counted : Counted) → IsTotalOrder (period_cmp counted)
 period_total Snapshots = age_total
 period_total Days = on_total (λ s. s.day) (back_total int_cmp_total)
 period_total Weeks = on_total (λ s. s.week) (back_total int_cmp_total)
@@ -83,15 +83,11 @@ first_is_counted Weeks most all s = refl
 first_is_counted Months most all s = refl
 first_is_counted Years most all s = refl
 
--- the names that the walk has told at its end are those of whom the count keeps
-pub names_walked : (counted : Counted) (most : ℕ) (names : List Id) (last : Option FactsData) (count : ℕ) (left all : List FactsData) → left ≡ []
-    → names ++ map name_of (chosen group_cmp (turn_cmp counted) most last count left) ≡ map name_of (chosen group_cmp (turn_cmp counted) most None 0 all)
-    → Rises (sorting_cmp counted) all → names ≡ names_counted counted most all
-names_walked counted most names last count left all none rest rises =
-    sym (append-nil names)
-    ∙ ap (λ xs. names ++ map name_of (chosen group_cmp (turn_cmp counted) most last count xs)) (sym none)
-    ∙ rest
-    ∙ ap (map name_of) (walk_keeps group_cmp (turn_cmp counted) age_cmp group_total (turn_total counted) age_total (λ t x h. first_upto (group_cmp t x) (period_cmp counted t x) h) most all rises)
+-- whom the walk keeps are those whom the count keeps
+pub names_chosen : (counted : Counted) (most : ℕ) (all : List FactsData) → Rises (sorting_cmp counted) all
+    → map name_of (chosen group_cmp (turn_cmp counted) most None 0 all) ≡ names_counted counted most all
+names_chosen counted most all rises =
+    ap (map name_of) (walk_keeps group_cmp (turn_cmp counted) age_cmp group_total (turn_total counted) age_total (λ t x h. first_upto (group_cmp t x) (period_cmp counted t x) h) most all rises)
     ∙ (λ i. map name_of (filter (λ s. first_is_counted counted most all s i) all))
 
 -- ---- whom a count keeps doesn't hang on the order of the list
@@ -121,3 +117,11 @@ named_counted counted most all sorted name same =
     ∙ any_filter p (is_counted counted most sorted) sorted
     ∙ sym (list_any-IsPermutation (λ s. p s && is_counted counted most sorted s) all sorted same)
     ∙ sym (λ i. list_any (λ s. p s && counted_permuted counted most all sorted same s i) all)
+
+-- nor does whether it keeps one of a name
+pub passing_permuted : (counted : Counted) (most : Option ℕ) (xs ys : List FactsData) (name : Id) → IsPermutation xs ys
+    → has_passing (by_count counted most ys) ys name ≡ has_passing (by_count counted most xs) xs name
+passing_permuted counted None xs ys name same = sym (list_any-IsPermutation (λ s. is_eq (id_cmp s.name name) && false) xs ys same)
+passing_permuted counted (Some most) xs ys name same =
+    sym (list_any-IsPermutation (λ s. is_eq (id_cmp s.name name) && is_counted counted most ys s) xs ys same)
+    ∙ sym (λ i. list_any (λ s. is_eq (id_cmp s.name name) && counted_permuted counted most xs ys same s i) xs)

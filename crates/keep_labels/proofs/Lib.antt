@@ -5,6 +5,7 @@ pub mod Dropping
 pub mod Forgotten
 pub mod Kept
 pub mod Lists
+pub mod Numbered
 pub mod Once
 pub mod Ordered
 pub mod Ranks
@@ -17,3 +18,4 @@ pub mod Tags
 pub mod Taken
 pub mod Texts
 pub mod Turns
+pub mod Walked

@@ -2,16 +2,15 @@
 use Rattle.std.proofs.Common.{◌≡◌, ℕ, suc, ◌+◌, ◌<◌, ◌≤◌, Bool, true, false, cond, List, [], ◌∷◌, length, get_or, map, count_by, IsPermutation, Ordering, Less, Equal, Greater, is_eq, is_lt, refl, sym, subst, ◌∙◌, arith, true≢false}
 use Rattle.std.proofs.lemmas.List.Sorted.{ranks_by, sorted_far, sum_by-IsPermutation}
 use Rattle.std.proofs.lemmas.List.Sums.{sum_by-cons}
-use Rattle.std.specs.Borrow.{Bor}
+use Rattle.std.specs.Cmp.{IsTotalOrder}
 use Rattle.std.specs.List.{AllByRecursion}
 use Rattle.std.specs.List.Sorted.{IsSortedBy}
 use Rattle.std.specs.Ordering.{int_cmp, ordering_reverse, ordering_then}
 use Rattle.keep_names.specs.Orders.{id_cmp}
 use Rattle.keep_snap.specs.Facts.{FactsData}
-use Rattle.keep_snap.specs.declared.fact.SnapFacts.{SnapFacts}
 use Rattle.keep_labels.specs.Keeping.{EachOnce}
 use Rattle.keep_labels.specs.Orders.{sorting_cmp, turn_cmp}
-use Rattle.keep_labels.specs.Walk.{Rises, seen_view}
+use Rattle.keep_labels.specs.Walk.{Rises}
 use Rattle.keep_labels.specs.declared.order.Counted.{Counted}
 use Rattle.keep_labels.proofs.Counting.{sorting_total}
 use Rattle.keep_labels.proofs.Lists.{all_both}
@@ -68,34 +67,41 @@ behind_by Equal Equal Less after apart = absurd (true≢false after)
 behind_by Equal Equal Equal after apart = absurd (true≢false apart)
 behind_by Equal Equal Greater after apart = refl
 
+-- none behind comes before one in front
+abbrev pub Climbs : {X : Type 0} → (X → X → Ordering) → List X → Type 0
+Climbs cmp [] = Unit {0}
+Climbs cmp (x ∷ xs) = AllByRecursion (λ t. is_lt (cmp t x) ≡ false) xs × Climbs cmp xs
+
+module _ {X K : Type 0} (view : X → K) (R : K → K → Ordering) (total : IsTotalOrder R) where
+  after_first : (y : X) (ys : List X)
+      → ((j : ℕ) (d : X) → j < length ys → is_lt (R (view (get_or ys j d)) (view y)) ≡ false)
+      → AllByRecursion (λ t. is_lt (R t (view y)) ≡ false) (map view ys)
+  after_first y [] far = tt
+  after_first y (z ∷ zs) far = (far 0 z (omega arith), after_first y zs (λ j d below. far (suc j) d (omega arith)))
+
+  climbs_far : (ys : List X)
+      → ((i j : ℕ) (d : X) → i ≤ j → j < length ys → is_lt (R (view (get_or ys j d)) (view (get_or ys i d))) ≡ false)
+      → Climbs R (map view ys)
+  climbs_far [] far = tt
+  climbs_far (y ∷ ys) far = (
+    after_first y ys (λ j d below. far 0 (suc j) d (omega arith) (omega arith)),
+    climbs_far ys (λ i j d upto below. far (suc i) (suc j) d (omega arith) (omega arith)),
+  )
+
+  pub climbs_sorted : (ys : List X) → IsSortedBy (λ a b. is_lt (R (view a) (view b))) ys → Climbs R (map view ys)
+  climbs_sorted ys sorted = climbs_far ys (sorted_far (λ a b. is_lt (R (view a) (view b))) (ranks_by total view) ys sorted)
+
 module _ (counted : Counted) where
   comes_after : (x t : FactsData) → is_lt (sorting_cmp counted t x) ≡ false → is_eq (id_cmp t.name x.name) ≡ false → sorting_cmp counted x t ≡ Less
   comes_after x t after apart =
       (sorting_total counted).antisymm x t
       ∙ behind_by (turn_cmp counted t x) (int_cmp x.instant t.instant) (id_cmp t.name x.name) after apart
 
-  abbrev Far : List (Bor SnapFacts) → Type 0
-  Far ys = (i j : ℕ) (d : Bor SnapFacts) → i ≤ j → j < length ys → is_lt (sorting_cmp counted (seen_view (get_or ys j d)) (seen_view (get_or ys i d))) ≡ false
-
-  after_first : (y : Bor SnapFacts) (ys : List (Bor SnapFacts))
-      → ((j : ℕ) (d : Bor SnapFacts) → j < length ys → is_lt (sorting_cmp counted (seen_view (get_or ys j d)) (seen_view y)) ≡ false)
-      → AllByRecursion (λ t. is_lt (sorting_cmp counted t (seen_view y)) ≡ false) (map seen_view ys)
-  after_first y [] far = tt
-  after_first y (z ∷ zs) far = (far 0 z (omega arith), after_first y zs (λ j d below. far (suc j) d (omega arith)))
-
-  rises_far : (ys : List (Bor SnapFacts)) → ((s : FactsData) → is_eq (id_cmp s.name s.name) ≡ true) → Far ys → EachOnce (map seen_view ys)
-      → Rises (sorting_cmp counted) (map seen_view ys)
-  rises_far [] own far once = tt
-  rises_far (y ∷ ys) own far once = (
-    all_both (λ t. is_lt (sorting_cmp counted t (seen_view y)) ≡ false) (λ t. is_eq (id_cmp t.name (seen_view y).name) ≡ false) (λ t. sorting_cmp counted (seen_view y) t ≡ Less)
-        (λ t after apart. comes_after (seen_view y) t after apart) (map seen_view ys)
-        (after_first y ys (λ j d below. far 0 (suc j) d (omega arith) (omega arith)))
-        (apart_behind (seen_view y) (map seen_view ys) (own (seen_view y)) once),
-    rises_far ys own (λ i j d upto below. far (suc i) (suc j) d (omega arith) (omega arith)) (once_behind (seen_view y) (map seen_view ys) once),
+  pub rises_once : (all : List FactsData) → ((s : FactsData) → is_eq (id_cmp s.name s.name) ≡ true) → Climbs (sorting_cmp counted) all → EachOnce all
+      → Rises (sorting_cmp counted) all
+  rises_once [] own climbs once = tt
+  rises_once (x ∷ xs) own climbs once = (
+    all_both (λ t. is_lt (sorting_cmp counted t x) ≡ false) (λ t. is_eq (id_cmp t.name x.name) ≡ false) (λ t. sorting_cmp counted x t ≡ Less)
+        (λ t after apart. comes_after x t after apart) xs climbs.0 (apart_behind x xs (own x) once),
+    rises_once xs own climbs.1 (once_behind x xs once),
   )
-
-  pub rises_sorted : (ys : List (Bor SnapFacts)) → ((s : FactsData) → is_eq (id_cmp s.name s.name) ≡ true)
-      → IsSortedBy (λ a b. is_lt (sorting_cmp counted (seen_view a) (seen_view b))) ys → EachOnce (map seen_view ys)
-      → Rises (sorting_cmp counted) (map seen_view ys)
-  rises_sorted ys own sorted once =
-      rises_far ys own (sorted_far (λ a b. is_lt (sorting_cmp counted (seen_view a) (seen_view b))) (ranks_by (sorting_total counted) seen_view) ys sorted) once

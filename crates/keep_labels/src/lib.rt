@@ -8,6 +8,7 @@ mod edit_tests;
 mod forget;
 #[cfg(test)]
 mod forget_tests;
+mod groups;
 mod laws;
 mod order;
 mod policy;
@@ -15,6 +16,7 @@ mod policy;
 mod policy_tests;
 mod retagged;
 mod rising;
+mod row;
 mod swap;
 mod tag;
 #[cfg(test)]

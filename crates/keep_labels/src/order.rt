@@ -1,7 +1,10 @@
-ghost use Rattle.std.specs.Prelude.{◌≡◌};
+ghost use Rattle.std.specs.Prelude.{◌≡◌, option_map};
+ghost use Rattle.std.specs.Ordering.{nat_cmp, ordering_then};
 ghost use Rattle.keep_snap.specs.Facts.{facts_view};
-ghost use Rattle.keep_labels.specs.Orders.{age_cmp, group_cmp, paths_cmp, period_cmp, sorting_cmp, turn_cmp};
+ghost use Rattle.keep_labels.specs.Orders.{age_cmp, group_cmp, paths_cmp, period_cmp};
+ghost use Rattle.keep_labels.specs.Walk.{follows, seen_view};
 
+use crate::row::Row;
 use keep_snap::SnapFacts;
 use std::cmp::Ordering;
 
@@ -29,39 +32,55 @@ fn compare_paths(left: &SnapFacts, right: &SnapFacts) -> Ordering
     left.paths.cmp(&right.paths)
 }
 
-// By group, and in a group the later period first.
-pub(crate) fn compare_turns(counted: Counted, left: &SnapFacts, right: &SnapFacts) -> Ordering
-    ensures { result ≡ turn_cmp counted (facts_view left.now) (facts_view right.now) }
+// Whether the last one is of the same group.
+pub(crate) fn is_of_group(last: Option<&SnapFacts>, facts: &SnapFacts) -> bool
+    ensures { result ≡ follows group_cmp (option_map seen_view last.entry) (facts_view facts.now) }
 {
-    compare_groups(left, right).then(compare_periods(counted, left, right))
+    match last {
+        Some(last) => compare_groups(last, facts).is_eq(),
+        None => false,
+    }
 }
 
-// By group, then the later period first, and in a period the newer first.
-pub(crate) fn compare_all(counted: Counted, left: &SnapFacts, right: &SnapFacts) -> Ordering
-    ensures { result ≡ sorting_cmp counted (facts_view left.now) (facts_view right.now) }
+// By the number of the group, and in a group the later period first.
+pub(crate) fn compare_turns(counted: Counted, left: &Row, right: &Row) -> Ordering
+    ensures { result ≡ ordering_then (nat_cmp left.now.group right.now.group)
+        (period_cmp counted (seen_view left.now.facts) (seen_view right.now.facts)) }
+{
+    left.group
+        .cmp(&right.group)
+        .then(compare_periods(counted, left, right))
+}
+
+// By the number of the group, then the later period first, and in a period the newer first.
+pub(crate) fn compare_all(counted: Counted, left: &Row, right: &Row) -> Ordering
+    ensures { result ≡ ordering_then (ordering_then (nat_cmp left.now.group right.now.group)
+        (period_cmp counted (seen_view left.now.facts) (seen_view right.now.facts)))
+        (age_cmp (seen_view left.now.facts) (seen_view right.now.facts)) }
 {
     compare_turns(counted, left, right).then(compare_ages(left, right))
 }
 
 // The later period first, by the written date.
-fn compare_periods(counted: Counted, left: &SnapFacts, right: &SnapFacts) -> Ordering
-    ensures { result ≡ period_cmp counted (facts_view left.now) (facts_view right.now) }
+fn compare_periods(counted: Counted, left: &Row, right: &Row) -> Ordering
+    ensures { result ≡ period_cmp counted (seen_view left.now.facts) (seen_view right.now.facts) }
 {
     match counted {
         Counted::Snapshots => compare_ages(left, right),
-        Counted::Days => right.day.cmp(&left.day),
-        Counted::Weeks => right.week.cmp(&left.week),
-        Counted::Months => right.month.cmp(&left.month),
-        Counted::Years => right.year.cmp(&left.year),
+        Counted::Days => right.time.day.cmp(&left.time.day),
+        Counted::Weeks => right.time.week.cmp(&left.time.week),
+        Counted::Months => right.time.month.cmp(&left.time.month),
+        Counted::Years => right.time.year.cmp(&left.time.year),
     }
 }
 
-// The newer first, and of those of one instant the lesser name.
-fn compare_ages(left: &SnapFacts, right: &SnapFacts) -> Ordering
-    ensures { result ≡ age_cmp (facts_view left.now) (facts_view right.now) }
+// The newer first, and of those of one instant the lesser name. The names are looked at only there.
+fn compare_ages(left: &Row, right: &Row) -> Ordering
+    ensures { result ≡ age_cmp (seen_view left.now.facts) (seen_view right.now.facts) }
 {
     right
+        .time
         .instant
-        .cmp(&left.instant)
-        .then(left.name.cmp(&right.name))
+        .cmp(&left.time.instant)
+        .then_with(|| left.facts.name.cmp(&right.facts.name))
 }

@@ -10,6 +10,7 @@ ghost use Rattle.keep_labels.specs.Walk.{Rises, seen_view};
 
 use crate::count::Count;
 use crate::edit::has_tag;
+use crate::groups::{Rows, rows_of};
 use crate::order::{Counted, compare_all};
 use crate::walk::first_names;
 use keep_names::Id;
@@ -49,12 +50,13 @@ pub fn dropped(alloc: Global, policy: &Policy, taken: &[SnapFacts]) -> Result<Ve
     requires { EachOnce (map facts_view taken.now) }
     ensures { IfOk result (λ names. names.items ≡ dropped_names (policy_view policy.now) (map facts_view taken.now)) }
 {
+    let rows = rows_of(alloc, taken)?;
     let mut kept = BTreeSet::new(alloc);
-    keep_counted(alloc, Counted::Snapshots, policy.last, taken, &mut kept)?;
-    keep_counted(alloc, Counted::Days, policy.daily, taken, &mut kept)?;
-    keep_counted(alloc, Counted::Weeks, policy.weekly, taken, &mut kept)?;
-    keep_counted(alloc, Counted::Months, policy.monthly, taken, &mut kept)?;
-    keep_counted(alloc, Counted::Years, policy.yearly, taken, &mut kept)?;
+    keep_counted(alloc, Counted::Snapshots, policy.last, &rows, &mut kept)?;
+    keep_counted(alloc, Counted::Days, policy.daily, &rows, &mut kept)?;
+    keep_counted(alloc, Counted::Weeks, policy.weekly, &rows, &mut kept)?;
+    keep_counted(alloc, Counted::Months, policy.monthly, &rows, &mut kept)?;
+    keep_counted(alloc, Counted::Years, policy.yearly, &rows, &mut kept)?;
     keep_tagged(&policy.tags, taken, &mut kept)?;
     others(alloc, taken, &kept)
 }
@@ -64,19 +66,18 @@ fn keep_counted(
     alloc: Global,
     counted: Counted,
     most: Option<Count>,
-    taken: &[SnapFacts],
+    rows: &Rows,
     kept: &mut BTreeSet<Id>,
 ) -> Result<(), AllocError>
-    requires { EachOnce (map facts_view taken.now) }
-    ensures { OnOk result ((name : the_id.Id) → contains id_cmp kept.new name
-        ≡ (contains id_cmp kept.old name || has_passing
-        (by_count counted (option_map (λ count. count.number) most) (map facts_view taken.now))
-        (map facts_view taken.now) name)) }
+    requires { EachOnce (map (λ row. seen_view row.facts) rows.now.items.items) }
+    ensures { let all = map (λ row. seen_view row.facts) rows.now.items.items in
+        OnOk result ((name : the_id.Id) → contains id_cmp kept.new name ≡ (contains id_cmp kept.old name
+        || has_passing (by_count counted (option_map (λ count. count.number) most) all) all name)) }
 {
     let Some(most) = most else {
         return Ok(());
     };
-    let sorted = in_order(alloc, counted, taken)?;
+    let sorted = in_order(alloc, counted, rows)?;
     let names = first_names(alloc, counted, most, &sorted)?;
     for name in &names {
         kept.insert(*name)?;
@@ -84,29 +85,17 @@ fn keep_counted(
     Ok(())
 }
 
-// The snapshots by group, by period, and in a period the newest first.
-fn in_order<'a>(
-    alloc: Global,
-    counted: Counted,
-    taken: &'a [SnapFacts],
-) -> Result<Vec<&'a SnapFacts>, AllocError>
-    requires { EachOnce (map facts_view taken.now) }
-    ensures rises { IfOk result (λ sorted. Rises (sorting_cmp counted) (map seen_view sorted.items)) }
-    ensures same { IfOk result (λ sorted. IsPermutation (map facts_view taken.entry.now) (map seen_view sorted.items)) }
+// The rows by group, by period, and in a period the newest first.
+fn in_order<'a>(alloc: Global, counted: Counted, rows: &Rows<'a>) -> Result<Rows<'a>, AllocError>
+    requires { EachOnce (map (λ row. seen_view row.facts) rows.now.items.items) }
+    ensures rises { IfOk result (λ sorted. Rises (sorting_cmp counted)
+        (map (λ row. seen_view row.facts) sorted.items.items)) }
+    ensures same { IfOk result (λ sorted. IsPermutation (map (λ row. seen_view row.facts) rows.now.items.items)
+        (map (λ row. seen_view row.facts) sorted.items.items)) }
 {
-    let mut sorted = references(alloc, taken)?;
-    sorted.sort_by(|left, right| compare_all(counted, left, right))?;
-    Ok(sorted)
-}
-
-fn references<'a>(alloc: Global, taken: &'a [SnapFacts]) -> Result<Vec<&'a SnapFacts>, AllocError>
-    ensures { IfOk result (λ all. map seen_view all.items ≡ map facts_view taken.entry.now) }
-{
-    let mut all = Vec::with_capacity(alloc, taken.len())?;
-    for facts in taken {
-        all.push(facts)?;
-    }
-    Ok(all)
+    let mut items = rows.items.to_vec(alloc)?;
+    items.sort_by(|left, right| compare_all(counted, left, right))?;
+    Ok(Rows { items })
 }
 
 // Puts the names there of those that have one of the tags.

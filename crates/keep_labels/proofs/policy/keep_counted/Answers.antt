@@ -1,16 +1,15 @@
-use Rattle.std.proofs.Common.{[], drop, map, ap, ◌∙◌}
+use Rattle.std.proofs.Common.{[], drop, map, ◌∙◌}
 use Rattle.std.proofs.lemmas.List.{drop_all}
 use Rattle.std.specs.BTreeSet.{contains}
 use Rattle.keep_names.specs.Orders.{id_cmp}
-use Rattle.keep_snap.specs.Facts.{facts_view}
-use Rattle.keep_labels.specs.Walk.{names_counted, seen_view}
 use Rattle.keep_labels.proofs.Dropping.{counted_kept, none_kept}
 use Rattle.keep_labels.proofs.Kept.{name_put}
+use Rattle.keep_labels.proofs.Numbered.{row_view}
 use Rattle.keep_labels.proofs.policy.keep_counted.Goals as goal
 
 pub returns-in_default : goal.returns-in_default
 returns-in_default c = λ name.
-    none_kept c.args.counted c.args.most (map facts_view c.args.taken.now) name (contains id_cmp c.args.kept.now name) c.in_default.is
+    none_kept c.args.counted c.args.most (map row_view c.args.rows.now.items.items) name (contains id_cmp c.args.kept.now name) c.in_default.is
 
 pub loop-name-preserved : goal.loop-name-preserved
 loop-name-preserved c = λ name.
@@ -20,7 +19,7 @@ loop-name-preserved c = λ name.
 pub returns : goal.returns
 returns c = λ name.
     let names = c.deref-name-items.result.now in
-    counted_kept c.args.counted c.args.most c.in-Some.most (map facts_view c.args.taken.now) (map seen_view c.in_ok-sorted.sorted.items)
+    counted_kept c.args.counted c.args.most c.in-Some.most (map row_view c.args.rows.now.items.items) (map row_view c.in_ok-sorted.sorted.items.items)
     names (drop c.loop-name.name-index names) name _ _ c.in-Some.is c.in_ok-sorted.ensures.same
-    (c.deref-name-items.ensures.value ∙ c.in_ok-names.ensures ∙ ap (λ xs. names_counted c.args.counted c.in-Some.most.number (map seen_view xs)) c.deref.ensures.value)
+    (c.deref-name-items.ensures.value ∙ c.in_ok-names.ensures)
     (drop_all c.loop-name.name-index names c.loop-name-test.false) (c.loop-name.invariant name)
