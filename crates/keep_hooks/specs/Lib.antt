@@ -1,2 +1,3 @@
+pub mod Kits
 pub mod Picks
 pub mod Taking

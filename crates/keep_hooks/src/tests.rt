@@ -1,4 +1,4 @@
-use crate::{AskFacts, Filter, Kit, Pick, has_path, has_tag};
+use crate::{AskFacts, Filter, Pick, has_path, has_tag};
 use keep_names::id_of;
 use keep_snap::{Month, SnapFacts};
 use std::alloc::{AllocError, Global};
@@ -29,27 +29,17 @@ fn facts_of(alloc: Global, host: &str, tag: &str, path: &str) -> Result<SnapFact
 }
 
 #[test]
-fn the_first_filter_of_a_name_is_asked(rt: HostRuntime) -> Result<(), Fail> {
+fn a_filter_takes_what_is_of_its_host(rt: HostRuntime) -> Result<(), Fail> {
     let alloc = rt.alloc();
-    let ask: AskFacts = Box::new(alloc, |_: &SnapFacts| true)?;
-    let all = Filter::new(String::from_str(alloc, "mine")?, Pick::Any, ask);
-    let of_rule = String::from_str(alloc, "web")?;
-    let of_ask = String::from_str(alloc, "web")?;
+    let host = String::from_str(alloc, "web")?;
     let ask: AskFacts = Box::new(
         alloc,
-        move |facts: &SnapFacts| facts.host.as_str() == of_ask.as_str(),
+        move |facts: &SnapFacts| facts.host.as_str() == host.as_str(),
     )?;
-    let by_host = Filter::new(String::from_str(alloc, "mine")?, Pick::Host(of_rule), ask);
-    let kit = Kit {
-        filters: vec![in alloc; by_host, all]?,
-    };
-    let of_web = facts_of(alloc, "web", "day", "/")?;
-    let of_mail = facts_of(alloc, "mail", "day", "/")?;
-    let found = kit.filter("mine");
-    assert_eq!(rt; found.map(|filter| filter.takes(&of_web)), Some(true));
-    assert_eq!(rt; found.map(|filter| filter.takes(&of_mail)), Some(false));
-    assert!(rt; kit.filters[1].takes(&of_mail));
-    assert!(rt; kit.filter("min").is_none());
+    let rule = Pick::Host(String::from_str(alloc, "web")?);
+    let filter = Filter::new(String::from_str(alloc, "mine")?, rule, ask);
+    assert!(rt; filter.takes(&facts_of(alloc, "web", "day", "/")?));
+    assert!(rt; !filter.takes(&facts_of(alloc, "mail", "web", "web")?));
     Ok(())
 }
 

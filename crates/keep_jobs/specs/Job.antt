@@ -1,13 +1,24 @@
 -- The changes that jobs ask for.
-use Rattle.std.specs.Prelude.{ℕ, [], ◌∷◌, codes, map, string_bytes, Result}
+use Rattle.std.specs.Prelude.{ℕ, List, [], ◌∷◌, codes, map, string_bytes, Option, Some, None, Result, Ok, Err}
 use Rattle.keep_backup.specs.Backup.{FactsData, backup_change}
 use Rattle.keep_backup.specs.Files.{given_view}
 use Rattle.keep_change.specs.declared.change.Change.{Change}
+use Rattle.keep_hooks.specs.Kits.{NamedRule, rule_named}
+use Rattle.keep_hooks.specs.declared.pick.Pick.{Pick}
+use Rattle.keep_jobs.specs.Edits.{edit_data}
+use Rattle.keep_jobs.specs.Policies.{policy_data}
+use Rattle.keep_jobs.specs.declared.error.JobError.{JobError}
+use Rattle.keep_jobs.specs.declared.error.JobError.TheVariants.{NoFilter, Refused}
 use Rattle.keep_jobs.specs.declared.job.Backup as the_backup
+use Rattle.keep_jobs.specs.declared.job.Forget as the_forget
 use Rattle.keep_jobs.specs.declared.job.Job.{Job}
-use Rattle.keep_jobs.specs.declared.job.Job.TheVariants.{Backup}
+use Rattle.keep_jobs.specs.declared.job.Job.TheVariants.{Backup, Forget, Tag}
 use Rattle.keep_jobs.specs.declared.job.Settings.{Settings}
+use Rattle.keep_jobs.specs.declared.job.Tag as the_tag
+use Rattle.keep_labels.specs.Forgetting.{forget_change}
+use Rattle.keep_labels.specs.Tagging.{tag_change}
 use Rattle.keep_plan.specs.declared.plan_error.PlanError.{PlanError}
+use Rattle.keep_plan.specs.declared.plan_error.PlanError.TheVariants.{Memory}
 use Rattle.keep_view.specs.Shown.{Shown}
 
 -- who backs up, and when: the job's host and time, the user `keep`, and one path, the root
@@ -19,14 +30,45 @@ facts_of backup = record {
   time = string_bytes backup.time;
 }
 
--- what all jobs go by: after how many bytes backups cut files
+-- what all jobs go by: after how many bytes backups cut files, and the stored filters
 pub record SettingsData : Type 0 where
   pub cut : ℕ
+  pub filters : List NamedRule
 
-abbrev pub settings_view : Settings → SettingsData
-settings_view settings = record { cut = settings.cut.bytes }
+abbrev pub settings_view : Settings → List NamedRule → SettingsData
+settings_view settings stored = record { cut = settings.cut.bytes; filters = stored }
+
+-- the refusal where memory runs out
+abbrev pub no_memory : JobError
+no_memory = Refused Memory
+
+-- a planner's change, or its refusal
+abbrev pub or_refused : Result Change PlanError → Result Change JobError
+or_refused (Ok change) = Ok change
+or_refused (Err refusal) = Err (Refused refusal)
+
+-- what is planned by the rule, if there is one
+abbrev pub by_rule : Option Pick → (Pick → Result Change PlanError) → Result Change JobError
+by_rule None planned = Err NoFilter
+by_rule (Some rule) planned = or_refused (planned rule)
+
+-- the change that a backup asks for, where files are cut after so many bytes
+abbrev pub back_up : Shown → ℕ → the_backup.Backup → Result Change PlanError
+back_up shown cut backup = backup_change shown.repo (facts_of backup) cut (map given_view backup.files.items)
+
+-- those that other tags and a forget ask for, by the filter of their name
+abbrev pub tagging : Shown → List NamedRule → the_tag.Tag → Result Change JobError
+tagging shown filters tag =
+    by_rule (rule_named (string_bytes tag.filter) filters)
+    (λ rule. tag_change shown.repo rule (edit_data tag.words.items))
+
+abbrev pub forgetting : Shown → List NamedRule → the_forget.Forget → Result Change JobError
+forgetting shown filters forget =
+    by_rule (rule_named (string_bytes forget.filter) filters)
+    (λ rule. forget_change shown.repo rule (policy_data forget.rules.items))
 
 -- the change that a job asks for on what is shown, or why there is none
-abbrev pub job_change : Shown → SettingsData → Job → Result Change PlanError
-job_change shown settings (Backup backup) =
-    backup_change shown.repo (facts_of backup) settings.cut (map given_view backup.files.items)
+abbrev pub job_change : Shown → SettingsData → Job → Result Change JobError
+job_change shown settings (Backup backup) = or_refused (back_up shown settings.cut backup)
+job_change shown settings (Tag tag) = tagging shown settings.filters tag
+job_change shown settings (Forget forget) = forgetting shown settings.filters forget

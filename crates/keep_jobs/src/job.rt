@@ -12,6 +12,8 @@ pub struct Settings {
 #[derive(Debug, Drop)]
 pub enum Job {
     Backup(Backup),
+    Tag(Tag),
+    Forget(Forget),
 }
 
 /// Files to back up as a new snapshot.
@@ -22,6 +24,22 @@ pub struct Backup {
     pub time: String,
     /// Each by the text of its absolute path, with its bytes.
     pub files: Vec<(String, Vec<u8>)>,
+}
+
+/// Other tags for the snapshots that a filter takes.
+#[derive(Debug, Drop)]
+pub struct Tag {
+    /// The filter's name.
+    pub filter: String,
+    pub words: Vec<TagWord>,
+}
+
+/// Snapshots to drop, of those that a filter takes: the ones that no rule keeps.
+#[derive(Debug, Drop)]
+pub struct Forget {
+    /// The filter's name.
+    pub filter: String,
+    pub rules: Vec<Rule>,
 }
 
 /// A part of an edit of tags.

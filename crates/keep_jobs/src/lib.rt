@@ -2,6 +2,7 @@
 #![tactic(auto)]
 
 mod edits;
+mod error;
 mod job;
 mod planning;
 mod policies;
@@ -9,6 +10,7 @@ mod policies;
 mod tests;
 
 pub use edits::edit_of;
-pub use job::{Backup, Job, Rule, Settings, Span, TagWord};
+pub use error::JobError;
+pub use job::{Backup, Forget, Job, Rule, Settings, Span, Tag, TagWord};
 pub use planning::plan;
 pub use policies::policy_of;

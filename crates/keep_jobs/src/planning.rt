@@ -3,32 +3,58 @@ ghost use Rattle.keep_backup.specs.Backup.{facts_view};
 ghost use Rattle.keep_change.specs.Change.{is_met};
 ghost use Rattle.keep_change.specs.Form.{IsWellFormed};
 ghost use Rattle.keep_docs.specs.Doc.{Answers};
+ghost use Rattle.keep_hooks.specs.Kits.{filters_of};
 ghost use Rattle.keep_jobs.specs.Job as spec;
-ghost use Rattle.keep_jobs.specs.Job.{job_change, settings_view};
-ghost use Rattle.keep_plan.specs.declared.plan_error.PlanError.TheVariants.{Memory};
+ghost use Rattle.keep_jobs.specs.Job.{forgetting, job_change, no_memory, or_refused, settings_view, tagging};
 ghost use Rattle.keep_repo.specs.Repository.{held};
 
-use crate::job::{Backup, Job, Settings};
+use crate::edits::edit_of;
+use crate::error::JobError;
+use crate::job::{Backup, Forget, Job, Settings, Tag};
+use crate::policies::policy_of;
 use keep_backup::{BackupFacts, plan_backup};
 use keep_change::Planned;
-use keep_plan::PlanError;
+use keep_hooks::Kit;
+use keep_labels::{plan_forget, plan_tag};
 use keep_view::View;
 use std::alloc::{AllocError, Global};
 
-/// The change that the job asks for, planned on what the view shows, or its planner's refusal.
-pub fn plan(alloc: Global, view: &View, settings: Settings, job: &Job) -> Result<Planned, PlanError>
-    ensures change { Answers Memory (λ planned. planned.change)
-        (job_change view.now (settings_view settings) job.now) result }
+/// The change that the job asks for, planned on what the view shows, or its planner's refusal. Where the kit has no
+/// filter of the job's name nothing is planned.
+pub fn plan(
+    alloc: Global,
+    view: &View,
+    settings: Settings,
+    kit: &Kit,
+    job: &Job,
+) -> Result<Planned, JobError>
+    ensures change { Answers no_memory (λ planned. planned.change)
+        (job_change view.now (settings_view settings (filters_of kit.now)) job.now) result }
     ensures seen { IfOk result (λ planned. planned.seen ≡ view.now.length) }
     ensures well_formed { IfOk result (λ planned. IsWellFormed planned.change) }
     ensures met { IfOk result (λ planned. is_met (held view.now.repo) planned.change ≡ true) }
 {
     match job {
-        Job::Backup(backup) => {
-            let facts = facts_of(alloc, backup)?;
-            plan_backup(alloc, view, backup.files.as_slice(), &facts, settings.cut)
-        }
+        Job::Backup(backup) => back_up(alloc, view, settings, backup),
+        Job::Tag(tag) => change_tags(alloc, view, kit, tag),
+        Job::Forget(forget) => forget_some(alloc, view, kit, forget),
     }
+}
+
+fn back_up(
+    alloc: Global,
+    view: &View,
+    settings: Settings,
+    backup: &Backup,
+) -> Result<Planned, JobError>
+    ensures change { Answers no_memory (λ planned. planned.change)
+        (or_refused (spec.back_up view.now settings.cut.bytes backup.now)) result }
+    ensures seen { IfOk result (λ planned. planned.seen ≡ view.now.length) }
+    ensures well_formed { IfOk result (λ planned. IsWellFormed planned.change) }
+    ensures met { IfOk result (λ planned. is_met (held view.now.repo) planned.change ≡ true) }
+{
+    let facts = facts_of(alloc, backup)?;
+    Ok(plan_backup(alloc, view, backup.files.as_slice(), &facts, settings.cut)?)
 }
 
 /// Who backs up, and when.
@@ -43,4 +69,36 @@ fn facts_of(alloc: Global, backup: &Backup) -> Result<BackupFacts, AllocError>
         paths,
         time: backup.time.clone()?,
     })
+}
+
+fn change_tags(alloc: Global, view: &View, kit: &Kit, tag: &Tag) -> Result<Planned, JobError>
+    ensures change { Answers no_memory (λ planned. planned.change)
+        (tagging view.now (filters_of kit.now) tag.now) result }
+    ensures seen { IfOk result (λ planned. planned.seen ≡ view.now.length) }
+    ensures well_formed { IfOk result (λ planned. IsWellFormed planned.change) }
+    ensures met { IfOk result (λ planned. is_met (held view.now.repo) planned.change ≡ true) }
+{
+    for filter in &kit.filters {
+        if filter.name.as_str() == tag.filter.as_str() {
+            let edit = edit_of(alloc, &tag.words)?;
+            return Ok(plan_tag(alloc, view, filter, &edit)?);
+        }
+    }
+    Err(JobError::NoFilter)
+}
+
+fn forget_some(alloc: Global, view: &View, kit: &Kit, forget: &Forget) -> Result<Planned, JobError>
+    ensures change { Answers no_memory (λ planned. planned.change)
+        (forgetting view.now (filters_of kit.now) forget.now) result }
+    ensures seen { IfOk result (λ planned. planned.seen ≡ view.now.length) }
+    ensures well_formed { IfOk result (λ planned. IsWellFormed planned.change) }
+    ensures met { IfOk result (λ planned. is_met (held view.now.repo) planned.change ≡ true) }
+{
+    for filter in &kit.filters {
+        if filter.name.as_str() == forget.filter.as_str() {
+            let policy = policy_of(alloc, &forget.rules)?;
+            return Ok(plan_forget(alloc, view, filter, &policy)?);
+        }
+    }
+    Err(JobError::NoFilter)
 }

@@ -1,49 +1,68 @@
-use crate::{Backup, Job, Rule, Settings, TagWord, edit_of, plan, policy_of};
+use crate::{Backup, Forget, Job, JobError, Rule, Settings, TagWord, edit_of, plan, policy_of};
 use keep_backup::Cut;
 use keep_catalog::LiveRepo;
+use keep_hooks::{AskFacts, Filter, Kit, Pick};
 use keep_journal::History;
 use keep_labels::Count;
 use keep_plan::PlanError;
 use keep_repo::Repo;
+use keep_snap::SnapFacts;
 use keep_view::View;
+use std::alloc::{AllocError, Global};
 use std::test::Fail;
 
 const SETTINGS_CUT: u32 = 4;
 
-// Plans the backup of one file of this path and time on an empty repository, and says how many files it adds.
-fn adds_of(rt: &HostRuntime, path: &str, time: &str) -> Result<Result<usize, PlanError>, Fail> {
-    let alloc = rt.alloc();
-    let mut files = Vec::new(alloc);
-    let bytes = Vec::from_slice(alloc, b"hello")?;
-    files.push((String::from_str(alloc, path)?, bytes))?;
-    let job = Job::Backup(Backup {
-        host: String::from_str(alloc, "web")?,
-        time: String::from_str(alloc, time)?,
-        files,
-    });
+// Plans the job on an empty repository, and says how many files it adds.
+fn adds_of(alloc: Global, kit: &Kit, job: &Job) -> Result<usize, JobError> {
     let live = LiveRepo::new(alloc, Repo::new(alloc));
     let history = History::new(alloc, 0);
     let view = View::without_events(&live, &history);
     let settings = Settings {
         cut: Cut::after(SETTINGS_CUT),
     };
-    match plan(alloc, &view, settings, &job) {
-        Ok(planned) => Ok(Ok(planned.change.adds.as_slice().len())),
-        Err(refusal) => Ok(Err(refusal)),
-    }
+    let planned = plan(alloc, &view, settings, kit, job)?;
+    Ok(planned.change.adds.as_slice().len())
+}
+
+// A backup of one file at this time.
+fn backup_at(alloc: Global, time: &str) -> Result<Job, AllocError> {
+    let mut files = Vec::new(alloc);
+    let bytes = Vec::from_slice(alloc, b"hello")?;
+    files.push((String::from_str(alloc, "/a")?, bytes))?;
+    Ok(Job::Backup(Backup {
+        host: String::from_str(alloc, "web")?,
+        time: String::from_str(alloc, time)?,
+        files,
+    }))
+}
+
+// A forget by the filter of this name, without a rule.
+fn forget_by(alloc: Global, name: &str) -> Result<Job, AllocError> {
+    Ok(Job::Forget(Forget {
+        filter: String::from_str(alloc, name)?,
+        rules: Vec::new(alloc),
+    }))
 }
 
 #[test]
-fn a_backup_is_planned(rt: HostRuntime) -> Result<(), Fail> {
-    let adds = adds_of(&rt, "/a", "2024-01-01T00:00:00Z")?;
-    assert_eq!(rt; adds, Ok(4));
-    Ok(())
-}
-
-#[test]
-fn a_planner_refuses(rt: HostRuntime) -> Result<(), Fail> {
-    let adds = adds_of(&rt, "/a", "2024-13-01T00:00:00Z")?;
-    assert_eq!(rt; adds, Err(PlanError::BadTime));
+fn jobs_are_planned_or_refused(rt: HostRuntime) -> Result<(), Fail> {
+    let alloc = rt.alloc();
+    let ask: AskFacts = Box::new(alloc, |_: &SnapFacts| true)?;
+    let all = Filter::new(String::from_str(alloc, "all")?, Pick::Any, ask);
+    let kit = Kit {
+        filters: vec![in alloc; all]?,
+    };
+    let good = backup_at(alloc, "2024-01-01T00:00:00Z")?;
+    assert_eq!(rt; adds_of(alloc, &kit, &good), Ok(4));
+    let bad = backup_at(alloc, "2024-13-01T00:00:00Z")?;
+    let refused = adds_of(alloc, &kit, &bad);
+    assert_eq!(rt; refused, Err(JobError::Refused(PlanError::BadTime)));
+    let forget = forget_by(alloc, "all")?;
+    let refused = adds_of(alloc, &kit, &forget);
+    assert_eq!(rt; refused, Err(JobError::Refused(PlanError::NothingToDo)));
+    let forget = forget_by(alloc, "al")?;
+    assert_eq!(rt; adds_of(alloc, &kit, &forget), Err(JobError::NoFilter));
     Ok(())
 }
 

@@ -1,4 +1,7 @@
 pub mod BackupWords
 pub mod HexWord
 pub mod Mistakes
+pub mod RuleWords
+pub mod TagWords
 pub mod WordLemmas
+pub mod WordLists

@@ -8,7 +8,7 @@ use Rattle.std.specs.Str.Iter.{LacksByte}
 use Rattle.keep_names.specs.FileName.{kind_text}
 use Rattle.keep_names.specs.declared.file_name.Kind.{Kind}
 use Rattle.keep_lines.specs.Command.{IsCommand, IsNoCommand, command_text}
-use Rattle.keep_lines.specs.Mistake.{AsksBackup, AsksHex, AsksKind, AsksMore, AsksName, AsksNumber, AsksTarget, BeginsAsNone, EndsInNo, HasNoKind}
+use Rattle.keep_lines.specs.Mistake.{AsksHex, AsksKind, AsksMore, AsksName, AsksNumber, AsksTarget, AsksWords, BeginsAsNone, EndsInNo, HasNoKind}
 use Rattle.keep_lines.specs.Prints.{Parses}
 use Rattle.keep_lines.specs.Word.{AreBytes, IsKind, IsTarget, hex_word, target_text}
 use Rattle.keep_lines.specs.declared.command.Command.{Command}
@@ -55,12 +55,12 @@ no_space text None h e front rest split =
 
 -- ---- the words that lines begin with
 
--- a word behind which a line ends with one word, or with those of a backup
+-- a word behind which a line ends with one word, or with any number
 abbrev AsksOne : List ℕ → Type 0
-AsksOne verb = AsksNumber verb ⊎ (AsksName verb ⊎ (AsksBackup verb ⊎ (verb ≡ codes "restore")))
+AsksOne verb = AsksNumber verb ⊎ (AsksName verb ⊎ (AsksWords verb ⊎ (verb ≡ codes "restore")))
 
 abbrev pub IsVerb : List ℕ → Type 0
-IsVerb verb = AsksNumber verb ⊎ (AsksName verb ⊎ (AsksBackup verb ⊎ ((verb ≡ codes "restore") ⊎ AsksKind verb)))
+IsVerb verb = AsksNumber verb ⊎ (AsksName verb ⊎ (AsksWords verb ⊎ ((verb ≡ codes "restore") ⊎ AsksKind verb)))
 
 number_first : (front rest : List ℕ) → AsksNumber front → AsksNumber (first_word (front ++ 32 ∷ rest))
 unfolding first_word
@@ -78,9 +78,11 @@ unfolding first_word
 kind_first front rest (inl e) = inl (ap (λ f. first_word (f ++ 32 ∷ rest)) e)
 kind_first front rest (inr e) = inr (ap (λ f. first_word (f ++ 32 ∷ rest)) e)
 
-backup_first : (front rest : List ℕ) → front ≡ codes "backup" → first_word (front ++ 32 ∷ rest) ≡ codes "backup"
+words_first : (front rest : List ℕ) → AsksWords front → AsksWords (first_word (front ++ 32 ∷ rest))
 unfolding first_word
-backup_first front rest e = ap (λ f. first_word (f ++ 32 ∷ rest)) e
+words_first front rest (inl e) = inl (ap (λ f. first_word (f ++ 32 ∷ rest)) e)
+words_first front rest (inr (inl e)) = inr (inl (ap (λ f. first_word (f ++ 32 ∷ rest)) e))
+words_first front rest (inr (inr e)) = inr (inr (ap (λ f. first_word (f ++ 32 ∷ rest)) e))
 
 restore_first : (front rest : List ℕ) → front ≡ codes "restore" → first_word (front ++ 32 ∷ rest) ≡ codes "restore"
 unfolding first_word
@@ -94,7 +96,7 @@ regrouped verb word rest front e = ap (λ f. f ++ 32 ∷ rest) e ∙ append_asso
 verb_first : (front rest : List ℕ) → AsksMore front → IsVerb (first_word (front ++ 32 ∷ rest))
 verb_first front rest (inl asks) = inl (number_first front rest asks)
 verb_first front rest (inr (inl asks)) = inr (inl (name_first front rest asks))
-verb_first front rest (inr (inr (inl e))) = inr (inr (inl (backup_first front rest e)))
+verb_first front rest (inr (inr (inl e))) = inr (inr (inl (words_first front rest e)))
 verb_first front rest (inr (inr (inr (inl e)))) = inr (inr (inr (inl (restore_first front rest e))))
 verb_first front rest (inr (inr (inr (inr (verb, word, asks, e))))) =
     inr (inr (inr (inr (subst (λ l. AsksKind (first_word l)) (sym (regrouped verb word rest front e)) (kind_first verb (word ++ 32 ∷ rest) asks)))))
@@ -117,7 +119,9 @@ AsksOne-letter verb (inl (inr (inl e))) = rw e (λ h. omega (arith, h), λ h. om
 AsksOne-letter verb (inl (inr (inr e))) = rw e (λ h. omega (arith, h), λ h. omega (arith, h))
 AsksOne-letter verb (inr (inl (inl e))) = rw e (λ h. omega (arith, h), λ h. omega (arith, h))
 AsksOne-letter verb (inr (inl (inr e))) = rw e (λ h. omega (arith, h), λ h. omega (arith, h))
-AsksOne-letter verb (inr (inr (inl e))) = rw e (λ h. omega (arith, h), λ h. omega (arith, h))
+AsksOne-letter verb (inr (inr (inl (inl e)))) = rw e (λ h. omega (arith, h), λ h. omega (arith, h))
+AsksOne-letter verb (inr (inr (inl (inr (inl e))))) = rw e (λ h. omega (arith, h), λ h. omega (arith, h))
+AsksOne-letter verb (inr (inr (inl (inr (inr e))))) = rw e (λ h. omega (arith, h), λ h. omega (arith, h))
 AsksOne-letter verb (inr (inr (inr e))) = rw e (λ h. omega (arith, h), λ h. omega (arith, h))
 
 two_words : (verb : List ℕ) → AsksKind verb → AsksOne verb → ⊥
@@ -136,7 +140,7 @@ none_of_two verb rest r asks h e = λ front more asks_more split.
     elim asks_more [
       | inl number ↦ no (inl (number_first front more number))
       | inr (inl name) ↦ no (inr (inl (name_first front more name)))
-      | inr (inr (inl backup)) ↦ no (inr (inr (inl (backup_first front more backup))))
+      | inr (inr (inl words)) ↦ no (inr (inr (inl (words_first front more words))))
       | inr (inr (inr (inl restore))) ↦ no (inr (inr (inr (restore_first front more restore))))
       | inr (inr (inr (inr (other, word, other_asks, same_front)))) ↦
           let whole : verb ++ 32 ∷ rest ≡ other ++ 32 ∷ (word ++ 32 ∷ more) = split ∙ regrouped other word more front same_front in

@@ -1,33 +1,23 @@
 -- What a line says that backs files up.
-use Rattle.std.specs.Prelude.{ℕ, ◌<◌, List, ◌∷◌, ◌++◌, String, codes, length, map, string_bytes}
+use Rattle.std.specs.Prelude.{ℕ, List, ◌∷◌, ◌++◌, String, codes, string_bytes}
 use Rattle.std.specs.Global.{Global, Vec}
-use Rattle.std.specs.List.{AllByRecursion, join_with_byte}
+use Rattle.std.specs.List.{join_with_byte}
 use Rattle.std.specs.Str.Iter.{LacksByte}
 use Rattle.keep_jobs.specs.declared.job.Backup.{Backup}
 use Rattle.keep_lines.specs.Word.{AreBytes, hex_word}
-
--- a text with something in it, and no space
-abbrev pub IsWord : List ℕ → Type 0
-IsWord text = (0 < length text) × LacksByte 32 text
+use Rattle.keep_lines.specs.WordList.{AreAll, IsWord, words_for}
 
 -- the word for a file: its path, `=`, and its bytes in hex
 abbrev pub file_word : String Global × Vec ℕ → List ℕ
 file_word file = string_bytes file.0 ++ (codes "=" ++ hex_word file.1)
 
--- a file whose path has no space
+-- a file whose word has no space
 abbrev pub IsFile : String Global × Vec ℕ → Type 0
-IsFile file = LacksByte 32 (string_bytes file.0) × AreBytes file.1
-
--- files, and their words
-abbrev pub AreFiles : Vec (String Global × Vec ℕ) → Type 0
-AreFiles files = AllByRecursion IsFile files.items
-
-abbrev pub file_words : Vec (String Global × Vec ℕ) → List (List ℕ)
-file_words files = map file_word files.items
+IsFile file = LacksByte 32 (file_word file) × AreBytes file.1
 
 -- the words of a backup: the host, the time, and the files
 abbrev pub backup_words : Backup → List (List ℕ)
-backup_words backup = string_bytes backup.host ∷ string_bytes backup.time ∷ file_words backup.files
+backup_words backup = string_bytes backup.host ∷ string_bytes backup.time ∷ words_for file_word backup.files
 
 -- these, with single spaces between
 abbrev pub backup_text : Backup → List ℕ
@@ -35,8 +25,4 @@ backup_text backup = join_with_byte 32 (backup_words backup)
 
 -- a backup whose words are words
 abbrev pub IsBackup : Backup → Type 0
-IsBackup backup = IsWord (string_bytes backup.host) × IsWord (string_bytes backup.time) × AreFiles backup.files
-
--- texts without spaces
-abbrev pub AreSpaceless : List (List ℕ) → Type 0
-AreSpaceless = AllByRecursion (LacksByte 32)
+IsBackup backup = IsWord (string_bytes backup.host) × IsWord (string_bytes backup.time) × AreAll IsFile backup.files

@@ -1,5 +1,6 @@
 pub mod BackupLine
 pub mod Command
+pub mod ForgetLine
 pub mod JobLine
 pub mod Line
 pub mod Mistake
@@ -8,5 +9,7 @@ pub mod Question
 pub mod RawFile
 pub mod Reply
 pub mod Revision
+pub mod TagLine
 pub mod Telling
 pub mod Word
+pub mod WordList

@@ -6,11 +6,13 @@ use Rattle.keep_names.specs.FileName.{kind_text}
 use Rattle.keep_names.specs.declared.file_name.Kind.{Kind}
 use Rattle.keep_lines.specs.BackupLine.{IsBackup, backup_text}
 use Rattle.keep_lines.specs.Command.{IsNoCommand}
+use Rattle.keep_lines.specs.ForgetLine.{IsForget, forget_text}
 use Rattle.keep_lines.specs.Line.{IsPassedOver, IsText, longest_line}
 use Rattle.keep_lines.specs.Prints.{NonePrints}
+use Rattle.keep_lines.specs.TagLine.{IsTag, tag_text}
 use Rattle.keep_lines.specs.Word.{AreBytes, IsKind, IsName, IsNumber, IsTarget, hex_word, target_text}
 use Rattle.keep_lines.specs.declared.mistake.Mistake.{Mistake}
-use Rattle.keep_lines.specs.declared.mistake.Mistake.TheVariants.{TooLong, NotText, NoCommand, NotKind, NotHex, NotNumber, NotName, NotTarget, NotBackup, NoFile, NoNote}
+use Rattle.keep_lines.specs.declared.mistake.Mistake.TheVariants.{TooLong, NotText, NoCommand, NotKind, NotHex, NotNumber, NotName, NotTarget, NotBackup, NotTag, NotForget, NoFilter, NoFile, NoNote}
 
 -- what an operator is told
 abbrev pub mistake_text : Mistake → List ℕ
@@ -23,6 +25,9 @@ mistake_text NotNumber = codes "N isn't a number"
 mistake_text NotName = codes "NAME isn't a name"
 mistake_text NotTarget = codes "neither 64 digits nor @N"
 mistake_text NotBackup = codes "not HOST TIME PATH=HEX .."
+mistake_text NotTag = codes "not FILTER, and words +T, -T or =T"
+mistake_text NotForget = codes "not FILTER, and rules last=N .. yearly=N once each, or tag=T"
+mistake_text NoFilter = codes "no such FILTER"
 mistake_text NoFile = codes "@N names nothing"
 mistake_text NoNote = codes "no note of this NAME"
 
@@ -50,10 +55,22 @@ AsksTarget front = (front ≡ codes "restore") ⊎ ((kind : Kind) × (front ≡ 
 abbrev pub AsksBackup : List ℕ → Type 0
 AsksBackup verb = verb ≡ codes "backup"
 
+-- behind this, a filter and signed words
+abbrev pub AsksTag : List ℕ → Type 0
+AsksTag verb = verb ≡ codes "tag"
+
+-- behind this, a filter and rules
+abbrev pub AsksForget : List ℕ → Type 0
+AsksForget verb = verb ≡ codes "forget"
+
+-- behind these, any number of words
+abbrev pub AsksWords : List ℕ → Type 0
+AsksWords verb = AsksBackup verb ⊎ (AsksTag verb ⊎ AsksForget verb)
+
 -- behind such a front, and a space, the last words of a line stand: it is one word, or two where a kind is asked for
 abbrev pub AsksMore : List ℕ → Type 0
 AsksMore front =
-    AsksNumber front ⊎ (AsksName front ⊎ (AsksBackup front ⊎ ((front ≡ codes "restore")
+    AsksNumber front ⊎ (AsksName front ⊎ (AsksWords front ⊎ ((front ≡ codes "restore")
     ⊎ ((verb word : List ℕ) × AsksKind verb × (front ≡ verb ++ (codes " " ++ word))))))
 
 -- the text has no such front
@@ -82,6 +99,9 @@ Explains text NotNumber = EndsInNo AsksNumber IsNumber decimal text
 Explains text NotName = EndsInNo AsksName IsName (λ name. name) text
 Explains text NotTarget = EndsInNo AsksTarget IsTarget target_text text
 Explains text NotBackup = EndsInNo AsksBackup IsBackup backup_text text
+Explains text NotTag = EndsInNo AsksTag IsTag tag_text text
+Explains text NotForget = EndsInNo AsksForget IsForget forget_text text
+Explains text NoFilter = ⊥
 Explains text NoFile = ⊥
 Explains text NoNote = ⊥
 

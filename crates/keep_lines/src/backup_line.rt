@@ -1,9 +1,9 @@
-ghost use Rattle.std.specs.Prelude.{IfOk, map};
-ghost use Rattle.std.specs.Str.Iter.{LacksByte};
-ghost use Rattle.keep_lines.specs.BackupLine.{AreFiles, AreSpaceless, IsBackup, IsFile, backup_text, file_word, file_words};
+ghost use Rattle.std.specs.Prelude.{IfOk};
+ghost use Rattle.keep_lines.specs.BackupLine.{IsBackup, backup_text};
 ghost use Rattle.keep_lines.specs.Prints.{Parses};
 
 use crate::word::parse_hex;
+use crate::word_list::{Word, parse_words};
 use keep_jobs::Backup;
 use std::alloc::{AllocError, Global};
 
@@ -19,7 +19,7 @@ pub(crate) fn parse_backup(alloc: Global, text: &str) -> Result<Option<Backup>, 
     if host.is_empty() || time.is_empty() {
         return Ok(None);
     }
-    let Some(files) = parse_files(alloc, files)? else {
+    let Some(files) = parse_words(alloc, files)? else {
         return Ok(None);
     };
     let host = String::from_str(alloc, host)?;
@@ -27,32 +27,24 @@ pub(crate) fn parse_backup(alloc: Global, text: &str) -> Result<Option<Backup>, 
     Ok(Some(Backup { host, time, files }))
 }
 
-/// The files of these words, which have no spaces.
-fn parse_files(alloc: Global, words: &[&str]) -> Result<Option<Vec<(String, Vec<u8>)>>, AllocError>
-    requires { AreSpaceless (map (λ word. word.now) words.now) }
-    ensures { IfOk result (Parses AreFiles file_words (map (λ word. word.now) words.now)) }
-{
-    let mut files = Vec::with_capacity(alloc, words.len())?;
-    for word in words {
-        let Some(file) = parse_file(alloc, word)? else {
+/// A path and the bytes of its file. A path may have `=` in it, so the last one ends it.
+impl Word for (String, Vec<u8>) {
+    ghost use Rattle.keep_lines.specs.BackupLine.{IsFile, file_word};
+
+    ghost IsSaid = { IsFile };
+
+    ghost text = { file_word };
+
+    ghost spaceless = { λ file said. said.0 };
+
+    fn parse(alloc: Global, word: &str) -> Result<Option<(String, Vec<u8>)>, AllocError> {
+        let Some((path, hex)) = word.rsplit_once('=') else {
             return Ok(None);
         };
-        files.push(file)?;
+        let Some(bytes) = parse_hex(alloc, hex)? else {
+            return Ok(None);
+        };
+        let path = String::from_str(alloc, path)?;
+        Ok(Some((path, bytes)))
     }
-    Ok(Some(files))
-}
-
-/// A path and the bytes of its file. A path may have `=` in it, so the last one ends it.
-fn parse_file(alloc: Global, word: &str) -> Result<Option<(String, Vec<u8>)>, AllocError>
-    requires { LacksByte 32 word.now }
-    ensures { IfOk result (Parses IsFile file_word word.now) }
-{
-    let Some((path, hex)) = word.rsplit_once('=') else {
-        return Ok(None);
-    };
-    let Some(bytes) = parse_hex(alloc, hex)? else {
-        return Ok(None);
-    };
-    let path = String::from_str(alloc, path)?;
-    Ok(Some((path, bytes)))
 }

@@ -3,6 +3,8 @@ ghost use Rattle.keep_lines.specs.JobLine.{IsJob, job_text};
 ghost use Rattle.keep_lines.specs.Prints.{Parses};
 
 use crate::backup_line::parse_backup;
+use crate::forget_line::parse_forget;
+use crate::tag_line::parse_tag;
 use keep_jobs::Job;
 use std::alloc::{AllocError, Global};
 
@@ -14,10 +16,9 @@ pub(crate) fn parse_job(alloc: Global, text: &str) -> Result<Option<Job>, AllocE
         return Ok(None);
     };
     match verb {
-        "backup" => match parse_backup(alloc, rest)? {
-            Some(backup) => Ok(Some(Job::Backup(backup))),
-            None => Ok(None),
-        },
+        "backup" => Ok(parse_backup(alloc, rest)?.map(Job::Backup)),
+        "tag" => Ok(parse_tag(alloc, rest)?.map(Job::Tag)),
+        "forget" => Ok(parse_forget(alloc, rest)?.map(Job::Forget)),
         _ => Ok(None),
     }
 }

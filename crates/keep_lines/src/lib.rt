@@ -3,6 +3,7 @@
 
 mod backup_line;
 mod command;
+mod forget_line;
 mod job_line;
 mod line;
 mod mistake;
@@ -10,10 +11,12 @@ mod question;
 mod raw_file;
 mod reply;
 mod revision;
+mod tag_line;
 mod telling;
 #[cfg(test)]
 mod tests;
 mod word;
+mod word_list;
 
 pub use command::{Command, LineError, parse};
 pub use mistake::Mistake;

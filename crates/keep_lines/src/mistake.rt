@@ -26,6 +26,12 @@ pub enum Mistake {
     NotTarget,
     /// What follows `backup` isn't a host, a time and files.
     NotBackup,
+    /// What follows `tag` isn't a filter's name and signed words.
+    NotTag,
+    /// What follows `forget` isn't a filter's name and rules, each count once.
+    NotForget,
+    /// No filter has the name.
+    NoFilter,
     /// `@N` names nothing: change N added no such file.
     NoFile,
     /// No note was taken under the name.
@@ -49,6 +55,9 @@ impl fmt::Display for Mistake {
             Mistake::NotName => "NAME isn't a name",
             Mistake::NotTarget => "neither 64 digits nor @N",
             Mistake::NotBackup => "not HOST TIME PATH=HEX ..",
+            Mistake::NotTag => "not FILTER, and words +T, -T or =T",
+            Mistake::NotForget => { "not FILTER, and rules last=N .. yearly=N once each, or tag=T" }
+            Mistake::NoFilter => "no such FILTER",
             Mistake::NoFile => "@N names nothing",
             Mistake::NoNote => "no note of this NAME",
         };
@@ -69,6 +78,8 @@ pub(crate) fn mistake_of(text: &str) -> Mistake
         "note" | "same" => Mistake::NotName,
         "restore" => Mistake::NotTarget,
         "backup" => Mistake::NotBackup,
+        "tag" => Mistake::NotTag,
+        "forget" => Mistake::NotForget,
         "add" | "drop" => mistake_of_file(verb, rest),
         _ => Mistake::NoCommand,
     }

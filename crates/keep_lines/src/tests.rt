@@ -5,7 +5,7 @@ use crate::{
 };
 use keep_book::{Refusal, Told};
 use keep_change::{Change, What};
-use keep_jobs::Job;
+use keep_jobs::{Job, Rule, TagWord};
 use keep_names::{FileName, Id};
 use keep_read::Finding;
 use std::alloc::{AllocError, Global};
@@ -104,6 +104,17 @@ fn asked(alloc: Global, line: &str) -> Result<&'static str, LineError> {
             1 => Ok("backup of a file"),
             _ => Ok("backup"),
         },
+        Some(Command::Job(Job::Tag(tag))) => match tag.words.as_slice() {
+            [TagWord::Add(_), TagWord::Remove(_), TagWord::Set(_)] => Ok("one word of each sort"),
+            [TagWord::Set(tag)] if tag.is_empty() => Ok("setting of no tag"),
+            _ => Ok("tag"),
+        },
+        Some(Command::Job(Job::Forget(forget))) => match forget.rules.as_slice() {
+            [Rule::Last(count), Rule::Tag(tag)] if count.get() == 1_048_576 && tag.is_empty() => {
+                Ok("forget by the greatest count and the empty tag")
+            }
+            _ => Ok("forget"),
+        },
         Some(Command::RawFile(RawFile::Add { bytes, .. })) => match bytes.is_empty() {
             true => Ok("add of nothing"),
             false => Ok("add"),
@@ -130,6 +141,19 @@ fn lines_are_read(rt: HostRuntime) {
             "backup of a file",
         ),
         ("backup web 2024-01-01T00:00:00Z", "backup"),
+        ("tag all +a -b =c", "one word of each sort"),
+        ("tag all =", "setting of no tag"),
+        ("tag é + - ++", "tag"),
+        ("tag all", "tag"),
+        (
+            "forget all last=1048576 tag=",
+            "forget by the greatest count and the empty tag",
+        ),
+        (
+            "forget web yearly=1 monthly=2 weekly=3 daily=4 last=5 tag=a=b tag=a=b",
+            "forget",
+        ),
+        ("forget all", "forget"),
         ("add pack -", "add of nothing"),
         ("add index 61", "add"),
         ("drop snapshot @3", "drop of what change 3 added"),
@@ -171,6 +195,18 @@ fn bad_lines_are_explained(rt: HostRuntime) {
         ("backup  t /a=61", Mistake::NotBackup),
         ("backup web t /a", Mistake::NotBackup),
         ("backup web t /a=6", Mistake::NotBackup),
+        ("tag", Mistake::NoCommand),
+        ("tag ", Mistake::NotTag),
+        ("tag all x", Mistake::NotTag),
+        ("tag all +x ", Mistake::NotTag),
+        ("forget all x", Mistake::NotForget),
+        ("forget all hourly=1", Mistake::NotForget),
+        ("forget all last=0", Mistake::NotForget),
+        ("forget all last=01", Mistake::NotForget),
+        ("forget all last=1048577", Mistake::NotForget),
+        ("forget all last=4294967297", Mistake::NotForget),
+        ("forget all daily=1 tag=a daily=2", Mistake::NotForget),
+        ("forget all last", Mistake::NotForget),
         ("a\tb", Mistake::NotText),
     ] {
         let bad = Err(LineError::Bad(why));

@@ -5,8 +5,7 @@ use Rattle.std.proofs.lemmas.List.{take-map}
 use Rattle.std.proofs.lemmas.Option.{none-some, slice_get-map}
 use Rattle.std.specs.Option.{option_map}
 use Rattle.clap.specs.Faults.{defaults_fault, walk_fault}
-use Rattle.keep_main.specs.Option.{IsBadWord, options_of}
-use Rattle.keep_main.specs.declared.options.Options.{Options}
+use Rattle.keep_main.specs.Option.{IsBadWord, OptionsData, options_of}
 
 -- no beginning of so many words or more is options
 abbrev pub NoneFrom : List (List ℕ) → ℕ → Type 0
@@ -32,7 +31,7 @@ no-words : IsSome (options_of [])
 unfolding walk_fault defaults_fault
 no-words = refl
 
-none-is-some : (found : Option Options) → found ≡ None → IsSome found → ⊥
+none-is-some : (found : Option OptionsData) → found ≡ None → IsSome found → ⊥
 none-is-some None e h = cc h
 none-is-some (Some options) e h = none-some options (sym e)
 
@@ -40,11 +39,11 @@ none-is-some (Some options) e h = none-some options (sym e)
 pub some-beginning : (words : List (List ℕ)) (count : ℕ) → count ≤ 0 → NoneFrom words count → ⊥
 some-beginning words count none above = none-is-some (options_of []) (above 0 none) no-words
 
-some-is : (options : Options) (found : Option Options) → found ≡ Some options → IsSome found
+some-is : (options : OptionsData) (found : Option OptionsData) → found ≡ Some options → IsSome found
 some-is options found e = rw e refl
 
 -- the word behind a beginning that is options, where no longer one is
-pub bad-word : (words : List (Bor (List ℕ))) (count before : ℕ) (word : Bor (List ℕ)) (options : Options) → slice_get words before ≡ Some word → count ≤ before + 1
+pub bad-word : (words : List (Bor (List ℕ))) (count before : ℕ) (word : Bor (List ℕ)) (options : OptionsData) → slice_get words before ≡ Some word → count ≤ before + 1
     → options_of (texts (take before words)) ≡ Some options → NoneFrom (texts words) count → IsBadWord (texts words) word.now
 bad-word words count before word options stands next taken above =
     let beginning = ap options_of (take-map (λ (word : Bor (List ℕ)). word.now) before words) ∙ taken in (

@@ -1,4 +1,5 @@
 mod BadWordLemmas
 mod NumberLemmas
 mod OptionLemmas
-mod RefusedLemmas
+mod StoredLemmas
+mod UntouchedLemmas

@@ -1,5 +1,5 @@
 -- When words are options, by the kinds of clap's errors.
-use Rattle.std.proofs.Common.{◌≡◌, ◌∙◌, ◌⊎◌, inl, inr, ℕ, Bool, true, false, List, [], ◌∷◌, length, Result, Ok, Err, Option, Some, None, sym, ap, refl, arith, codes}
+use Rattle.std.proofs.Common.{◌≡◌, ◌⊎◌, inl, inr, ℕ, Bool, true, false, List, [], ◌∷◌, length, Result, Ok, Err, Option, Some, None, sym, ap, subst, refl, arith, codes}
 use Rattle.std.proofs.lemmas.Bool.{ne_eqb}
 use Rattle.std.specs.Prelude.{ok_or, option_and_then}
 use Rattle.std.specs.List.{list_any}
@@ -9,8 +9,8 @@ use Rattle.clap.specs.Words.{IsAmong, Kinds, fault_of, is_simple, is_simple_and_
 use Rattle.clap.specs.Walk.{is_empty}
 use Rattle.clap.specs.declared.error.kind.ErrorKind.{ErrorKind}
 use Rattle.clap.specs.declared.error.kind.ErrorKind.TheVariants.{OutOfMemory}
-use Rattle.keep_main.specs.Option.{command, options_in, options_of}
-use Rattle.keep_main.specs.Reading.{Reads, refusal_of}
+use Rattle.keep_main.specs.Option.{OptionsData, command, options_in, options_of}
+use Rattle.keep_main.specs.Reading.{Reads, Says, refusal_of}
 use Rattle.keep_main.specs.declared.options.Options.{Options}
 use Rattle.keep_main.specs.declared.options.BadOptions.{BadOptions}
 use Rattle.keep_main.specs.declared.options.BadOptions.TheVariants.{Memory, Refused}
@@ -53,9 +53,8 @@ refused-reads words k clean (inr h) = go (refusal_of k)
     go Memory = tt
 
 -- what the matches say is what is read of the words
-pub taken-reads : (words : List (List ℕ)) (found : Option Options) → options_of words ≡ found → Reads words (ok_or found Refused)
-taken-reads words None e = e
-taken-reads words (Some options) e = e
+pub taken-reads : (words : List (List ℕ)) (found : Option OptionsData) (r : Result Options BadOptions) → options_of words ≡ found → Says found r → Reads words r
+taken-reads words found r e h = subst (λ f. Says f r) (sym e) h
 
 -- the error that a `?` passes on says what clap's error comes to
 pub refused-after : (words : List (List ℕ)) (k : ErrorKind) (r : Result Options BadOptions) → Reads words (Err (refusal_of k))
@@ -71,10 +70,10 @@ goes-on (Some x) f v e =
     ap f (sym same)
 
 -- and one that isn't read ends it
-pub ends-there : {A : Type 0} (o : Option A) (f : A → Option Options) (x : BadOptions) (r : Result Options BadOptions) → Err x ≡ ok_or o Refused
-    → IsErrAnd r (λ y. y ≡ x) → r ≡ ok_or (option_and_then f o) Refused
+pub ends-there : {A : Type 0} (o : Option A) (f : A → Option OptionsData) (x : BadOptions) (r : Result Options BadOptions) → Err x ≡ ok_or o Refused
+    → IsErrAnd r (λ y. y ≡ x) → Says (option_and_then f o) r
 ends-there None f x (Ok options) e h = absurd h
 ends-there None f x (Err y) e h =
-    let same : x ≡ Refused = cc in
-    ap Err (h ∙ same)
+    let same : y ≡ Refused = cc in
+    rw same refl
 ends-there (Some v) f x r e h = cc

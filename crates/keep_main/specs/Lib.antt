@@ -1,3 +1,4 @@
 pub mod Ending
 pub mod Option
 pub mod Reading
+pub mod Running

@@ -1,5 +1,5 @@
 -- The options of the program, as clap takes them from the words behind the program's name.
-use Rattle.std.specs.Prelude.{◌≡◌, ◌<◌, ℕ, Bool, true, not, ◌&&◌, IsSome, List, Option, Some, None, if◌then◌else◌, codes, slice_get, take}
+use Rattle.std.specs.Prelude.{◌≡◌, ◌<◌, ℕ, Bool, true, not, ◌&&◌, IsSome, List, Option, Some, None, if◌then◌else◌, codes, slice_get, take, unwrap_or}
 use Rattle.std.specs.List.{list_any}
 use Rattle.std.specs.Str.{bytes_eq}
 use Rattle.std.specs.Option.{option_map_or}
@@ -21,7 +21,8 @@ program = on_top (λ top. record top { no_binary_name = true }) (new_app (codes 
 
 -- the program's command: its options
 abbrev pub command : App
-command = with_rule program (option (codes "cut"))
+command =
+    with_rule (with_rule (with_rule program (option (codes "cut"))) (option (codes "host"))) (option (codes "tagged"))
 
 -- the number that a word writes, if it is one from `least` to `most`: decimal digits, a plus in front or not
 abbrev pub number_in : ℕ → ℕ → List ℕ → Option ℕ
@@ -32,11 +33,25 @@ number_in least most word =
 abbrev pub number_or : ℕ → ℕ → ℕ → Option (List ℕ) → Option ℕ
 number_or least most usual word = option_map_or (number_in least most) word (Some usual)
 
+-- after how many bytes backups cut files, the host of the filter `host`, and the tag of the filter `tagged`
+pub record OptionsData : Type 0 where
+  pub cut : ℕ
+  pub host : List ℕ
+  pub tagged : List ℕ
+
+-- the same without where the texts lie in memory
+abbrev pub options_view : Options → OptionsData
+options_view options = record { cut = options.cut; host = options.host.now; tagged = options.tagged.now }
+
 -- what the command's matches say: each option's value, and its default where the words don't give it
-abbrev pub options_in : List Row → Option Options
+abbrev pub options_in : List Row → Option OptionsData
 options_in rows = do
   cut ← number_or 1 8388608 1048576 (first_of (codes "cut") rows)
-  Some (record { cut = cut })
+  Some (record {
+    cut = cut;
+    host = unwrap_or (first_of (codes "host") rows) (codes "web");
+    tagged = unwrap_or (first_of (codes "tagged") rows) (codes "keep");
+  })
 
 -- the words are options, and `--`, which clap takes where no word follows, isn't among them
 abbrev pub are_options : List (List ℕ) → Bool
@@ -44,7 +59,7 @@ are_options words =
     not (list_any (λ word. bytes_eq word (codes "--")) words) && is_empty (fault_of command words)
 
 -- the options that the words give, if they are options
-abbrev pub options_of : List (List ℕ) → Option Options
+abbrev pub options_of : List (List ℕ) → Option OptionsData
 options_of words = if are_options words then options_in (matches_of command words) else None
 
 -- the bad one of words that aren't options: it stands behind their longest beginning that is options

@@ -1,8 +1,8 @@
 -- What reading the options answers.
-use Rattle.std.specs.Prelude.{◌≡◌, ⊤, ℕ, List, Some, None, Result, Ok, Err}
+use Rattle.std.specs.Prelude.{◌≡◌, ⊤, ℕ, List, Option, Some, None, Result, Ok, Err}
 use Rattle.clap.specs.declared.error.kind.ErrorKind.{ErrorKind}
 use Rattle.clap.specs.declared.error.kind.ErrorKind.TheVariants.{OutOfMemory}
-use Rattle.keep_main.specs.Option.{options_of}
+use Rattle.keep_main.specs.Option.{OptionsData, options_of, options_view}
 use Rattle.keep_main.specs.declared.options.Options.{Options}
 use Rattle.keep_main.specs.declared.options.BadOptions.{BadOptions}
 use Rattle.keep_main.specs.declared.options.BadOptions.TheVariants.{Memory, Refused}
@@ -12,8 +12,12 @@ abbrev pub refusal_of : ErrorKind → BadOptions
 refusal_of OutOfMemory = Memory
 refusal_of _ = Refused
 
--- the options that the words give, a refusal just where they give none, or want of memory
+-- the options that are given, a refusal just where none are, or want of memory
+abbrev pub Says : Option OptionsData → Result Options BadOptions → Type 0
+Says given (Ok options) = given ≡ Some (options_view options)
+Says given (Err Refused) = given ≡ None
+Says given (Err Memory) = ⊤
+
+-- the same of those that the words give
 abbrev pub Reads : List (List ℕ) → Result Options BadOptions → Type 0
-Reads words (Ok options) = options_of words ≡ Some options
-Reads words (Err Refused) = options_of words ≡ None
-Reads words (Err Memory) = ⊤
+Reads words result = Says (options_of words) result

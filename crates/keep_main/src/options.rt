@@ -3,7 +3,7 @@ ghost use Rattle.std.specs.List.{list_any};
 ghost use Rattle.std.specs.Str.{bytes_eq};
 ghost use Rattle.clap.specs.Words.{app_of, found_of, kind_of, rows_of, with_rule};
 ghost use Rattle.keep_main.specs.Option as options;
-ghost use Rattle.keep_main.specs.Reading.{Reads, refusal_of};
+ghost use Rattle.keep_main.specs.Reading.{Reads, Says, refusal_of};
 ghost use Rattle.keep_main.specs.declared.options.BadOptions.TheVariants.{Memory, Refused};
 
 use clap::error::ErrorKind;
@@ -13,9 +13,13 @@ use thiserror::Error;
 
 /// What the words behind the program's name say.
 #[derive(Clone, Copy, Debug, PartialEq, Eq)]
-pub(crate) struct Options {
+pub(crate) struct Options<'a> {
     /// After how many bytes a backup cuts a file into blobs: 1 to 8,388,608.
     pub cut: u32,
+    /// The host whose snapshots the filter `host` takes. It may be empty.
+    pub host: &'a str,
+    /// The tag whose snapshots the filter `tagged` takes.
+    pub tagged: &'a str,
 }
 
 /// Why no options are read.
@@ -52,7 +56,10 @@ impl From<clap::Error> for BadOptions {
 ///
 /// An option is `--NAME VALUE` or `--NAME=VALUE`, and stands once at most. A value that begins with
 /// `-` has to be joined by `=`. A number is decimal digits, and a plus may stand in front.
-pub(crate) fn read_options<'a>(alloc: Global, words: &'a [&'a str]) -> Result<Options, BadOptions>
+pub(crate) fn read_options<'a>(
+    alloc: Global,
+    words: &'a [&'a str],
+) -> Result<Options<'a>, BadOptions>
     ensures given { Reads (map (λ word. word.now) words.entry.now) result }
     ensures range { IfOk result (λ options. (1 ≤ options.cut) × (options.cut ≤ 8388608)) }
 {
@@ -97,6 +104,8 @@ fn command<'a>(alloc: Global) -> Result<Command<'a>, AllocError>
 {
     let program = Command::new(alloc, "keepd").no_binary_name(true);
     let command = with_option(alloc, program, "cut")?;
+    let command = with_option(alloc, command, "host")?;
+    let command = with_option(alloc, command, "tagged")?;
     Ok(command)
 }
 
@@ -113,11 +122,14 @@ fn with_option<'a>(
 }
 
 /// What the words of these matches say.
-fn options_in(matches: &ArgMatches<'_>) -> Result<Options, BadOptions>
-    ensures { result ≡ ok_or (options.options_in (rows_of (found_of matches.now))) Refused }
+fn options_in<'a>(matches: &ArgMatches<'a>) -> Result<Options<'a>, BadOptions>
+    ensures said { Says (options.options_in (rows_of (found_of matches.now))) result }
+    ensures range { IfOk result (λ options. (1 ≤ options.cut) × (options.cut ≤ 8388608)) }
 {
     let cut = CUTS.read(matches.get_str("cut"))?;
-    Ok(Options { cut })
+    let host = matches.get_str("host").unwrap_or("web");
+    let tagged = matches.get_str("tagged").unwrap_or("keep");
+    Ok(Options { cut, host, tagged })
 }
 
 /// The numbers that an option takes, and the one that stands where the words give none.

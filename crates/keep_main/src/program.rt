@@ -1,16 +1,16 @@
-ghost use Rattle.std.specs.Prelude.{◌≡◌, ◌≢◌, ◌≤◌, ◌⊎◌, IfSome, None, length, map};
-ghost use Rattle.std.specs.Io.KnownBytes.{Keeps};
-ghost use Rattle.keep_script.specs.Known.{Writes, WritesLines};
+ghost use Rattle.std.specs.Prelude.{◌≡◌, ◌≢◌, ◌≤◌, ◌⊎◌, IfErr, IfOk, IfSome, None, length, map};
+ghost use Rattle.keep_script.specs.Known.{WritesLines};
 ghost use Rattle.keep_script.specs.Line.{longest_script};
-ghost use Rattle.keep_script.specs.Run.{Ends};
-ghost use Rattle.keep_script.specs.State.{State, begun};
 ghost use Rattle.keep_script.specs.declared.status.Status.{Status};
 ghost use Rattle.keep_main.specs.Ending.{NamesBadWord};
-ghost use Rattle.keep_main.specs.Option.{options_of};
+ghost use Rattle.keep_main.specs.Option.{options_of, options_view};
+ghost use Rattle.keep_main.specs.Running.{IsUntouched, Runs};
 
 use crate::ending::Ending;
-use crate::options::{BadOptions, find_bad_word, read_options};
+use crate::options::{BadOptions, Options, find_bad_word, read_options};
+use keep_hooks::{AskFacts, Filter, Kit, Pick, has_tag};
 use keep_script::{Status, run};
+use keep_snap::SnapFacts;
 use std::alloc::{AllocError, Global};
 use std::io::{Read, Write};
 
@@ -24,22 +24,62 @@ pub(crate) fn keepd<'a, R: Read, W: Write>(
 ) -> Ending<'a>
     ensures refused { let given = map (λ word. word.now) words.entry.now in options_of given ≡ None
         → (NamesBadWord given result ⊎ (result ≡ Ending.Ran Status.NoMemory))
-        × Keeps (R.remaining reader.old) (R.remaining reader.new)
-        × Keeps (W.contents writer.old) (W.contents writer.new) }
+        × IsUntouched (R.remaining reader.old) (R.remaining reader.new) (W.contents writer.old) (W.contents writer.new) }
     ensures answers { IfSome (options_of (map (λ word. word.now) words.entry.now)) (λ options.
         (status : Status) × (result ≡ Ending.Ran status)
-        × Writes (W.contents writer.old) (W.contents writer.new) (λ text. (after : State)
-        × Ends (begun options.cut) (R.remaining reader.old) (R.remaining reader.new) text status after)) }
+        × (Runs options (R.remaining reader.old) (R.remaining reader.new) (W.contents writer.old)
+        (W.contents writer.new) status ⊎ ((status ≡ Status.NoMemory)
+        × IsUntouched (R.remaining reader.old) (R.remaining reader.new) (W.contents writer.old) (W.contents writer.new)))) }
     ensures whole { result ≢ Ending.Ran Status.WriteFailed →
         WritesLines (W.contents writer.old) (W.contents writer.new) }
     ensures past_limit { result ≡ Ending.Ran Status.ScriptTooLong →
         IfSome (R.remaining reader.old) (λ script. longest_script ≤ length script) }
 {
     match read_options(alloc, &*words) {
-        Ok(options) => Ending::Ran(run(alloc, reader, writer, options.cut)),
+        Ok(options) => match answer(alloc, options, reader, writer) {
+            Ok(status) => Ending::Ran(status),
+            Err(AllocError) => Ending::Ran(Status::NoMemory),
+        },
         Err(BadOptions::Refused) => refuse(alloc, words),
         Err(BadOptions::Memory) => Ending::Ran(Status::NoMemory),
     }
+}
+
+/// Answers the script by the options, with the filters `all`, `host` and `tagged`.
+fn answer<R: Read, W: Write>(
+    alloc: Global,
+    options: Options<'_>,
+    reader: &mut R,
+    writer: &mut W,
+) -> Result<Status, AllocError>
+    requires some { 1 ≤ options.cut }
+    requires most { options.cut ≤ 8388608 }
+    ensures runs { IfOk result (λ status. Runs (options_view options.entry) (R.remaining reader.old)
+        (R.remaining reader.new) (W.contents writer.old) (W.contents writer.new) status) }
+    ensures untouched { IfErr result (λ error.
+        IsUntouched (R.remaining reader.old) (R.remaining reader.new) (W.contents writer.old) (W.contents writer.new)) }
+    ensures whole { IfOk result (λ status. status ≢ Status.WriteFailed
+        → WritesLines (W.contents writer.old) (W.contents writer.new)) }
+    ensures past_limit { IfOk result (λ status. status ≡ Status.ScriptTooLong
+        → IfSome (R.remaining reader.old) (λ script. longest_script ≤ length script)) }
+{
+    let ask: AskFacts = Box::new(alloc, |_: &SnapFacts| true)?;
+    let all = Filter::new(String::from_str(alloc, "all")?, Pick::Any, ask);
+    let host = String::from_str(alloc, options.host)?;
+    let rule = Pick::Host(host.clone()?);
+    let ask: AskFacts = Box::new(
+        alloc,
+        move |facts: &SnapFacts| facts.host.as_str() == host.as_str(),
+    )?;
+    let by_host = Filter::new(String::from_str(alloc, "host")?, rule, ask);
+    let tag = String::from_str(alloc, options.tagged)?;
+    let rule = Pick::Tagged(tag.clone()?);
+    let ask: AskFacts = Box::new(alloc, move |facts: &SnapFacts| has_tag(facts, tag.as_str()))?;
+    let by_tag = Filter::new(String::from_str(alloc, "tagged")?, rule, ask);
+    let kit = Kit {
+        filters: vec![in alloc; all, by_host, by_tag]?,
+    };
+    Ok(run(alloc, reader, writer, &kit, options.cut))
 }
 
 /// The end where the words aren't options.

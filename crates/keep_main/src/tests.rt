@@ -128,6 +128,7 @@ fn words_give_the_options(rt: HostRuntime) {
     ] {
         let options = read_options(alloc, words).expect(&rt, "options");
         assert_eq!(rt; options.cut, cut);
+        assert_eq!(rt; (options.host, options.tagged), ("web", "keep"));
         expect(
             &rt,
             alloc,
@@ -137,6 +138,48 @@ fn words_give_the_options(rt: HostRuntime) {
             (ANSWER, DONE, 0),
         );
     }
+}
+
+#[test]
+fn words_give_host_and_tag(rt: HostRuntime) {
+    let alloc = rt.alloc();
+    for (words, host, tag) in [
+        (["--host", "db"].as_slice(), "db", "keep"),
+        (&["--host="], "", "keep"),
+        (&["--tagged=a=b", "--host=-x"], "-x", "a=b"),
+        (&["--tagged", "é", "--cut=1"], "web", "é"),
+    ] {
+        let options = read_options(alloc, words).expect(&rt, "options");
+        assert_eq!(rt; (options.host, options.tagged), (host, tag));
+    }
+}
+
+#[test]
+fn filters_go_by_the_options(rt: HostRuntime) {
+    let script = "backup db 2024-01-01T10:00:00Z /a=61\n\
+                  backup db 2024-01-02T10:00:00Z /a=61\n\
+                  backup web 2024-01-03T10:00:00Z /a=61\n\
+                  tag host +x\n\
+                  forget tagged last=1\n\
+                  forget host last=1\n\
+                  forget all last=1\n";
+    let answers = "ok 1 at 1 +4 -0 *0 ~0\n\
+                   ok 2 at 2 +1 -0 *0 ~0\n\
+                   ok 3 at 3 +1 -0 *0 ~0\n\
+                   ok 4 at 4 +2 -2 *0 ~0\n\
+                   ok 5 at 5 +0 -1 *0 ~0\n\
+                   no NothingToDo\n\
+                   no NothingToDo\n";
+    let words = ["--host=db", "--tagged", "x"];
+    let wanted = (answers, DONE, 0);
+    expect(
+        &rt,
+        rt.alloc(),
+        &words,
+        &mut script.as_bytes(),
+        AMPLE,
+        wanted,
+    );
 }
 
 #[test]
@@ -153,6 +196,9 @@ fn other_words_are_bad_options(rt: HostRuntime) {
         (&["--cut", "-4"], "--cut"),
         (&["--cut", "4", "--cut", "5"], "--cut"),
         (&["--cut", "4", "--cut=5"], "--cut=5"),
+        (&["--host"], "--host"),
+        (&["--host", "-x"], "--host"),
+        (&["--tagged", "a", "--tagged=b"], "--tagged=b"),
         (&["--help"], "--help"),
         (&["-h"], "-h"),
         (&["--version"], "--version"),
@@ -167,7 +213,7 @@ fn other_words_are_bad_options(rt: HostRuntime) {
     ] {
         let mut script = b"count".as_slice();
         let said = format!(in alloc;
-            "keepd: bad option: {bad}; usage: keepd [--cut N] < SCRIPT"
+            "keepd: bad option: {bad}; usage: keepd [--cut N] [--host H] [--tagged T] < SCRIPT"
         ).expect(&rt, "memory");
         expect(
             &rt,
@@ -218,7 +264,7 @@ fn unread_options_give_their_status(rt: HostRuntime) -> Result<(), Fail> {
         (BadOptions::Memory, "keepd: no memory", 1),
         (
             BadOptions::Refused,
-            "keepd: bad options; usage: keepd [--cut N] < SCRIPT",
+            "keepd: bad options; usage: keepd [--cut N] [--host H] [--tagged T] < SCRIPT",
             2,
         ),
     ] {

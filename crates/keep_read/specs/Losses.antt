@@ -1,5 +1,5 @@
 -- What no audit of a sound repository finds.
-use Rattle.std.specs.Prelude.{List, All}
+use Rattle.std.specs.Prelude.{All}
 use Rattle.keep_repo.specs.Repository.{Repository}
 use Rattle.keep_catalog.specs.Sound.{IsOfTree, IsSound}
 use Rattle.keep_read.specs.Findings.{findings_in}

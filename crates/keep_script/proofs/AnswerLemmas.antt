@@ -1,12 +1,15 @@
 -- What is written for a command, where its answer is known.
 use Rattle.std.proofs.Common.{◌≡◌, ◌≢◌, ℕ, List, [], Result, Ok, Err, Option, IfOk, IfErr, inl, inr, ap, refl, subst}
-use Rattle.std.proofs.KnownBytes.{Appends-nil}
+use Rattle.std.proofs.KnownBytes.{Appends-kept, Appends-nil}
+use Rattle.std.specs.Io.KnownBytes.{Keeps}
 use Rattle.keep_book.specs.BookState.{BookState}
 use Rattle.keep_book.specs.Reply.{Replies, state_after}
 use Rattle.keep_book.specs.declared.reply.Refusal.{Refusal}
 use Rattle.keep_book.specs.declared.reply.Told.{Told}
 use Rattle.keep_change.specs.declared.change.Change.{Change}
-use Rattle.keep_jobs.specs.Job.{SettingsData, job_change}
+use Rattle.keep_jobs.specs.Job.{SettingsData, job_change, no_memory}
+use Rattle.keep_jobs.specs.declared.error.JobError.{JobError}
+use Rattle.keep_jobs.specs.declared.error.JobError.TheVariants.{NoFilter, Refused}
 use Rattle.keep_jobs.specs.declared.job.Job.{Job}
 use Rattle.keep_lines.specs.Command.{Asks}
 use Rattle.keep_lines.specs.Line.{IsLine}
@@ -17,6 +20,7 @@ use Rattle.keep_lines.specs.declared.command.Command.TheVariants as the_command
 use Rattle.keep_lines.specs.declared.command.LineError.{LineError}
 use Rattle.keep_lines.specs.declared.command.LineError.TheVariants.{Bad, Memory}
 use Rattle.keep_lines.specs.declared.mistake.Mistake.{Mistake}
+use Rattle.keep_lines.specs.declared.mistake.Mistake.TheVariants.{NoFilter as NoSuchFilter}
 use Rattle.keep_lines.specs.declared.reply.Sizes.{Sizes}
 use Rattle.keep_plan.specs.declared.plan_error.PlanError.{PlanError}
 use Rattle.keep_plan.specs.declared.plan_error.PlanError.TheVariants as plan_error
@@ -26,7 +30,8 @@ use Rattle.keep_script.specs.Known.{Puts, Writes}
 use Rattle.keep_script.specs.State.{State}
 use Rattle.keep_script.specs.Status.{stop_of}
 use Rattle.keep_script.specs.Step.{AnswersCommand, AnswersLine}
-use Rattle.keep_script.specs.Text.{commit_text, job_answer, reply_answer}
+use Rattle.keep_script.specs.Outcome.{AnswersJob}
+use Rattle.keep_script.specs.Text.{commit_text, reply_answer, unplanned_answer}
 use Rattle.keep_script.specs.declared.status.Stop.{Stop}
 use Rattle.keep_script.specs.declared.status.Stop.TheVariants.{BadLine, ReadFailed, ScriptTooLong, WriteFailed, NoMemory}
 
@@ -81,13 +86,13 @@ Committed-by settings book book' notes change sizes reply replies left counted =
 Job-made : (settings : SettingsData) (book book' : BookState) (notes : List ℕ → Option Repository) (job : Job) (made : Result Told Refusal × Sizes) (change : Change)
     → job_change (shown_by book) settings job ≡ Ok change → Replies book (commit_of book change) made.0
     → book' ≡ state_after book (commit_of book change) made.0 → made.1 ≡ sizes_of change
-    → AnswersTo (record { settings = settings; book = book; notes = notes }) (the_command.Job job) (job_answer (Ok made)) (record { settings = settings; book = book'; notes = notes })
+    → AnswersTo (record { settings = settings; book = book; notes = notes }) (the_command.Job job) (reply_answer (commit_text made.1) made.0) (record { settings = settings; book = book'; notes = notes })
 Job-made settings book book' notes job made change due replies left counted =
     rw due (inl (Committed-by settings book book' notes change made.1 made.0 replies left counted))
 
 Job-refused : (state after : State) (job : Job) (refusal : PlanError)
-    → (refusal ≢ plan_error.Memory → job_change (shown_by state.book) state.settings job ≡ Err refusal)
-    → after ≡ state → AnswersTo state (the_command.Job job) (job_answer (Err refusal)) after
+    → (Refused refusal ≢ no_memory → job_change (shown_by state.book) state.settings job ≡ Err (Refused refusal))
+    → after ≡ state → AnswersTo state (the_command.Job job) (unplanned_answer refusal) after
 Job-refused state after job plan_error.BadPath due same = rw (due (λ e. cc e)) (inl (record { text = refl; same = same }))
 Job-refused state after job plan_error.SamePathTwice due same = rw (due (λ e. cc e)) (inl (record { text = refl; same = same }))
 Job-refused state after job plan_error.BadTime due same = rw (due (λ e. cc e)) (inl (record { text = refl; same = same }))
@@ -101,11 +106,22 @@ Job-refused state after job plan_error.SnapshotThere due same = rw (due (λ e. c
 Job-refused state after job plan_error.NothingToDo due same = rw (due (λ e. cc e)) (inl (record { text = refl; same = same }))
 Job-refused state after job plan_error.Memory due same = inr (record { text = refl; same = same })
 
-pub Job-answer : (settings : SettingsData) (book book' : BookState) (notes : List ℕ → Option Repository) (job : Job) (outcome : Result (Result Told Refusal × Sizes) PlanError)
+-- nothing is written for a job that names no filter
+Job-unnamed : (a b : Option (List ℕ)) (state after : State) (job : Job) (r : Result (Unit {0}) Stop)
+    → job_change (shown_by state.book) state.settings job ≡ Err NoFilter → after ≡ state → r ≡ Err (BadLine NoSuchFilter) → Keeps a b
+    → Writes a b (λ t. AnswersCommand state (the_command.Job job) t r after)
+Job-unnamed a b state after job r due same bad kept = rw bad ([], Appends-kept a a b [] (Appends-nil a) kept, ((due, refl), record { text = refl; same = same }))
+
+pub Job-answer : (a b : Option (List ℕ)) (settings : SettingsData) (book book' : BookState) (notes : List ℕ → Option Repository) (job : Job) (outcome : Result (Result Told Refusal × Sizes) JobError) (r : Result (Unit {0}) Stop)
     → IfOk outcome (λ made. (change : Change) × (job_change (shown_by book) settings job ≡ Ok change) × Replies book (commit_of book change) made.0 × (book' ≡ state_after book (commit_of book change) made.0) × (made.1 ≡ sizes_of change))
-    → IfErr outcome (λ refusal. refusal ≢ plan_error.Memory → job_change (shown_by book) settings job ≡ Err refusal) → IfErr outcome (λ refusal. book' ≡ book)
-    → AnswersTo (record { settings = settings; book = book; notes = notes }) (the_command.Job job) (job_answer outcome) (record { settings = settings; book = book'; notes = notes })
-Job-answer settings book book' notes job (Ok made) h refused same = Job-made settings book book' notes job made h.0 h.1 h.2 h.3 h.4
-Job-answer settings book book' notes job (Err refusal) made due same =
-    Job-refused (record { settings = settings; book = book; notes = notes }) (record { settings = settings; book = book'; notes = notes }) job refusal due
-    (ap (λ (b : BookState). record { settings = settings; book = b; notes = notes }) same)
+    → IfErr outcome (λ refusal. refusal ≢ no_memory → job_change (shown_by book) settings job ≡ Err refusal) → IfErr outcome (λ refusal. book' ≡ book) → AnswersJob a b outcome r
+    → Writes a b (λ t. AnswersCommand (record { settings = settings; book = book; notes = notes }) (the_command.Job job) t r (record { settings = settings; book = book'; notes = notes }))
+Job-answer a b settings book book' notes job (Ok made) r h refused same puts =
+    AnswersCommand-puts a b _ _ (the_command.Job job) _ r puts (Job-made settings book book' notes job made h.0 h.1 h.2 h.3 h.4)
+Job-answer a b settings book book' notes job (Err (Refused refusal)) r made due same puts =
+    AnswersCommand-puts a b _ _ (the_command.Job job) _ r puts
+    (Job-refused (record { settings = settings; book = book; notes = notes }) (record { settings = settings; book = book'; notes = notes }) job refusal due
+    (ap (λ (b : BookState). record { settings = settings; book = b; notes = notes }) same))
+Job-answer a b settings book book' notes job (Err NoFilter) r made due same (bad, kept) =
+    Job-unnamed a b (record { settings = settings; book = book; notes = notes }) (record { settings = settings; book = book'; notes = notes }) job r (due (λ e. cc e))
+    (ap (λ (b : BookState). record { settings = settings; book = b; notes = notes }) same) bad kept

@@ -12,10 +12,11 @@ use Rattle.keep_book.specs.declared.reply.Refusal.{Refusal}
 use Rattle.keep_book.specs.Request.{Request}
 use Rattle.keep_book.specs.Request as request
 use Rattle.keep_book.specs.declared.reply.Told.{Told}
-use Rattle.keep_plan.specs.declared.plan_error.PlanError.{PlanError}
 use Rattle.keep_read.specs.Findings.{findings_in}
 use Rattle.keep_read.specs.Restored.{restored}
 use Rattle.keep_jobs.specs.Job.{job_change}
+use Rattle.keep_jobs.specs.declared.error.JobError.{JobError}
+use Rattle.keep_jobs.specs.declared.error.JobError.TheVariants as job_error
 use Rattle.keep_lines.specs.Command.{Asks}
 use Rattle.keep_lines.specs.Line.{IsLine, IsPassedOver}
 use Rattle.keep_lines.specs.Mistake.{IsMistake}
@@ -23,7 +24,7 @@ use Rattle.keep_lines.specs.Reply.{sizes_of, told_text}
 use Rattle.keep_lines.specs.declared.command.Command.{Command}
 use Rattle.keep_lines.specs.declared.command.Command.TheVariants.{Job, RawFile, Revision, Question, Note}
 use Rattle.keep_lines.specs.declared.mistake.Mistake.{Mistake}
-use Rattle.keep_lines.specs.declared.mistake.Mistake.TheVariants.{NoFile, NoNote}
+use Rattle.keep_lines.specs.declared.mistake.Mistake.TheVariants.{NoFile, NoFilter, NoNote}
 use Rattle.keep_lines.specs.declared.question.Question as the_question
 use Rattle.keep_lines.specs.declared.question.Question.TheVariants.{List as ListFiles, Count, History, Same, Restore, Audit}
 use Rattle.keep_lines.specs.declared.revision.Revision as the_revision
@@ -65,9 +66,10 @@ Committed state change text after =
     Asked state (commit_of state.book change) (commit_text (sizes_of change)) text after
 
 -- a planned change is committed, or its planner's refusal is written and nothing changes
-abbrev pub CommittedOrRefused : State → Result Change PlanError → List ℕ → State → Type 0
+abbrev pub CommittedOrRefused : State → Result Change JobError → List ℕ → State → Type 0
 CommittedOrRefused state (Ok change) text after = Committed state change text after
-CommittedOrRefused state (Err refusal) text after = Shows state (unplanned_answer refusal) text after
+CommittedOrRefused state (Err job_error.NoFilter) text after = ⊥
+CommittedOrRefused state (Err (job_error.Refused refusal)) text after = Shows state (unplanned_answer refusal) text after
 
 -- what a question is answered
 abbrev pub Tells : State → the_question.Question → List ℕ → Type 0
@@ -103,9 +105,10 @@ FindsNothing state (Same name) why = (state.notes name.now ≡ None) × (why ≡
 FindsNothing state (Restore target) why = (file_meant state.book.events Snapshot target ≡ None) × (why ≡ NoFile)
 FindsNothing state Audit why = ⊥
 
--- a command names what isn't there: so does a question, or a drop of what a change added
+-- a command names what isn't there: so does a job by a filter, a question, or a drop of what a change added
 abbrev pub NamesNothing : State → Command → Mistake → Type 0
-NamesNothing state (Job job) why = ⊥
+NamesNothing state (Job job) why =
+    (job_change (shown_by state.book) state.settings job ≡ Err job_error.NoFilter) × (why ≡ NoFilter)
 NamesNothing state (RawFile file) why = (file_change state.book file ≡ None) × (why ≡ NoFile)
 NamesNothing state (Revision revision) why = ⊥
 NamesNothing state (Question question) why = FindsNothing state question why

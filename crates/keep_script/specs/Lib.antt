@@ -2,6 +2,7 @@ pub mod Answer
 pub mod Input
 pub mod Known
 pub mod Line
+pub mod Outcome
 pub mod RawFile
 pub mod Run
 pub mod State

@@ -4,6 +4,7 @@ use Rattle.std.specs.BTreeMap.{get_by_text}
 use Rattle.std.specs.Str.{bytes_eq}
 use Rattle.keep_repo.specs.Repository.{Repository, empty_repository}
 use Rattle.keep_book.specs.BookState.{BookState, new_book}
+use Rattle.keep_hooks.specs.Kits.{NamedRule}
 use Rattle.keep_jobs.specs.Job.{SettingsData, settings_view}
 use Rattle.keep_script.specs.declared.notes.Notes.{Notes}
 use Rattle.keep_script.specs.declared.session.Session.{Session}
@@ -18,13 +19,17 @@ pub record State : Type 0 where
 abbrev pub no_notes : List ℕ → Option Repository
 no_notes name = None
 
--- a book, and no notes, where backups cut files after so many bytes
-abbrev pub begun_over : ℕ → BookState → State
-begun_over cut book = record { settings = record { cut = cut }; book = book; notes = no_notes }
+-- what jobs go by: backups cut files after so many bytes, and these filters are stored
+abbrev pub settled : ℕ → List NamedRule → SettingsData
+settled cut filters = record { cut = cut; filters = filters }
+
+-- a book, and no notes
+abbrev pub begun_over : SettingsData → BookState → State
+begun_over settings book = record { settings = settings; book = book; notes = no_notes }
 
 -- a book over a repository without files and marks, and no notes
-abbrev pub begun : ℕ → State
-begun cut = begun_over cut (new_book empty_repository)
+abbrev pub begun : SettingsData → State
+begun settings = begun_over settings (new_book empty_repository)
 
 -- the notes with one more, in the place of an older one of the name
 abbrev pub noted_under : List ℕ → Repository → (List ℕ → Option Repository) → List ℕ → Option Repository
@@ -34,7 +39,7 @@ noted_under name repository notes other = if bytes_eq name other then Some repos
 abbrev pub notes_of : Notes → List ℕ → Option Repository
 notes_of notes name = get_by_text notes.held name
 
--- the state that these are
-abbrev pub state_of : Session → BookState → State
-state_of session book =
-    record { settings = settings_view session.settings; book = book; notes = notes_of session.notes }
+-- the state that these are, where these filters are stored
+abbrev pub state_of : List NamedRule → Session → BookState → State
+state_of filters session book =
+    record { settings = settings_view session.settings filters; book = book; notes = notes_of session.notes }

@@ -1,9 +1,9 @@
-ghost use Rattle.std.specs.Prelude.{◌≡◌, ◌≢◌, ◌≤◌, Err, IfErr, IfOk, Ok, length};
-ghost use Rattle.keep_plan.specs.declared.plan_error.PlanError.TheVariants as plan_error;
+ghost use Rattle.std.specs.Prelude.{◌≡◌, ◌≢◌, ◌≤◌, Err, IfErr, IfOk, List, Ok, length};
 ghost use Rattle.keep_book.specs.Reply.{Replies, state_after};
 ghost use Rattle.keep_book.specs.Request as request;
 ghost use Rattle.keep_change.specs.declared.change.Change.{Change};
-ghost use Rattle.keep_jobs.specs.Job.{job_change, settings_view};
+ghost use Rattle.keep_hooks.specs.Kits.{NamedRule, filters_of};
+ghost use Rattle.keep_jobs.specs.Job.{job_change, no_memory, settings_view};
 ghost use Rattle.keep_lines.specs.Line.{longest_line};
 ghost use Rattle.keep_lines.specs.Reply.{sizes_of};
 ghost use Rattle.keep_lines.specs.declared.command.Command.TheVariants as the_command;
@@ -15,15 +15,15 @@ ghost use Rattle.keep_script.specs.Step.{AnswersCommand, AnswersLine};
 use crate::listing::{write_count, write_history, write_list};
 use crate::output::put_line;
 use crate::raw_file::{change_of_file, find};
-use crate::reply::{Outcome, write_audit, write_committed, write_job, write_reply, write_restore};
+use crate::reply::{Outcome, answer_job, write_audit, write_committed, write_reply, write_restore};
 use crate::session::Session;
 use crate::status::Stop;
 use keep_book::{Book, Refusal, Told};
 use keep_change::{Change, Planned};
-use keep_jobs::{Job, Settings, plan};
+use keep_hooks::Kit;
+use keep_jobs::{Job, JobError, Settings, plan};
 use keep_lines::{Command, Compared, Mistake, Noted, Question, RawFile, Revision, Sizes, parse};
 use keep_names::Kind;
-use keep_plan::PlanError;
 use keep_read::{audit, restore};
 use std::alloc::Global;
 use std::io::Write;
@@ -34,17 +34,19 @@ impl Session {
     pub fn answer_line<W: Write>(
         &mut self,
         line: &[u8],
+        kit: &Kit,
         book: &mut Book,
         writer: &mut W,
     ) -> Result<(), Stop>
         requires line { length line.now ≤ longest_line }
         ensures answers { Writes (W.contents writer.old) (W.contents writer.new) (λ text.
-            AnswersLine (state_of self.old book.old) line.now text result (state_of self.new book.new)) }
+            AnswersLine (state_of (filters_of kit.now) self.old book.old) line.now text result
+            (state_of (filters_of kit.now) self.new book.new)) }
         ensures whole { result ≢ Err Stop.WriteFailed → WritesLines (W.contents writer.old) (W.contents writer.new) }
         ensures input { self.new.input ≡ self.old.input }
     {
         match parse(self.alloc, line)? {
-            Some(command) => self.answer(command, book, writer),
+            Some(command) => self.answer(command, kit, book, writer),
             None => Ok(()),
         }
     }
@@ -52,17 +54,18 @@ impl Session {
     fn answer<W: Write>(
         &mut self,
         command: Command<'_>,
+        kit: &Kit,
         book: &mut Book,
         writer: &mut W,
     ) -> Result<(), Stop>
         ensures answers { Writes (W.contents writer.old) (W.contents writer.new) (λ text.
-            AnswersCommand (state_of self.old book.old) command.entry text result
-            (state_of self.new book.new)) }
+            AnswersCommand (state_of (filters_of kit.now) self.old book.old) command.entry text result
+            (state_of (filters_of kit.now) self.new book.new)) }
         ensures whole { result ≢ Err Stop.WriteFailed → WritesLines (W.contents writer.old) (W.contents writer.new) }
         ensures input { self.new.input ≡ self.old.input }
     {
         match command {
-            Command::Job(job) => self.do_job(&job, book, writer),
+            Command::Job(job) => self.do_job(&job, kit, book, writer),
             Command::RawFile(file) => self.change_file(file, book, writer),
             Command::Revision(revision) => self.revise(revision, book, writer),
             Command::Question(question) => self.tell(question, book, writer),
@@ -71,14 +74,20 @@ impl Session {
     }
 
     /// Plans the job on the present state, and commits it at once.
-    fn do_job<W: Write>(&self, job: &Job, book: &mut Book, writer: &mut W) -> Result<(), Stop>
+    fn do_job<W: Write>(
+        &self,
+        job: &Job,
+        kit: &Kit,
+        book: &mut Book,
+        writer: &mut W,
+    ) -> Result<(), Stop>
         ensures answers { Writes (W.contents writer.old) (W.contents writer.new) (λ text.
-            AnswersCommand (state_of self.now book.old) (the_command.Job job.now) text result
-            (state_of self.now book.new)) }
+            AnswersCommand (state_of (filters_of kit.now) self.now book.old) (the_command.Job job.now) text result
+            (state_of (filters_of kit.now) self.now book.new)) }
         ensures whole { result ≢ Err Stop.WriteFailed → WritesLines (W.contents writer.old) (W.contents writer.new) }
     {
-        let outcome = perform(self.alloc, job, self.settings, book);
-        write_job(self.alloc, outcome, writer)
+        let outcome = perform(self.alloc, job, self.settings, kit, book);
+        answer_job(self.alloc, outcome, writer)
     }
 
     /// Adds or drops a file by itself.
@@ -88,9 +97,10 @@ impl Session {
         book: &mut Book,
         writer: &mut W,
     ) -> Result<(), Stop>
-        ensures answers { Writes (W.contents writer.old) (W.contents writer.new) (λ text.
-            AnswersCommand (state_of self.now book.old) (the_command.RawFile file) text result
-            (state_of self.now book.new)) }
+        ensures answers { (filters : List NamedRule)
+            → Writes (W.contents writer.old) (W.contents writer.new) (λ text.
+            AnswersCommand (state_of filters self.now book.old) (the_command.RawFile file) text result
+            (state_of filters self.now book.new)) }
         ensures whole { result ≢ Err Stop.WriteFailed → WritesLines (W.contents writer.old) (W.contents writer.new) }
     {
         let Some(change) = change_of_file(self.alloc, book, file)? else {
@@ -106,9 +116,10 @@ impl Session {
         book: &mut Book,
         writer: &mut W,
     ) -> Result<(), Stop>
-        ensures answers { Writes (W.contents writer.old) (W.contents writer.new) (λ text.
-            AnswersCommand (state_of self.now book.old) (the_command.Revision revision) text result
-            (state_of self.now book.new)) }
+        ensures answers { (filters : List NamedRule)
+            → Writes (W.contents writer.old) (W.contents writer.new) (λ text.
+            AnswersCommand (state_of filters self.now book.old) (the_command.Revision revision) text result
+            (state_of filters self.now book.new)) }
         ensures whole { result ≢ Err Stop.WriteFailed → WritesLines (W.contents writer.old) (W.contents writer.new) }
     {
         write_reply(self.alloc, ask(book, revision), writer)
@@ -121,9 +132,10 @@ impl Session {
         book: &mut Book,
         writer: &mut W,
     ) -> Result<(), Stop>
-        ensures answers { Writes (W.contents writer.old) (W.contents writer.new) (λ text.
-            AnswersCommand (state_of self.now book.old) (the_command.Question question.entry) text result
-            (state_of self.now book.new)) }
+        ensures answers { (filters : List NamedRule)
+            → Writes (W.contents writer.old) (W.contents writer.new) (λ text.
+            AnswersCommand (state_of filters self.now book.old) (the_command.Question question.entry) text result
+            (state_of filters self.now book.new)) }
         ensures whole { result ≢ Err Stop.WriteFailed → WritesLines (W.contents writer.old) (W.contents writer.new) }
     {
         let alloc = self.alloc;
@@ -152,9 +164,10 @@ impl Session {
 
     /// Notes the repository under the name.
     fn note<W: Write>(&mut self, name: &str, book: &Book, writer: &mut W) -> Result<(), Stop>
-        ensures answers { Writes (W.contents writer.old) (W.contents writer.new) (λ text.
-            AnswersCommand (state_of self.old book.now) (the_command.Note name.entry) text result
-            (state_of self.new book.now)) }
+        ensures answers { (filters : List NamedRule)
+            → Writes (W.contents writer.old) (W.contents writer.new) (λ text.
+            AnswersCommand (state_of filters self.old book.now) (the_command.Note name.entry) text result
+            (state_of filters self.new book.now)) }
         ensures whole { result ≢ Err Stop.WriteFailed → WritesLines (W.contents writer.old) (W.contents writer.new) }
         ensures input { self.new.input ≡ self.old.input }
     {
@@ -169,19 +182,20 @@ fn perform(
     alloc: Global,
     job: &Job,
     settings: Settings,
+    kit: &Kit,
     book: &mut Book,
-) -> Result<Outcome, PlanError>
+) -> Result<Outcome, JobError>
     ensures made { IfOk result (λ made. (change : Change)
-        × (job_change (shown_by book.old) (settings_view settings) job.now ≡ Ok change)
+        × (job_change (shown_by book.old) (settings_view settings (filters_of kit.now)) job.now ≡ Ok change)
         × Replies book.old (commit_of book.old change) made.0
         × (book.new ≡ state_after book.old (commit_of book.old change) made.0)
         × (made.1 ≡ sizes_of change)) }
-    ensures refused { IfErr result (λ refusal. refusal ≢ plan_error.Memory
-        → job_change (shown_by book.old) (settings_view settings) job.now ≡ Err refusal) }
+    ensures refused { IfErr result (λ refusal. refusal ≢ no_memory
+        → job_change (shown_by book.old) (settings_view settings (filters_of kit.now)) job.now ≡ Err refusal) }
     ensures same { IfErr result (λ refusal. book.new ≡ book.old) }
 {
     book.refresh();
-    let planned = plan(alloc, &book.view(), settings, job)?;
+    let planned = plan(alloc, &book.view(), settings, kit, job)?;
     Ok(commit(book, planned))
 }
 

@@ -1,15 +1,18 @@
 ghost use Rattle.std.specs.Prelude.{◌≡◌, ◌≢◌, ◌≤◌, ◌<◌, ◌⊎◌, IfSome, length};
 ghost use Rattle.std.specs.Io.KnownBytes.{Keeps};
+ghost use Rattle.keep_hooks.specs.Kits.{filters_of};
+ghost use Rattle.keep_jobs.specs.Job.{settings_view};
 ghost use Rattle.keep_script.specs.Known.{Writes, WritesLines};
 ghost use Rattle.keep_script.specs.Line.{longest_script};
 ghost use Rattle.keep_script.specs.Run.{Ends};
-ghost use Rattle.keep_script.specs.State.{State, begun, begun_over};
+ghost use Rattle.keep_script.specs.State.{State, begun, begun_over, settled};
 
 use crate::output::flush;
 use crate::session::Session;
 use crate::status::Status;
 use keep_backup::Cut;
 use keep_book::Book;
+use keep_hooks::Kit;
 use keep_jobs::Settings;
 use keep_repo::Repo;
 use std::alloc::Global;
@@ -24,12 +27,18 @@ use std::io::{Read, Write};
 /// `restore` and `audit` are written line by line. Where one finds no memory midway, its first
 /// lines are written already, and the run ends as `NoMemory`.
 ///
-/// Files are cut for a backup after every `cut` bytes, 1 to 8,388,608.
-pub fn run<R: Read, W: Write>(alloc: Global, reader: &mut R, writer: &mut W, cut: u32) -> Status
+/// Lines name the filters of the kit. Files are cut for a backup after every `cut` bytes, 1 to 8,388,608.
+pub fn run<R: Read, W: Write>(
+    alloc: Global,
+    reader: &mut R,
+    writer: &mut W,
+    kit: &Kit,
+    cut: u32,
+) -> Status
     requires some { 0 < cut }
     requires most { cut ≤ 8_388_608 }
     ensures answers { Writes (W.contents writer.old) (W.contents writer.new) (λ text. (after : State)
-        × Ends (begun cut) (R.remaining reader.old) (R.remaining reader.new) text result after) }
+        × Ends (begun (settled cut (filters_of kit.now))) (R.remaining reader.old) (R.remaining reader.new) text result after) }
     ensures whole { result ≢ Status.WriteFailed → WritesLines (W.contents writer.old) (W.contents writer.new) }
     ensures limit { result ≡ Status.Done →
         IfSome (R.remaining reader.old) (λ script. length script < longest_script) }
@@ -40,21 +49,22 @@ pub fn run<R: Read, W: Write>(alloc: Global, reader: &mut R, writer: &mut W, cut
         cut: Cut::after(cut),
     };
     let mut book = Book::new(alloc, Repo::new(alloc));
-    run_over(alloc, settings, &mut book, reader, writer)
+    run_over(alloc, settings, kit, &mut book, reader, writer)
 }
 
 /// Answers the lines of a script over this book, which is left as the last line left it.
 fn run_over<R: Read, W: Write>(
     alloc: Global,
     settings: Settings,
+    kit: &Kit,
     book: &mut Book,
     reader: &mut R,
     writer: &mut W,
 ) -> Status
     ensures answers { Writes (W.contents writer.old) (W.contents writer.new) (λ text. (after : State)
         × (after.book ≡ book.new)
-        × Ends (begun_over settings.cut.bytes book.old) (R.remaining reader.old) (R.remaining reader.new)
-        text result after) }
+        × Ends (begun_over (settings_view settings (filters_of kit.now)) book.old) (R.remaining reader.old)
+        (R.remaining reader.new) text result after) }
     ensures whole { result ≢ Status.WriteFailed → WritesLines (W.contents writer.old) (W.contents writer.new) }
     ensures limit { result ≡ Status.Done →
         IfSome (R.remaining reader.old) (λ script. length script < longest_script) }
@@ -64,7 +74,7 @@ fn run_over<R: Read, W: Write>(
     let Ok(mut session) = Session::new(alloc, settings) else {
         return Status::NoMemory;
     };
-    let status = session.answer_all(book, reader, writer);
+    let status = session.answer_all(kit, book, reader, writer);
     finish(status, writer)
 }
 

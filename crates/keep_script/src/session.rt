@@ -1,5 +1,5 @@
 ghost use Rattle.std.specs.Prelude.{◌≡◌, ◌≢◌, ◌≤◌, ◌<◌, Err, IfOk, IfSome, Ok, OnOk, [], length, true, false};
-ghost use Rattle.keep_jobs.specs.Job.{settings_view};
+ghost use Rattle.keep_hooks.specs.Kits.{filters_of};
 ghost use Rattle.keep_script.specs.Input.{Counted, ahead_of, left_of, unread_of};
 ghost use Rattle.keep_script.specs.Known.{Writes, WritesLines};
 ghost use Rattle.keep_script.specs.Line.{longest_script};
@@ -12,6 +12,7 @@ use crate::notes::Notes;
 use crate::reply::write_bad_line;
 use crate::status::{Status, Stop};
 use keep_book::Book;
+use keep_hooks::Kit;
 use keep_jobs::Settings;
 use keep_lines::Mistake;
 use std::alloc::{AllocError, Global};
@@ -29,7 +30,7 @@ pub(crate) struct Session {
 impl Session {
     /// A session that has read nothing and has no notes.
     pub fn new(alloc: Global, settings: Settings) -> Result<Session, AllocError>
-        ensures settings { IfOk result (λ session. settings_view session.settings ≡ settings_view settings) }
+        ensures settings { IfOk result (λ session. session.settings ≡ settings) }
         ensures notes { IfOk result (λ session. notes_of session.notes ≡ no_notes) }
         ensures unread { IfOk result (λ session. unread_of session.input ≡ []) }
         ensures ahead { IfOk result (λ session. ahead_of session.input ≡ longest_script) }
@@ -47,14 +48,15 @@ impl Session {
     /// Answers all lines over this book, which is left as the last line left it.
     pub fn answer_all<R: Read, W: Write>(
         &mut self,
+        kit: &Kit,
         book: &mut Book,
         reader: &mut R,
         writer: &mut W,
     ) -> Status
         requires ahead { ahead_of self.old.input ≡ longest_script }
         ensures answers { Writes (W.contents writer.old) (W.contents writer.new) (λ text.
-            Ends (state_of self.old book.old) (left_of self.old.input (R.remaining reader.old))
-            (R.remaining reader.new) text result (state_of self.new book.new)) }
+            Ends (state_of (filters_of kit.now) self.old book.old) (left_of self.old.input (R.remaining reader.old))
+            (R.remaining reader.new) text result (state_of (filters_of kit.now) self.new book.new)) }
         ensures whole { result ≢ Status.WriteFailed → WritesLines (W.contents writer.old) (W.contents writer.new) }
         ensures limit { result ≡ Status.Done →
             IfSome (left_of self.old.input (R.remaining reader.old)) (λ script. length script < longest_script) }
@@ -62,7 +64,7 @@ impl Session {
             IfSome (left_of self.old.input (R.remaining reader.old)) (λ script. longest_script ≤ length script) }
     {
         for number in 1..u64::MAX {
-            match self.answer_next(book, reader, writer) {
+            match self.answer_next(kit, book, reader, writer) {
                 Ok(true) => {}
                 Ok(false) => return Status::Done,
                 Err(stop) => return stop_at(self.alloc, number, stop, writer),
@@ -74,14 +76,16 @@ impl Session {
     /// Answers the next line, and says whether it had an end.
     fn answer_next<R: Read, W: Write>(
         &mut self,
+        kit: &Kit,
         book: &mut Book,
         reader: &mut R,
         writer: &mut W,
     ) -> Result<bool, Stop>
         ensures answers { Writes (W.contents writer.old) (W.contents writer.new) (λ text.
-            AnswersNext (state_of self.old book.old) (left_of self.old.input (R.remaining reader.old))
+            AnswersNext (state_of (filters_of kit.now) self.old book.old)
+            (left_of self.old.input (R.remaining reader.old))
             (left_of self.new.input (R.remaining reader.new)) (R.remaining reader.new) text result
-            (state_of self.new book.new)) }
+            (state_of (filters_of kit.now) self.new book.new)) }
         ensures whole { result ≢ Err Stop.WriteFailed → WritesLines (W.contents writer.old) (W.contents writer.new) }
         ensures spent { result ≡ Ok true → ahead_of self.new.input < ahead_of self.old.input }
         ensures counted { OnOk result (Counted
@@ -93,12 +97,12 @@ impl Session {
     {
         match self.input.next_line(reader, writer)? {
             Piece::Line(line) => {
-                self.answer_line(line.as_slice(), book, writer)?;
+                self.answer_line(line.as_slice(), kit, book, writer)?;
                 Ok(true)
             }
             Piece::Last(line) if line.is_empty() => Ok(false),
             Piece::Last(line) => {
-                self.answer_line(line.as_slice(), book, writer)?;
+                self.answer_line(line.as_slice(), kit, book, writer)?;
                 Ok(false)
             }
         }

@@ -1,12 +1,17 @@
 mod backups;
 mod ends;
+mod labels;
 mod rows;
+mod writing;
 
 use crate::{Status, run};
 use backups::{BACKUPS, CUT_AFTER_4};
-use ends::{ByLine, Endless, Flushed, LineByLine, Narrow, Slow};
+use ends::{Endless, Narrow, Slow};
+use keep_hooks::{AskFacts, Filter, Kit, Pick, has_tag};
 use keep_lines::Mistake;
-use rows::{BAD_LINES, EXAMPLES, LISTED, LISTING, ROWS, Row};
+use keep_snap::SnapFacts;
+use labels::LABELS;
+use rows::{BAD_LINES, EXAMPLES, ROWS, Row};
 use std::alloc::{AllocError, Global};
 use std::io::Read;
 use std::process::Abort;
@@ -15,44 +20,83 @@ use std::test::Fail;
 /// After how many bytes the runs of these tests cut files.
 const CUT: u32 = 1_048_576;
 
+/// A kit without filters.
+fn nothing_stored(alloc: Global) -> Kit {
+    Kit {
+        filters: Vec::new(alloc),
+    }
+}
+
 fn expect<R: Read>(rt: &impl Abort, alloc: Global, reader: &mut R, answers: &str, status: Status) {
     let mut written = Vec::new(alloc);
-    let ended = run(alloc, reader, &mut written, CUT);
+    let ended = run(alloc, reader, &mut written, &nothing_stored(alloc), CUT);
     assert_eq!(rt; ended, status, "before {answers}");
     assert!(rt; written.as_slice() == answers.as_bytes(), "not {answers}");
 }
 
 /// The answers are the same where the script comes byte by byte.
-fn expect_row(rt: &impl Abort, alloc: Global, row: Row) {
+fn expect_row(rt: &impl Abort, alloc: Global, kit: &Kit, row: Row) {
     let (script, answers, status) = row;
-    expect(rt, alloc, &mut script.as_bytes(), answers, status);
+    let mut written = Vec::new(alloc);
+    let ended = run(alloc, &mut script.as_bytes(), &mut written, kit, CUT);
+    assert_eq!(rt; ended, status, "before {answers}");
+    assert!(rt; written.as_slice() == answers.as_bytes(), "not {answers}");
     let mut slow = Slow {
         bytes: script.as_bytes(),
         interrupted: false,
         fails: false,
     };
-    expect(rt, alloc, &mut slow, answers, status);
+    let mut written = Vec::new(alloc);
+    let ended = run(alloc, &mut slow, &mut written, kit, CUT);
+    assert_eq!(rt; ended, status, "before {answers}");
+    assert!(rt; written.as_slice() == answers.as_bytes(), "not {answers}");
 }
 
 #[test]
 fn scripts_are_answered(rt: HostRuntime) {
+    let kit = nothing_stored(rt.alloc());
     for row in ROWS {
-        expect_row(&rt, rt.alloc(), row);
+        expect_row(&rt, rt.alloc(), &kit, row);
     }
 }
 
 #[test]
-fn examples_are_answered(rt: HostRuntime) {
+fn examples_are_answered(rt: HostRuntime) -> Result<(), Fail> {
+    let alloc = rt.alloc();
+    let ask: AskFacts = Box::new(alloc, |_: &SnapFacts| true)?;
+    let all = Filter::new(String::from_str(alloc, "all")?, Pick::Any, ask);
+    let kit = Kit {
+        filters: vec![in alloc; all]?,
+    };
     for row in EXAMPLES {
-        expect_row(&rt, rt.alloc(), row);
+        expect_row(&rt, alloc, &kit, row);
     }
+    Ok(())
 }
 
 #[test]
 fn backups_are_answered(rt: HostRuntime) {
+    let kit = nothing_stored(rt.alloc());
     for row in BACKUPS {
-        expect_row(&rt, rt.alloc(), row);
+        expect_row(&rt, rt.alloc(), &kit, row);
     }
+}
+
+#[test]
+fn tags_and_forgets_are_answered(rt: HostRuntime) -> Result<(), Fail> {
+    let alloc = rt.alloc();
+    let ask: AskFacts = Box::new(alloc, |_: &SnapFacts| true)?;
+    let all = Filter::new(String::from_str(alloc, "all")?, Pick::Any, ask);
+    let ask: AskFacts = Box::new(alloc, |facts: &SnapFacts| has_tag(facts, "keep"))?;
+    let rule = Pick::Tagged(String::from_str(alloc, "keep")?);
+    let by_tag = Filter::new(String::from_str(alloc, "tagged")?, rule, ask);
+    let kit = Kit {
+        filters: vec![in alloc; all, by_tag]?,
+    };
+    for row in LABELS {
+        expect_row(&rt, alloc, &kit, row);
+    }
+    Ok(())
 }
 
 #[test]
@@ -60,7 +104,13 @@ fn files_are_cut_for_a_backup(rt: HostRuntime) {
     let alloc = rt.alloc();
     let (script, answers, status) = CUT_AFTER_4;
     let mut written = Vec::new(alloc);
-    let ended = run(alloc, &mut script.as_bytes(), &mut written, 4);
+    let ended = run(
+        alloc,
+        &mut script.as_bytes(),
+        &mut written,
+        &nothing_stored(alloc),
+        4,
+    );
     assert_eq!(rt; ended, status);
     assert!(rt; written.as_slice() == answers.as_bytes());
 }
@@ -81,7 +131,13 @@ fn bad_lines_end_the_run(rt: HostRuntime) -> Result<(), Fail> {
     for line in lines.chain([b"# \xff".as_slice(), b"\x7f\x1f"]) {
         let script = script_with(alloc, line)?;
         let mut written = Vec::new(alloc);
-        let ended = run(alloc, &mut script.as_slice(), &mut written, CUT);
+        let ended = run(
+            alloc,
+            &mut script.as_slice(),
+            &mut written,
+            &nothing_stored(alloc),
+            CUT,
+        );
         assert!(rt; matches!(ended, Status::BadLine(2, _)));
         assert!(rt; written.as_slice() == answers);
     }
@@ -97,6 +153,8 @@ fn what_isnt_there_is_told(rt: HostRuntime) -> Result<(), Fail> {
         ("drop snapshot @1", Mistake::NoFile),
         ("restore @1", Mistake::NoFile),
         ("same n", Mistake::NoNote),
+        ("tag all +x", Mistake::NoFilter),
+        ("forget all last=1", Mistake::NoFilter),
     ] {
         let script = script_with(alloc, line.as_bytes())?;
         let status = Status::BadLine(2, why);
@@ -163,7 +221,13 @@ fn failures_end_the_run(rt: HostRuntime) {
             held: Vec::new(alloc),
             room,
         };
-        let status = run(alloc, &mut script.as_slice(), &mut writer, CUT);
+        let status = run(
+            alloc,
+            &mut script.as_slice(),
+            &mut writer,
+            &nothing_stored(alloc),
+            CUT,
+        );
         let fits = answered.len() <= room;
         assert_eq!(rt;
             status,
@@ -179,57 +243,5 @@ fn failures_end_the_run(rt: HostRuntime) {
             &answered[..room.min(answered.len())]
         };
         assert!(rt; writer.held.as_slice() == held, "at {room}");
-    }
-}
-
-#[test]
-fn lines_are_written_one_by_one(rt: HostRuntime) {
-    let mut writer = ByLine {
-        held: Vec::new(rt.alloc()),
-    };
-    let status = run(rt.alloc(), &mut LISTING.as_bytes(), &mut writer, CUT);
-    assert_eq!(rt; status, Status::Done);
-    assert!(rt; writer.held.as_slice() == LISTED.as_bytes());
-}
-
-#[test]
-fn listings_may_break_off(rt: HostRuntime) {
-    let alloc = rt.alloc();
-    for room in [44, 60, 116, 150, 189, 216, 240] {
-        let mut writer = Narrow {
-            held: Vec::new(alloc),
-            room,
-        };
-        let status = run(alloc, &mut LISTING.as_bytes(), &mut writer, CUT);
-        assert_eq!(rt; status, Status::WriteFailed, "at {room}");
-        assert!(rt;
-            writer.held.as_slice() == &LISTED.as_bytes()[..room],
-            "at {room}"
-        );
-    }
-}
-
-/// A script of three lines, of which the last lacks its end.
-const THREE_LINES: &str = "add index 61\ncount\nundo 1";
-
-#[test]
-fn each_answer_is_handed_on_before_the_next_read(rt: HostRuntime) {
-    let alloc = rt.alloc();
-    for (flushes, lengths, status) in [
-        (99, [0, 22, 38, 38, 48].as_slice(), Status::Done),
-        (4, &[0, 22, 38, 38], Status::WriteFailed),
-        (1, &[0], Status::WriteFailed),
-    ] {
-        let mut writer = Flushed {
-            held: Vec::new(alloc),
-            lengths: Vec::new(alloc),
-            flushes,
-        };
-        let mut reader = LineByLine {
-            bytes: THREE_LINES.as_bytes(),
-        };
-        let ended = run(alloc, &mut reader, &mut writer, CUT);
-        assert_eq!(rt; ended, status, "at {flushes}");
-        assert!(rt; writer.lengths.as_slice() == lengths, "at {flushes}");
     }
 }

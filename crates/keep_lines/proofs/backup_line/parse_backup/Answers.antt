@@ -3,7 +3,8 @@ use Rattle.std.proofs.lemmas.Bool.Decides.{nat_tests}
 use Rattle.std.proofs.lemmas.Iterator.Consumers.{map_from_collect}
 use Rattle.std.proofs.lemmas.Iterator.Splits.{YieldsList-from_str_split}
 use Rattle.std.specs.declared.alloc.AllocError.{AllocError}
-use Rattle.keep_lines.proofs.BackupWords.{backup_of_words, no_files, no_host, no_time, spaceless_behind, texts, too_few}
+use Rattle.keep_lines.proofs.BackupWords.{backup_of_words, no_files, no_host, no_time, spaceless_behind, too_few}
+use Rattle.keep_lines.proofs.WordLists.{texts}
 use Rattle.keep_lines.proofs.backup_line.parse_backup.Goals as goal
 use Rattle.keep_lines.proofs.backup_line.parse_backup.Goals.{then-is_empty-via-then-is_empty, then-is_empty-via-else-is_empty+then-is_empty-2}
 
@@ -24,8 +25,8 @@ returns-then-is_empty c =
       | then-is_empty-via-else-is_empty+then-is_empty-2 w ↦ no_time words _ text c.in-len2-up.len_at_least cut (eqb-true _ _ (sym w.is_empty-else-is_empty.ensures ∙ w.if-is_empty-2.true))
     ]
 
-pub parse_files-requires : goal.parse_files-requires
-parse_files-requires c =
+pub parse_words-requires : goal.parse_words-requires
+parse_words-requires c =
     let words = c.as_slice.result.now in
     let text = c.args.text.now in
     let cut = ap texts c.as_slice.ensures.value ∙ map_from_collect {E = AllocError} (Ok c.in_ok-words.words) c.in_ok-words.ensures.ran (YieldsList-from_str_split 32 text (lit< tt) c.split.ensures.text c.split.ensures.has_more c.split.ensures.pattern) in

@@ -1,9 +1,11 @@
 use Rattle.std.proofs.Common.{◌≡◌, ℕ, inl, inr, List, ◌∷◌, ◌++◌, codes, refl, ap, ◌∙◌}
 use Rattle.std.specs.Fmt.{decimal}
-use Rattle.keep_jobs.specs.declared.job.Job.TheVariants.{Backup}
+use Rattle.keep_jobs.specs.declared.job.Job.TheVariants.{Backup, Forget, Tag}
 use Rattle.keep_lines.proofs.Mistakes.{cut_first, ends_in_no}
 use Rattle.keep_lines.specs.BackupLine.{IsBackup, backup_text}
-use Rattle.keep_lines.specs.Mistake.{AsksBackup, AsksName, AsksNumber, AsksTarget}
+use Rattle.keep_lines.specs.ForgetLine.{IsForget, forget_text}
+use Rattle.keep_lines.specs.Mistake.{AsksBackup, AsksForget, AsksName, AsksNumber, AsksTag, AsksTarget}
+use Rattle.keep_lines.specs.TagLine.{IsTag, tag_text}
 use Rattle.keep_lines.specs.Word.{IsName, IsNumber, IsTarget, target_text}
 use Rattle.keep_lines.specs.declared.command.Command.TheVariants.{Job, Note, Question, Revision}
 use Rattle.keep_lines.specs.declared.question.Question.TheVariants.{Restore, Same}
@@ -58,3 +60,17 @@ returns-in-backup c =
     let cut = cut_first text c.split_once.result _ c.split_once.ensures.cases c.in-Some.is in
     let split : text ≡ codes "backup" ++ 32 ∷ c.in-Some.rest.now = cut ∙ ap (λ (v : List ℕ). v ++ 32 ∷ c.in-Some.rest.now) c.in-backup.is in
     ends_in_no AsksBackup IsBackup backup_text (λ backup. Job (Backup backup)) (codes "backup") text c.in-Some.rest.now refl c.requires split (λ value is. is) (λ value. refl)
+
+pub returns-in-tag : goal.returns-in-tag
+returns-in-tag c =
+    let text = c.args.text.now in
+    let cut = cut_first text c.split_once.result _ c.split_once.ensures.cases c.in-Some.is in
+    let split : text ≡ codes "tag" ++ 32 ∷ c.in-Some.rest.now = cut ∙ ap (λ (v : List ℕ). v ++ 32 ∷ c.in-Some.rest.now) c.in-tag.is in
+    ends_in_no AsksTag IsTag tag_text (λ tag. Job (Tag tag)) (codes "tag") text c.in-Some.rest.now refl c.requires split (λ value is. is) (λ value. refl)
+
+pub returns-in-forget : goal.returns-in-forget
+returns-in-forget c =
+    let text = c.args.text.now in
+    let cut = cut_first text c.split_once.result _ c.split_once.ensures.cases c.in-Some.is in
+    let split : text ≡ codes "forget" ++ 32 ∷ c.in-Some.rest.now = cut ∙ ap (λ (v : List ℕ). v ++ 32 ∷ c.in-Some.rest.now) c.in-forget.is in
+    ends_in_no AsksForget IsForget forget_text (λ forget. Job (Forget forget)) (codes "forget") text c.in-Some.rest.now refl c.requires split (λ value is. is) (λ value. refl)

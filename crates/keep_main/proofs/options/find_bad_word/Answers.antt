@@ -1,5 +1,6 @@
 use Rattle.std.proofs.Common.{◌-◌, ℕ, Err, arith, subst, take}
 use Rattle.std.proofs.lemmas.Option.{slice_get-get_or}
+use Rattle.keep_main.specs.Option.{options_view}
 use Rattle.keep_main.specs.Reading.{Reads}
 use Rattle.keep_main.proofs.BadWordLemmas.{texts, bad-word, none-one-fewer, some-beginning}
 use Rattle.keep_main.proofs.options.find_bad_word.Goals as goal
@@ -14,7 +15,7 @@ pub returns-in-Ok : goal.returns-in-Ok
 returns-in-Ok c =
     let before : ℕ = c.loop-count.count - 1 in
     let stands = slice_get-get_or c.args.words.now before _ (omega arith) in
-    bad-word c.args.words.now c.loop-count.count before _ c.in-Ok.field-0 stands (omega arith) c.in-Ok.ensures.given c.loop-count.invariant
+    bad-word c.args.words.now c.loop-count.count before _ (options_view c.in-Ok.field-0) stands (omega arith) c.in-Ok.ensures.given c.loop-count.invariant
 
 pub returns : goal.returns
 returns c = some-beginning _ c.loop-count.count (omega arith) c.loop-count.invariant

@@ -4,7 +4,6 @@ use Rattle.std.specs.Str.{bytes_eq}
 use Rattle.clap.proofs.WalkLemmas.{list_any-map}
 use Rattle.clap.specs.Words.{App, HasKind, app_of, fault_of, found_of, is_simple, is_simple_and_free, kind_of, matches_of, rows_of}
 use Rattle.keep_main.specs.Option as options
-use Rattle.keep_main.specs.Reading.{Reads}
 use Rattle.keep_main.proofs.OptionLemmas.{command-free, command-simple, dashes-refused, has_dashes, refused-after, refused-reads, taken, taken-reads}
 use Rattle.keep_main.proofs.options.read_options.Goals as goal
 
@@ -37,4 +36,4 @@ returns-clause-given c =
     (c.in_ok-matches.ensures.matches (ap is_simple is ∙ command-simple)).0 ∙ ap (λ (a : App). matches_of a words) is in
     let none : fault_of options.command words ≡ [] = ap (λ (a : App). fault_of a words) (sym is) ∙ c.in_ok-matches.ensures.kinds free in
     let given = taken words clean none ∙ ap options.options_in (sym rows) in
-    subst (λ r. Reads words r) (sym c.options_in.ensures) (taken-reads words _ given)
+    taken-reads words _ c.options_in.result given c.options_in.ensures.said

@@ -2,4 +2,4 @@ use Rattle.std.proofs.Common.{rules}
 use Rattle.keep_script.proofs.answering.perform.Goals as goal
 
 pub returns-clause-made : goal.returns-clause-made
-returns-clause-made c = rw (← c.refresh.ensures) (search rules)
+returns-clause-made g c = rw (← c.refresh.ensures) (search rules)

@@ -3,7 +3,7 @@ use crate::Status;
 use keep_lines::Mistake;
 
 /// The examples of this repository, as they stand in its folder of that name.
-pub const EXAMPLES: [Row; 6] = [
+pub const EXAMPLES: [Row; 7] = [
     (
         "add snapshot 61\nadd index 62\nnote n\ndrop index @2\nundo 3\nsame n\nlist\n",
         "ok 1 at 1 +1 -0 *0 ~0\n\
@@ -159,6 +159,37 @@ pub const EXAMPLES: [Row; 6] = [
          ok 12 at 14 +0 -1 *0 ~0\n\
          audit 0\n\
          files 6 marks 0\n",
+        Status::Done,
+    ),
+    (
+        "# Two weeks are kept, of three: each by its newest backup.\n\
+         backup web 2024-03-04T22:00:00Z /notes=31\n\
+         backup web 2024-03-06T22:00:00Z /notes=3132\n\
+         backup web 2024-03-11T22:00:00Z /notes=313233\n\
+         backup web 2024-03-13T22:00:00Z /notes=31323334\n\
+         backup web 2024-03-18T22:00:00Z /notes=3132333435\n\
+         forget all weekly=2\n\
+         restore @3\n\
+         restore @4\n\
+         # That was one too many.\n\
+         undo 6\n\
+         restore @3\n\
+         forget all weekly=2 daily=3\n\
+         count\n",
+        "ok 1 at 1 +4 -0 *0 ~0\n\
+         ok 2 at 2 +4 -0 *0 ~0\n\
+         ok 3 at 3 +4 -0 *0 ~0\n\
+         ok 4 at 4 +4 -0 *0 ~0\n\
+         ok 5 at 5 +4 -0 *0 ~0\n\
+         ok 6 at 6 +0 -3 *0 ~0\n\
+         no NoSnapshot\n\
+         /notes 31323334\n\
+         restored 1 skipped 0\n\
+         ok 6 at 7\n\
+         /notes 313233\n\
+         restored 1 skipped 0\n\
+         ok 7 at 8 +0 -2 *0 ~0\n\
+         files 18 marks 0\n",
         Status::Done,
     ),
 ];

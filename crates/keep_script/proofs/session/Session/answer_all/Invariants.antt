@@ -1,5 +1,6 @@
 -- What the lines so far were answered, and enough may still be read for the number.
 use Rattle.std.proofs.Common.{◌+◌, ◌≤◌}
+use Rattle.keep_hooks.specs.Kits.{filters_of}
 use Rattle.keep_script.proofs.RunLemmas.{Progress}
 use Rattle.keep_script.specs.Input.{Counted, ahead_of, left_of}
 use Rattle.keep_script.specs.Known.{WritesLines}
@@ -12,7 +13,7 @@ invariant-loop-number g l = record {
   so_far : Progress
       (left_of l.initial.self.input (g.R.Read.remaining l.initial.reader)) (left_of l.self.input (g.R.Read.remaining l.reader))
       (g.W.Write.contents l.initial.writer) (g.W.Write.contents l.writer)
-      (state_of l.initial.self l.initial.book) (state_of l.self l.book) l.number;
+      (state_of (filters_of l.kit) l.initial.self l.initial.book) (state_of (filters_of l.kit) l.self l.book) l.number;
   whole : WritesLines (g.W.Write.contents l.initial.writer) (g.W.Write.contents l.writer);
   counted : Counted
       (left_of l.initial.self.input (g.R.Read.remaining l.initial.reader)) (ahead_of l.initial.self.input)

@@ -7,8 +7,8 @@ use Rattle.keep_script.specs.State.{state_of}
 use Rattle.keep_script.proofs.session.Session.tell.Goals as goal
 
 pub returns-in_ok-noted-in-Same-clause-answers : goal.returns-in_ok-noted-in-Same-clause-answers
-returns-in_ok-noted-in-Same-clause-answers g c =
-    let state = state_of c.args.self.now c.args.book.now in
+returns-in_ok-noted-in-Same-clause-answers g c = λ filters.
+    let state = state_of filters c.args.self.now c.args.book.now in
     let same = rw c.live-in-Same.ensures at c.same_as-same.ensures in
     AnswersCommand-puts _ _ state state (the_command.Question c.args.question) _ _ c.put_line.ensures.puts (rw c.in-Same.is (
       (
@@ -22,12 +22,12 @@ returns-in_ok-noted-in-Same-clause-answers g c =
     ))
 
 pub returns-in_ok-name-in-Restore-clause-answers : goal.returns-in_ok-name-in-Restore-clause-answers
-returns-in_ok-name-in-Restore-clause-answers g c =
-    let state = state_of c.args.self.now c.args.book.now in
-    let after = state_of c.args.self.now c.refresh.new.self in
+returns-in_ok-name-in-Restore-clause-answers g c = λ filters.
+    let state = state_of filters c.args.self.now c.args.book.now in
+    let after = state_of filters c.args.self.now c.refresh.new.self in
     let meant = rw c.history-in-Restore.ensures at c.find-found.ensures in
     let told = rw (c.view.ensures, c.refresh.ensures) at c.restore.ensures.restored in
     AnswersCommand-puts _ _ state after (the_command.Question c.args.question) _ _ c.write_restore.ensures.puts (rw c.in-Restore.is (
       Restored-tells state c.in-Restore.target c.in_ok-name-in-Restore.name c.restore.result (sym meant ∙ c.in_ok-name-in-Restore.ensures.ok_part) told,
-      ap (state_of c.args.self.now) c.refresh.ensures,
+      ap (state_of filters c.args.self.now) c.refresh.ensures,
     ))
