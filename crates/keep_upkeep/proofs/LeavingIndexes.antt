@@ -1,0 +1,66 @@
+-- What is left of indexes, one after the other.
+use Rattle.std.proofs.Common.{◌≡◌, ℕ, ◌+◌, ◌<◌, Bool, true, false, cond, List, [], ◌∷◌, ◌++◌, length, map, filter, take, get_or, refl, sym, ap, ◌∙◌}
+use Rattle.std.proofs.lemmas.List.{append-nil, map-append, map_more}
+use Rattle.std.proofs.lemmas.List.Elements.{filter-append}
+use Rattle.std.specs.Global.{Vec}
+use Rattle.std.specs.List.{list_any}
+use Rattle.keep_names.specs.declared.file_name.FileName.{FileName}
+use Rattle.keep_names.specs.declared.file_name.Kind.TheVariants.{Index, Pack}
+use Rattle.keep_names.specs.declared.id.Id.{Id}
+use Rattle.keep_repo.specs.Repository.{Repository}
+use Rattle.keep_index.specs.Index.{PackData, pack_view}
+use Rattle.keep_index.specs.Joining.{joined, left_without}
+use Rattle.keep_index.specs.declared.index.IndexedPack.{IndexedPack}
+use Rattle.keep_change.specs.Filling.{has_pack}
+use Rattle.keep_change.specs.Lists.{marked_packs}
+use Rattle.keep_change.specs.NamedBytes.{NamedBytes}
+use Rattle.keep_change.specs.declared.change.PackMark.{PackMark}
+use Rattle.keep_catalog.specs.Files.{indexes_in, packs_view}
+use Rattle.keep_upkeep.specs.Reindexing.{files_there, index_files, other_indexes, reindexing}
+use Rattle.keep_upkeep.specs.Sweep.{left_files, left_of, listing, lists_gone, listing_gone, names_of, sweeping, swept_files}
+use Rattle.keep_upkeep.proofs.EachSo.{any_mapped}
+
+-- an index as the catalog reads it
+abbrev pub Read : Type 0
+Read = Id × Vec IndexedPack
+
+module _ (is_gone : Id → Bool) (index : Read) where
+  asked : lists_gone is_gone (packs_view index) ≡ list_any (λ (pack : IndexedPack). is_gone pack.id) index.1.items
+  asked = any_mapped (λ (pack : PackData). is_gone pack.id) pack_view index.1.items
+
+  pub passed : (answer : Bool) → answer ≡ list_any (λ (pack : IndexedPack). is_gone pack.id) index.1.items → answer ≡ false → listing_gone is_gone (packs_view index ∷ []) ≡ []
+  passed answer is none = ap (λ b. cond b (packs_view index ∷ []) []) (asked ∙ sym is ∙ none)
+
+  pub taken : (answer : Bool) → answer ≡ list_any (λ (pack : IndexedPack). is_gone pack.id) index.1.items → answer ≡ true → listing_gone is_gone (packs_view index ∷ []) ≡ packs_view index ∷ []
+  taken answer is some = ap (λ b. cond b (packs_view index ∷ []) []) (asked ∙ sym is ∙ some)
+
+module _ (is_gone : Id → Bool) (xs : List Read) (i : ℕ) (x : Read) (lt : i < length xs) (is : x ≡ get_or xs i x) where
+  listing_more : listing_gone is_gone (map packs_view (take (i + 1) xs)) ≡ listing_gone is_gone (map packs_view (take i xs)) ++ listing_gone is_gone (packs_view x ∷ [])
+  listing_more =
+      ap (listing_gone is_gone) (map_more packs_view xs i x lt)
+      ∙ filter-append (lists_gone is_gone) (map packs_view (take i xs)) (packs_view (get_or xs i x) ∷ [])
+      ∙ ap (λ (y : Read). listing_gone is_gone (map packs_view (take i xs)) ++ listing_gone is_gone (packs_view y ∷ [])) (sym is)
+
+  pub names_more : names_of (listing_gone is_gone (map packs_view (take (i + 1) xs))) ≡ names_of (listing_gone is_gone (map packs_view (take i xs))) ++ names_of (listing_gone is_gone (packs_view x ∷ []))
+  names_more = ap names_of listing_more ∙ map-append (λ (e : Id × List PackData). e.0) (listing_gone is_gone (map packs_view (take i xs))) (listing_gone is_gone (packs_view x ∷ []))
+
+  pub left_more : left_of is_gone (listing_gone is_gone (map packs_view (take (i + 1) xs))) ≡ left_of is_gone (listing_gone is_gone (map packs_view (take i xs))) ++ left_of is_gone (listing_gone is_gone (packs_view x ∷ []))
+  left_more = ap (left_of is_gone) listing_more ∙ map-append (λ (e : Id × List PackData). left_without is_gone e.1) (listing_gone is_gone (map packs_view (take i xs))) (listing_gone is_gone (packs_view x ∷ []))
+
+-- ---- all of it
+
+-- what is built and dropped, step by step, is what a sweep of these marks makes
+pub same_sweep : (r : Repository) (marks : List PackMark) (indexes : List Read) (packs names others : List Id) (left : List PackData) (built drops : List NamedBytes) (none : List FileName)
+    → map packs_view indexes ≡ indexes_in r → packs ≡ marked_packs marks
+    → names ≡ names_of (listing_gone (has_pack packs) (map packs_view indexes))
+    → left ≡ joined (left_of (has_pack packs) (listing_gone (has_pack packs) (map packs_view indexes)))
+    → built ≡ index_files left → others ≡ other_indexes built names
+    → drops ≡ files_there r Pack packs ++ files_there r Index others → none ≡ []
+    → reindexing r built drops marks none ≡ sweeping r marks
+same_sweep r marks indexes packs names others left built drops none read packs_are names_are left_is built_is others_are drops_are none_is =
+    let files : built ≡ left_files r (marked_packs marks) =
+    built_is ∙ ap index_files (left_is ∙ (λ i. joined (left_of (has_pack (packs_are i)) (listing_gone (has_pack (packs_are i)) (read i))))) in
+    let listed : names ≡ names_of (listing r (marked_packs marks)) = names_are ∙ (λ i. names_of (listing_gone (has_pack (packs_are i)) (read i))) in
+    let rest : others ≡ other_indexes (left_files r (marked_packs marks)) (names_of (listing r (marked_packs marks))) = others_are ∙ (λ i. other_indexes (files i) (listed i)) in
+    let gone : drops ≡ swept_files r (marked_packs marks) = drops_are ∙ (λ i. files_there r Pack (packs_are i) ++ files_there r Index (rest i)) in
+    (λ i. reindexing r (files i) (gone i) marks (none_is i))

@@ -1,0 +1,10 @@
+use Rattle.std.proofs.Common.{◌≡◌, ◌++◌, List}
+use Rattle.keep_catalog.specs.declared.found.Found.{Found}
+use Rattle.keep_names.specs.declared.blob.BlobId.{BlobId}
+use Rattle.keep_upkeep.proofs.MarkUsed.{RestOnThese}
+use Rattle.keep_upkeep.proofs.mark.uses_found.Given as goal
+
+-- what was passed, with what is left, is all; and what its uses rest on is there
+abbrev pub invariant-loop-found : goal.invariant-loop-found
+invariant-loop-found l =
+    (done : List (BlobId × Found)) × (done ++ l.found-iterator ≡ l.reached.entries) × RestOnThese done l.reuses

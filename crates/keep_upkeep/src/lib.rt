@@ -1,0 +1,26 @@
+//! What goes through a whole repository: one index of all packs, marks on packs that no snapshot needs, and the sweep of
+//! those that have waited.
+#![tactic(auto)]
+
+mod laws;
+mod mark;
+#[cfg(test)]
+mod mark_tests;
+mod reindexing;
+mod repair;
+#[cfg(test)]
+mod repair_tests;
+mod sweep;
+#[cfg(test)]
+mod sweep_tests;
+#[cfg(test)]
+mod test_packs;
+
+pub use laws::{
+    a_planned_mark_can_be_made, a_planned_mark_is_safe, a_planned_repair_can_be_made,
+    a_planned_repair_is_safe, a_planned_sweep_can_be_made, a_planned_sweep_is_safe,
+    what_a_repair_lists, what_a_sweep_lists,
+};
+pub use mark::plan_mark;
+pub use repair::plan_repair;
+pub use sweep::plan_sweep;

@@ -1,0 +1,118 @@
+ghost use Rattle.std.specs.Prelude.{◌≡◌, ◌++◌, [], ◌∷◌, IfOk, OnOk};
+ghost use Rattle.std.specs.List.{filter_map, list_any};
+ghost use Rattle.std.specs.Ordering.{eq_by_cmp};
+ghost use Rattle.keep_index.specs.Index.{Fits, index_view};
+ghost use Rattle.keep_names.specs.FileName.{named};
+ghost use Rattle.keep_names.specs.Orders.{name_cmp};
+ghost use Rattle.keep_names.specs.declared.file_name.Kind.TheVariants as the_kind;
+ghost use Rattle.keep_change.specs.Filling.{has_name};
+ghost use Rattle.keep_change.specs.Lists.{file_names};
+ghost use Rattle.keep_upkeep.specs.Reindexing as spec;
+
+use keep_change::{Change, Listed, PackMark, StoredFile};
+use keep_index::{Index, write_index, written_indexes_read_back};
+use keep_names::{FileName, Id, Kind};
+use keep_plan::{Reuses, settle};
+use keep_repo::Repo;
+use std::alloc::{AllocError, Global};
+
+/// Puts those of the files of this kind behind the others that are there.
+#[tactic(auto, unfolding(crate::specs::Reindexing::files_there))]
+pub(crate) fn put_files(
+    repo: &Repo,
+    kind: Kind,
+    ids: &[Id],
+    files: &mut Vec<StoredFile>,
+) -> Result<(), AllocError>
+    ensures { OnOk result (files.new.items ≡ files.old.items ++ spec.files_there repo.now kind ids.now) }
+{
+    for id in ids {
+        put_file(repo, FileName { kind, id: *id }, files)?;
+    }
+    Ok(())
+}
+
+// Puts the file of this name behind the others, if it is there.
+fn put_file(repo: &Repo, name: FileName, files: &mut Vec<StoredFile>) -> Result<(), AllocError>
+    ensures { OnOk result (files.new.items
+        ≡ files.old.items ++ filter_map (spec.file_there repo.now name.kind) (name.id ∷ [])) }
+{
+    let Some(bytes) = repo.get(name) else {
+        return Ok(());
+    };
+    files.push(StoredFile::under(name, bytes.clone()?))?;
+    Ok(())
+}
+
+/// The file of an index, if it lists any pack.
+#[tactic(auto, unfolding(crate::specs::Reindexing::index_files))]
+pub(crate) fn index_files(alloc: Global, index: &Index) -> Result<Vec<StoredFile>, AllocError>
+    ensures files { IfOk result (λ files. files.items ≡ spec.index_files (index_view index.now)) }
+    ensures fits { IfOk result (λ _. Fits (index_view index.now)) }
+{
+    written_indexes_read_back();
+    let mut files = Vec::new(alloc);
+    if index.packs.is_empty() {
+        return Ok(files);
+    }
+    let text = write_index(alloc, index)?;
+    let file = StoredFile::of(alloc, Kind::Index, text)?;
+    files.push(file)?;
+    Ok(files)
+}
+
+/// Those of these indexes that aren't among the new files.
+pub(crate) fn other_indexes(
+    alloc: Global,
+    built: &[StoredFile],
+    ids: &[Id],
+) -> Result<Vec<Id>, AllocError>
+    ensures { IfOk result (λ others. others.items ≡ spec.other_indexes built.now ids.now) }
+{
+    ids.iter()
+        .copied()
+        .filter(|id| !has_index(built, *id))
+        .collect(alloc)
+}
+
+/// Whether the index is among the files.
+pub(crate) fn has_index(files: &[StoredFile], id: Id) -> bool
+    ensures { result ≡ has_name (file_names files.now) (named the_kind.Index id) }
+{
+    has_file(files, FileName::index(id))
+}
+
+// Whether a file of this name is among them.
+fn has_file(files: &[StoredFile], name: FileName) -> bool
+    ensures { result ≡ list_any (λ file. eq_by_cmp name_cmp name file.name) files.now }
+{
+    files.iter().any(|file| is_named(file, name))
+}
+
+fn is_named(file: &StoredFile, name: FileName) -> bool
+    ensures { result ≡ eq_by_cmp name_cmp name file.now.name }
+{
+    name == file.name()
+}
+
+/// The change that puts new files in the place of others, clears these marks, and asks that these files are absent.
+pub(crate) fn reindex(
+    alloc: Global,
+    repo: &Repo,
+    built: Vec<StoredFile>,
+    drops: Vec<StoredFile>,
+    clears: Vec<PackMark>,
+    absent: Vec<FileName>,
+) -> Result<Change, AllocError>
+    ensures { IfOk result (λ change. change
+        ≡ spec.reindexing repo.now built.items drops.items clears.items absent.items) }
+{
+    let stored = settle(alloc, repo, built, Reuses::new(alloc))?;
+    let mut change = Change::new(alloc);
+    change.adds = stored.adds;
+    change.drops = Listed::from_vec(drops);
+    change.clears = Listed::from_vec(clears);
+    change.present = stored.present;
+    change.absent = Listed::from_vec(absent);
+    Ok(change)
+}

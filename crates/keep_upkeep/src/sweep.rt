@@ -1,0 +1,197 @@
+ghost use Rattle.std.specs.Prelude.{◌≡◌, ◌≢◌, ◌++◌, ◌+ℤ◌, [], ◌∷◌, true, pos, int_le, IfErr, IfOk, None, OnOk, Some, map};
+ghost use Rattle.std.specs.BTreeSet.{contains};
+ghost use Rattle.std.specs.List.{filter_map, list_any};
+ghost use Rattle.keep_docs.specs.Doc.{Answers};
+ghost use Rattle.keep_names.specs.Orders.{id_cmp};
+ghost use Rattle.keep_names.specs.declared.id.Id as the_id;
+ghost use Rattle.keep_repo.specs.Repository.{held};
+ghost use Rattle.keep_index.specs.Index.{index_view};
+ghost use Rattle.keep_index.specs.Joining.{joined};
+ghost use Rattle.keep_change.specs.Change.{is_met};
+ghost use Rattle.keep_change.specs.Filling.{has_pack};
+ghost use Rattle.keep_change.specs.Form.{IsWellFormed};
+ghost use Rattle.keep_change.specs.Lists.{marked_packs};
+ghost use Rattle.keep_catalog.specs.Files.{indexes_in, packs_view};
+ghost use Rattle.keep_plan.specs.Refusal.{unread_first};
+ghost use Rattle.keep_plan.specs.declared.plan_error.PlanError.TheVariants as the_error;
+ghost use Rattle.keep_upkeep.specs.Reindexing.{other_indexes};
+ghost use Rattle.keep_upkeep.specs.Sweep.{left_of, listing_gone, names_of, sweep_change};
+ghost use Rattle.keep_upkeep.specs.Sweep as spec;
+
+use crate::laws::a_planned_sweep_can_be_made;
+use crate::reindexing::{index_files, other_indexes, put_files, reindex};
+use keep_catalog::Catalog;
+use keep_change::{Change, PackMark, Planned, StoredFile};
+use keep_index::{Index, IndexedPack, join, without_packs};
+use keep_names::{Id, Kind};
+use keep_plan::PlanError;
+use keep_repo::{Mark, Repo};
+use keep_view::View;
+use std::alloc::{AllocError, Global};
+use std::collections::BTreeSet;
+
+/// The change that sweeps the packs that are marked and have waited so many seconds by now: it drops those that are
+/// there, and clears their marks. What is left of the indexes that list one is joined into a new one.
+///
+/// The refusals in their order: `Unread`, `NothingToDo`.
+pub fn plan_sweep(alloc: Global, view: &View, now: i64, wait: u64) -> Result<Planned, PlanError>
+    ensures change { Answers the_error.Memory (λ planned. planned.change)
+        (sweep_change view.now.repo now wait) result }
+    ensures seen { IfOk result (λ planned. planned.seen ≡ view.now.length) }
+    ensures well_formed { IfOk result (λ planned. IsWellFormed planned.change) }
+    ensures met { IfOk result (λ planned. is_met (held view.now.repo) planned.change ≡ true) }
+{
+    a_planned_sweep_can_be_made();
+    let indexes = read_indexes(alloc, view)?;
+    let marks = waited_marks(alloc, view.repo(), now, wait)?;
+    if marks.is_empty() {
+        return Err(PlanError::NothingToDo);
+    }
+    let change = sweep(alloc, view.repo(), &indexes, marks)?;
+    Ok(Planned {
+        change,
+        seen: view.length(),
+    })
+}
+
+// What the indexes say, by name, if each pack, index and snapshot can be read.
+fn read_indexes(alloc: Global, view: &View) -> Result<Vec<(Id, Vec<IndexedPack>)>, PlanError>
+    ensures indexes { IfOk result (λ indexes. map packs_view indexes.items ≡ indexes_in view.now.repo) }
+    ensures all_read { IfOk result (λ _. unread_first view.now.repo ≡ None) }
+    ensures refused { IfErr result (λ error. error ≢ the_error.Memory → unread_first view.now.repo ≡ Some error) }
+{
+    let catalog = view.catalog(alloc)?;
+    let indexes = catalog.indexes(alloc)?;
+    Ok(indexes)
+}
+
+// The marks that have waited, by pack.
+#[tactic(auto, unfolding(crate::specs::Sweep::waited_marks))]
+fn waited_marks(
+    alloc: Global,
+    repo: &Repo,
+    now: i64,
+    wait: u64,
+) -> Result<Vec<PackMark>, AllocError>
+    ensures { IfOk result (λ marks. marks.items ≡ spec.waited_marks repo.now now wait) }
+{
+    let (_, packs) = repo.list()?;
+    let mut marks = Vec::new(alloc);
+    for pack in &packs {
+        put_waited(repo, *pack, now, wait, &mut marks)?;
+    }
+    Ok(marks)
+}
+
+// Puts the mark of the pack behind the others, if it has waited.
+fn put_waited(
+    repo: &Repo,
+    pack: Id,
+    now: i64,
+    wait: u64,
+    marks: &mut Vec<PackMark>,
+) -> Result<(), AllocError>
+    ensures { OnOk result (marks.new.items
+        ≡ marks.old.items ++ filter_map (spec.waited_mark repo.now now wait) (pack ∷ [])) }
+{
+    let Some(moment) = repo.mark_of(pack) else {
+        return Ok(());
+    };
+    if has_waited(moment, now, wait) {
+        let mark = Mark { moment };
+        marks.push(PackMark { pack, mark })?;
+    }
+    Ok(())
+}
+
+// Whether so many seconds have gone by since the moment.
+fn has_waited(moment: i64, now: i64, wait: u64) -> bool
+    ensures { result ≡ int_le (moment +ℤ pos wait) now }
+{
+    moment as i128 + wait as i128 <= now as i128
+}
+
+// The change that sweeps the packs of these marks.
+fn sweep(
+    alloc: Global,
+    repo: &Repo,
+    indexes: &[(Id, Vec<IndexedPack>)],
+    marks: Vec<PackMark>,
+) -> Result<Change, AllocError>
+    requires { map packs_view indexes.now ≡ indexes_in repo.now }
+    ensures { IfOk result (λ change. change ≡ spec.sweeping repo.now marks.items) }
+{
+    let packs = packs_of(alloc, &marks)?;
+    let (names, left) = leave(alloc, indexes, &packs)?;
+    let built = index_files(alloc, &left)?;
+    let others = other_indexes(alloc, &built, &names)?;
+    let mut drops = Vec::new(alloc);
+    put_files(repo, Kind::Pack, &packs, &mut drops)?;
+    put_files(repo, Kind::Index, &others, &mut drops)?;
+    reindex(alloc, repo, built, drops, marks, Vec::new(alloc))
+}
+
+// The packs of these marks.
+fn packs_of(alloc: Global, marks: &[PackMark]) -> Result<Vec<Id>, AllocError>
+    ensures { IfOk result (λ packs. packs.items ≡ marked_packs marks.now) }
+{
+    marks.iter().map(|mark| mark.pack).collect(alloc)
+}
+
+// The names of the indexes that list one of these packs, and the join of what is left of them.
+fn leave(
+    alloc: Global,
+    indexes: &[(Id, Vec<IndexedPack>)],
+    packs: &[Id],
+) -> Result<(Vec<Id>, Index), AllocError>
+    ensures names { IfOk result (λ made. made.0.items
+        ≡ names_of (listing_gone (has_pack packs.now) (map packs_view indexes.now))) }
+    ensures left { IfOk result (λ made. index_view made.1
+        ≡ joined (left_of (has_pack packs.now) (listing_gone (has_pack packs.now) (map packs_view indexes.now)))) }
+{
+    let gone = set_of(alloc, packs)?;
+    let mut names = Vec::new(alloc);
+    let mut left = Vec::new(alloc);
+    for index in indexes {
+        put_left(alloc, index, &gone, &mut names, &mut left)?;
+    }
+    let index = join(alloc, &left)?;
+    Ok((names, index))
+}
+
+// These packs, to look them up.
+fn set_of(alloc: Global, packs: &[Id]) -> Result<BTreeSet<Id>, AllocError>
+    ensures { IfOk result (λ set. (pack : the_id.Id) → contains id_cmp set pack ≡ has_pack packs.now pack) }
+{
+    packs.iter().copied().collect(alloc)
+}
+
+// Puts the index's name and what is left of it behind the others, if it lists a pack that goes.
+fn put_left(
+    alloc: Global,
+    index: &(Id, Vec<IndexedPack>),
+    gone: &BTreeSet<Id>,
+    names: &mut Vec<Id>,
+    left: &mut Vec<Index>,
+) -> Result<(), AllocError>
+    ensures names { OnOk result (names.new.items ≡ names.old.items
+        ++ names_of (listing_gone (contains id_cmp gone.now) (packs_view index.now ∷ []))) }
+    ensures left { OnOk result (map index_view left.new.items ≡ map index_view left.old.items
+        ++ left_of (contains id_cmp gone.now) (listing_gone (contains id_cmp gone.now) (packs_view index.now ∷ []))) }
+{
+    let (name, packs) = index;
+    if !lists_gone(packs, gone) {
+        return Ok(());
+    }
+    let packs = without_packs(alloc, packs, gone)?;
+    left.push(Index { packs })?;
+    names.push(*name)?;
+    Ok(())
+}
+
+// Whether one of the packs goes.
+fn lists_gone(packs: &[IndexedPack], gone: &BTreeSet<Id>) -> bool
+    ensures { result ≡ list_any (λ pack. contains id_cmp gone.now pack.id) packs.now }
+{
+    packs.iter().any(|pack| gone.contains(&pack.id))
+}
