@@ -1,4 +1,5 @@
 pub mod Inverse
+pub mod Moments
 pub mod Relabelled
 pub mod RoundTrip
 pub mod Standing

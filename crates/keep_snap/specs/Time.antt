@@ -2,7 +2,7 @@
 -- of RFC 3339, section 5.6, with `T` and `Z` in capitals, no second 60 and at most nine digits of fraction.
 use Rattle.std.specs.Prelude.{ℕ, ◌+◌, ◌-◌, ◌*◌, ◌^◌, ◌==◌, ◌&&◌, ◌||◌, nat_le, Bool, List, [], ◌∷◌, length, take, drop, slice_index, slice_range, position, Option, None, Some, option_map, ℤ, pos, neg_ℤ, ◌+ℤ◌, ◌-ℤ◌, ◌*ℤ◌, if◌then◌else◌}
 use Rattle.std.specs.Char.{is_ascii_digit}
-use Rattle.std.specs.Int.{is_in_range}
+use Rattle.std.specs.Int.{int_div_euclid, is_in_range}
 use Rattle.std.specs.Int.Signed.{le_z}
 use Rattle.std.specs.List.{list_all}
 use Rattle.std.specs.Str.Parse.{digits_value}
@@ -131,3 +131,7 @@ abbrev pub time_in : List ℕ → Option Time
 time_in text = do
   at ← position begins_zone (drop 19 text)
   time_from (take 19 text) (take at (drop 19 text)) (drop at (drop 19 text))
+
+-- the whole seconds since 1970-01-01T00:00:00Z of its instant, rounded down
+abbrev pub moment_in : List ℕ → Option ℤ
+moment_in text = option_map (λ time. int_div_euclid time.instant (pos 1_000_000_000)) (time_in text)

@@ -1,4 +1,5 @@
-//! Snapshots of a repository, the times that they write, the facts that filters ask about, and edits of their tags.
+//! Snapshots of a repository, the times that they write, the facts that filters ask about, and edits of their tags and
+//! trees.
 #![tactic(auto)]
 
 mod copies;
@@ -8,10 +9,15 @@ mod snap;
 #[cfg(test)]
 mod tests;
 mod time;
+#[cfg(test)]
+mod time_tests;
 mod written;
 
 pub use fact::{SnapFacts, facts};
-pub use relabel::retag;
+pub use relabel::{retag, retree};
 pub use snap::{Snap, SnapError, read_snap};
-pub use time::{Month, Time, parse_time};
-pub use written::{retagged_snapshots_can_be_written, snapshots_read_back, write_snap};
+pub use time::{Month, Time, parse_moment, parse_time};
+pub use written::{
+    retagged_snapshots_can_be_written, retreed_snapshots_can_be_written, snapshots_read_back,
+    write_snap,
+};

@@ -1,4 +1,4 @@
-use crate::{Month, Snap, SnapError, facts, parse_time, read_snap, retag, write_snap};
+use crate::{Snap, SnapError, facts, read_snap, retag, retree, write_snap};
 use keep_docs::DocError;
 use keep_names::parse_id;
 use std::test::Fail;
@@ -23,109 +23,6 @@ const WHOLE_WRITTEN: &str = "{\"excludes\":[\"*.o\"],\"gid\":100,\"hostname\":\"
 const TREE: &str = "ca978112ca1bbdcafac231b39a23dc4da786eff8147c4e72b9807785afee48bb";
 
 const OLD: &str = "2cf24dba5fb0a30e26e83b2ac5b9e29e1b161e5c1fa7425e73043362938b9824";
-
-#[test]
-fn times_are_instants_and_days(rt: HostRuntime) -> Result<(), Fail> {
-    for (text, instant, day, week) in [
-        ("1970-01-01T00:00:01+00:01", -59_000_000_000i128, 0, -3),
-        (
-            "2024-03-03T08:00:00Z",
-            1_709_452_800_000_000_000,
-            19785,
-            19779,
-        ),
-        (
-            "2022-09-01T12:34:56.123456789+02:00",
-            1_662_028_496_123_456_789,
-            19236,
-            19233,
-        ),
-        (
-            "2000-02-29T23:59:59-23:59",
-            951_955_139_000_000_000,
-            11016,
-            11015,
-        ),
-        (
-            "2024-02-29T00:00:00.5+23:59",
-            1_709_078_460_500_000_000,
-            19782,
-            19779,
-        ),
-        (
-            "0000-01-01T00:00:00-00:00",
-            -62_167_219_200_000_000_000,
-            -719528,
-            -719533,
-        ),
-        (
-            "9999-12-30T22:00:00.999999999Z",
-            253_402_207_200_999_999_999,
-            2932895,
-            2932892,
-        ),
-        (
-            "9999-12-31T21:59:00+23:59",
-            253_402_207_200_000_000_000,
-            2932896,
-            2932892,
-        ),
-    ] {
-        let time = parse_time(text).ok_or(text)?;
-        assert_eq!(rt; time.instant, instant, "{text}");
-        assert_eq!(rt; time.day, day, "{text}");
-        assert_eq!(rt; time.week, week, "{text}");
-    }
-    Ok(())
-}
-
-#[test]
-fn months_and_years_are_those_written(rt: HostRuntime) -> Result<(), Fail> {
-    let time = parse_time("2023-12-31T23:30:00-02:00").ok_or("a time")?;
-    assert_eq!(rt;
-        time.month,
-        Month {
-            year: 2023,
-            month: 12
-        }
-    );
-    assert_eq!(rt; time.year, 2023);
-    Ok(())
-}
-
-#[test]
-fn what_is_no_time_is_refused(rt: HostRuntime) {
-    for text in [
-        "",
-        "2024-02-30T00:00:00Z",
-        "1900-02-29T00:00:00Z",
-        "2023-02-29T00:00:00Z",
-        "2024-00-01T00:00:00Z",
-        "2024-13-01T00:00:00Z",
-        "2024-01-00T00:00:00Z",
-        "2024-04-31T00:00:00Z",
-        "2024-03-03T24:00:00Z",
-        "2024-03-03T08:60:00Z",
-        "2024-03-03T08:00:60Z",
-        "2024-03-03T08:00:00",
-        "2024-03-03T08:00:00z",
-        "2024-03-03t08:00:00Z",
-        "2024-03-03 08:00:00Z",
-        "2024-03-03T08:00:00.Z",
-        "2024-03-03T08:00:00,5Z",
-        "2024-03-03T08:00:00.1234567890Z",
-        "2024-03-03T08:00:00+24:00",
-        "2024-03-03T08:00:00+00:60",
-        "2024-03-03T08:00:00+0000",
-        "2024-03-03T08:00:00Z ",
-        "+024-03-03T08:00:00Z",
-        "2024-3-03T008:00:00Z",
-        "9999-12-30T22:00:01Z",
-        "9999-12-31T22:00:00+23:59",
-    ] {
-        assert_eq!(rt; parse_time(text), None, "{text}");
-    }
-}
 
 #[test]
 fn what_is_no_snapshot_is_refused(rt: HostRuntime) -> Result<(), Fail> {
@@ -224,6 +121,30 @@ fn a_snapshot_under_other_tags_names_the_first(rt: HostRuntime) -> Result<(), Fa
     let bare = retag(alloc, &made, parse_id(TREE)?, Vec::new(alloc))?;
     let written = format!(in alloc;
         "{{\"original\":\"{OLD}\",\"paths\":[],{rest}\"{TREE}\",\"uid\":0}}"
+    )?;
+    assert_eq!(rt; write_snap(alloc, &bare)?.as_slice(), written.as_bytes());
+    Ok(())
+}
+
+#[test]
+fn a_snapshot_with_another_tree_names_the_old_one(rt: HostRuntime) -> Result<(), Fail> {
+    let alloc = rt.alloc();
+    let (tree, other) = (parse_id(TREE)?, parse_id(OLD)?);
+    let rest = "\"time\":\"2015-01-08T21:40:19Z\",\"tree\":";
+    let text = format!(in alloc;
+        "{{\"original\":\"{OLD}\",\"paths\":[],{rest}\"{TREE}\",\"uid\":0}}"
+    )?;
+    let snap = read_snap(alloc, text.as_bytes())?;
+    let made = retree(alloc, &snap, tree, other, true)?;
+    let written = format!(in alloc;
+        "{{\"original\":\"{TREE}\",\"paths\":[],\"tags\":[\"rewrite\"],{rest}\"{OLD}\",\"uid\":0}}"
+    )?;
+    assert_eq!(rt; write_snap(alloc, &made)?.as_slice(), written.as_bytes());
+    let again = retree(alloc, &made, other, tree, true)?;
+    assert_eq!(rt; again.tags.len(), 1);
+    let bare = retree(alloc, &snap, tree, other, false)?;
+    let written = format!(in alloc;
+        "{{\"original\":\"{TREE}\",\"paths\":[],{rest}\"{OLD}\",\"uid\":0}}"
     )?;
     assert_eq!(rt; write_snap(alloc, &bare)?.as_slice(), written.as_bytes());
     Ok(())

@@ -5,7 +5,7 @@ ghost use Rattle.std.specs.Int.{IsInRange};
 ghost use Rattle.std.specs.List.{list_all};
 ghost use Rattle.jiff_core.specs.Calendar.{IsEpochDay};
 ghost use Rattle.jiff_core.specs.Weekday.{monday_zero};
-ghost use Rattle.keep_snap.specs.Time.{time_in, written};
+ghost use Rattle.keep_snap.specs.Time.{moment_in, time_in, written};
 ghost use Rattle.keep_snap.specs.Time as spec;
 
 use jiff::Timestamp;
@@ -48,6 +48,15 @@ pub fn parse_time(text: &str) -> Option<Time>
     let at = zone_at(rest)?;
     let (fraction, zone) = rest.split_at(at);
     time_from(wall, fraction, zone)
+}
+
+/// The whole seconds since 1970-01-01T00:00:00Z of the instant that a text writes (as [`parse_time`] reads it), rounded
+/// down.
+pub fn parse_moment(text: &str) -> Option<i64>
+    ensures { result ≡ moment_in text.now }
+{
+    let time = parse_time(text)?;
+    Some(time.instant.div_euclid(1_000_000_000) as i64)
 }
 
 // The time that a date with a time of day, a fraction and a zone write.

@@ -1,10 +1,10 @@
-ghost use Rattle.std.specs.Prelude.{◌≡◌, ℕ, All, IfOk, IsUtf8, List, Ok, OnOk, map, option_map, string_bytes};
+ghost use Rattle.std.specs.Prelude.{◌≡◌, ℕ, All, Bool, IfOk, IsUtf8, List, Ok, OnOk, map, option_map, string_bytes};
 ghost use Rattle.serde_json.specs.View.{members_view, view};
 ghost use Rattle.serde_json.specs.Written.{compact_text};
 ghost use Rattle.keep_docs.specs.Fields.{id_data};
 ghost use Rattle.keep_names.specs.Id.{IsDigest};
 ghost use Rattle.keep_names.specs.declared.id.Id.{Id};
-ghost use Rattle.keep_snap.specs.Relabel.{retagged};
+ghost use Rattle.keep_snap.specs.Relabel.{retagged, retreed};
 ghost use Rattle.keep_snap.specs.Shape.{IsSnap};
 ghost use Rattle.keep_snap.specs.Snap.{SnapData, snap_of, snap_view};
 ghost use Rattle.keep_snap.specs.Written.{IsCarried, snap_data, tags_data, text_data};
@@ -39,6 +39,12 @@ pub fn snapshots_read_back()
 pub fn retagged_snapshots_can_be_written()
     ensures { (s : SnapData) (old : Id) (tags : List (List ℕ)) → IsSnap s → IsDigest old → All IsUtf8 tags
         → IsSnap (retagged s old tags) }
+{}
+
+/// A snapshot that can be written can have another tree.
+pub fn retreed_snapshots_can_be_written()
+    ensures { (s : SnapData) (old tree : Id) (tagged : Bool) → IsSnap s → IsDigest old → IsDigest tree
+        → IsSnap (retreed s old tree tagged) }
 {}
 
 // A snapshot as an object.
