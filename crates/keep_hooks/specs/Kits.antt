@@ -14,7 +14,7 @@ abbrev pub named_rule : {I F g : _} → Filter I F g → NamedRule
 named_rule filter = (string_bytes filter.name, filter.rule)
 
 -- those of the filters of a kit, in their order
-abbrev pub filters_of : {I F g : _} → Kit I F g → List NamedRule
+abbrev pub filters_of : {I J K F G H f g h : _} → Kit I J K F G H f g h → List NamedRule
 filters_of kit = map named_rule kit.filters.items
 
 -- the rule of the first filter of this name

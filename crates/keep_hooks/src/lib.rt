@@ -1,12 +1,29 @@
-//! What operators store under names: filters, each a question about snapshots with the rule that it answers by.
+//! What operators store under names, each with the rule that it answers by: filters, questions about snapshots;
+//! vetoes, questions that refuse an event before it is made; watches, counts over the events that were made.
 #![tactic(auto)]
 
 mod filter;
+mod guard;
+mod hooks;
 mod kit;
+mod laws;
+mod limit;
+mod measure;
 mod pick;
 #[cfg(test)]
 mod tests;
+mod veto;
+mod watch;
+mod written;
 
 pub use filter::{AskFacts, Filter};
+pub use guard::{Guard, NoHooks};
+pub use hooks::Hooks;
 pub use kit::Kit;
+pub use laws::measures_are_small;
+pub use limit::Limit;
+pub use measure::Measure;
 pub use pick::{Pick, has_path, has_tag};
+pub use veto::{AskOutline, Veto, first_veto};
+pub use watch::{CountOutline, Watch};
+pub use written::{files_written, makes_change, snapshots_dropped};

@@ -1,3 +1,5 @@
+mod events;
+
 use crate::{AskFacts, Filter, Pick, has_path, has_tag};
 use keep_names::id_of;
 use keep_snap::{Month, SnapFacts};
