@@ -1,0 +1,17 @@
+mod Alike
+mod Carried
+mod Finished
+mod Kept
+mod Listed
+mod Made
+mod Named
+mod Nodes
+mod OneNode
+mod Ordered
+mod Picked
+mod Planned
+mod Remembered
+mod Retreeing
+mod Safety
+mod Several
+mod Turned

@@ -1,0 +1,5 @@
+pub mod Finishing
+pub mod Leaving
+pub mod Rewriting
+pub mod Safe
+pub mod Walking

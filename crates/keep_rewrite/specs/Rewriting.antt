@@ -1,0 +1,121 @@
+-- What a rewrite changes.
+use Rattle.std.specs.Prelude.{Bool, false, not, List, [], ◌++◌, length, nat_lt, filter, map, option_map, slice_get, Option, Result, Ok, Err, if◌then◌else◌}
+use Rattle.std.specs.FinMap as finite
+use Rattle.std.specs.List.{filter_map, flat_map}
+use Rattle.serde_json.specs.Written.{compact_text}
+use Rattle.keep_names.specs.FileName.{named}
+use Rattle.keep_names.specs.declared.file_name.FileName.{FileName}
+use Rattle.keep_names.specs.declared.file_name.Kind.TheVariants.{Snapshot}
+use Rattle.keep_names.specs.declared.id.Id.{Id}
+use Rattle.keep_repo.specs.Repository.{Repository}
+use Rattle.keep_tree.specs.Matching.{is_nil}
+use Rattle.keep_tree.specs.Parsing.{PatternData}
+use Rattle.keep_snap.specs.Facts.{FactsData}
+use Rattle.keep_snap.specs.Relabel.{retreed}
+use Rattle.keep_snap.specs.Snap.{SnapData}
+use Rattle.keep_snap.specs.Written.{snap_data}
+use Rattle.keep_change.specs.NamedBytes.{NamedBytes, file_of}
+use Rattle.keep_change.specs.declared.change.Change.{Change}
+use Rattle.keep_catalog.specs.Files.{snap_in}
+use Rattle.keep_catalog.specs.Reach.{most_levels}
+use Rattle.keep_catalog.specs.Snapshots.{refusals_of}
+use Rattle.keep_hooks.specs.Taking.{taken_in}
+use Rattle.keep_hooks.specs.declared.pick.Pick.{Pick}
+use Rattle.keep_plan.specs.Refusal.{of_reach, unless, unread_first}
+use Rattle.keep_plan.specs.Settling.{absent_files}
+use Rattle.keep_plan.specs.declared.plan_error.PlanError.{PlanError}
+use Rattle.keep_plan.specs.declared.plan_error.PlanError.TheVariants.{NothingToDo, SnapshotThere}
+use Rattle.keep_plan.specs.declared.stored.Stored.{Stored}
+use Rattle.keep_backup.specs.Blobs.{BlobData}
+use Rattle.keep_backup.specs.Stored.{store_of}
+use Rattle.keep_rewrite.specs.Leaving.{finished, loses, tree_left}
+
+-- ---- the snapshots
+
+-- a snapshot, by its name, and the tree that is left of its root
+abbrev pub Retreed : Type 0
+Retreed = Id × Id
+
+-- whether something goes from the snapshot
+abbrev pub snapshot_loses : Repository → List PatternData → FactsData → Bool
+snapshot_loses r patterns s = loses r patterns most_levels [] s.tree
+
+-- the snapshots from which something goes, with the trees that are left
+unfoldable pub retreed_of : Repository → List PatternData → List FactsData → List Retreed
+retreed_of r patterns all =
+    map (λ s. (s.name, tree_left r patterns most_levels [] s.tree)) (filter (snapshot_loses r patterns) all)
+
+-- the trees that are written anew for the snapshots, in the order in which they are finished
+unfoldable pub finished_for : Repository → List PatternData → List FactsData → List BlobData
+finished_for r patterns all = flat_map (λ s. finished r patterns most_levels [] s.tree) all
+
+-- ---- the files
+
+-- the file of the snapshot of this name with another tree; it is tagged where the old one stays
+unfoldable pub retreed_file : Bool → SnapData → Retreed → NamedBytes
+retreed_file forget snap new = file_of Snapshot (compact_text (snap_data (retreed snap new.0 new.1 (not forget))))
+
+-- the new file, if the repository has the snapshot
+abbrev pub new_file : Repository → Bool → Retreed → Option NamedBytes
+new_file r forget new = option_map (λ snap. retreed_file forget snap new) (snap_in r new.0)
+
+abbrev pub new_files : Repository → Bool → List Retreed → List NamedBytes
+new_files r forget retreed = filter_map (new_file r forget) retreed
+
+-- the file of the old snapshot, if it is there
+abbrev pub old_file : Repository → Retreed → Option NamedBytes
+old_file r new =
+    option_map (λ bytes. record { name = named Snapshot new.0; bytes = bytes })
+    (finite.get r.files (named Snapshot new.0))
+
+abbrev pub old_files : Repository → List Retreed → List NamedBytes
+old_files r retreed = filter_map (old_file r) retreed
+
+-- the names of the old snapshots
+abbrev pub old_names : List Retreed → List FileName
+old_names retreed = map (λ new. named Snapshot new.0) retreed
+
+-- ---- the change
+
+-- The new trees are stored, and the new snapshots added. The old snapshots are dropped where they are forgotten,
+-- else they have to be present.
+abbrev pub change_of : Repository → Bool → Stored → List Retreed → List NamedBytes → Change
+change_of r forget stored retreed adds = record {
+  adds = stored.adds ++ adds;
+  drops = if forget then old_files r retreed else [];
+  sets = [];
+  clears = stored.clears;
+  present = if forget then stored.present else stored.present ++ old_names retreed;
+  absent = [];
+  marked = [];
+  unmarked = stored.unmarked;
+  strict = false;
+}
+
+-- the same, unless one of the new snapshots is there, or two are the same, or there is none
+abbrev pub rewriting : Repository → Bool → List Retreed → Stored → Result Change PlanError
+rewriting r forget retreed stored =
+    if nat_lt (length (absent_files r (new_files r forget retreed))) (length (new_files r forget retreed))
+    then Err SnapshotThere
+    else (if is_nil retreed then Err NothingToDo
+    else Ok (change_of r forget stored retreed (absent_files r (new_files r forget retreed))))
+
+-- the same of what is stored, or why nothing is
+abbrev pub rewriting_of : Repository → Bool → List Retreed → Result Stored PlanError → Result Change PlanError
+rewriting_of r forget retreed (Ok stored) = rewriting r forget retreed stored
+rewriting_of r forget retreed (Err why) = Err why
+
+-- the first refusal of what these snapshots reach
+abbrev pub unreached_first : Repository → List FactsData → Option PlanError
+unreached_first r taken = option_map of_reach (slice_get (refusals_of r (map (λ s. s.name) taken)) 0)
+
+-- the change that takes what the patterns match out of these snapshots, or the first refusal
+abbrev pub rewrite_of : Repository → List PatternData → Bool → List FactsData → Result Change PlanError
+rewrite_of r patterns forget taken =
+    unless (unreached_first r taken)
+    (rewriting_of r forget (retreed_of r patterns taken) (store_of r (finished_for r patterns taken)))
+
+-- the change that takes what the patterns match out of the taken snapshots, or the first refusal
+unfoldable pub rewrite_change : Repository → Pick → List PatternData → Bool → Result Change PlanError
+rewrite_change r rule patterns forget =
+    unless (unread_first r) (rewrite_of r patterns forget (taken_in rule r))

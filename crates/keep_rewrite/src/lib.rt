@@ -1,0 +1,14 @@
+//! Rewrites: snapshots made anew without what patterns match.
+#![tactic(auto)]
+
+mod files;
+mod laws;
+mod left;
+mod plan;
+mod retreed;
+#[cfg(test)]
+mod tests;
+mod walk;
+
+pub use laws::{a_planned_rewrite_can_be_made, plan_rewrite_is_safe};
+pub use plan::plan_rewrite;
