@@ -1,3 +1,4 @@
 pub mod Edits
 pub mod Job
+pub mod Patterns
 pub mod Policies

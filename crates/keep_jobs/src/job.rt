@@ -6,6 +6,9 @@ use keep_labels::Count;
 pub struct Settings {
     /// How backups cut files.
     pub cut: Cut,
+    /// The moment that marks get, and until which a sweep counts how long they waited: whole seconds since
+    /// 1970-01-01T00:00:00Z.
+    pub now: i64,
 }
 
 /// What one planner is asked for.
@@ -14,6 +17,13 @@ pub enum Job {
     Backup(Backup),
     Tag(Tag),
     Forget(Forget),
+    Rewrite(Rewrite),
+    /// One index of all packs in the place of all that there are.
+    Repair,
+    /// Marks for the packs that no snapshot needs.
+    Mark,
+    /// To drop the packs whose marks have waited so many seconds; without a number, none.
+    Sweep(Option<u64>),
 }
 
 /// Files to back up as a new snapshot.
@@ -40,6 +50,17 @@ pub struct Forget {
     /// The filter's name.
     pub filter: String,
     pub rules: Vec<Rule>,
+}
+
+/// Snapshots to make anew without what the patterns match, of those that a filter takes.
+#[derive(Debug, Drop)]
+pub struct Rewrite {
+    /// The filter's name.
+    pub filter: String,
+    /// Whether the old snapshots go.
+    pub forget: bool,
+    /// As [`keep_tree::parse_pattern`] reads them.
+    pub patterns: Vec<String>,
 }
 
 /// A part of an edit of tags.

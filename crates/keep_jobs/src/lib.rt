@@ -4,6 +4,7 @@
 mod edits;
 mod error;
 mod job;
+mod patterns;
 mod planning;
 mod policies;
 #[cfg(test)]
@@ -11,6 +12,6 @@ mod tests;
 
 pub use edits::edit_of;
 pub use error::JobError;
-pub use job::{Backup, Forget, Job, Rule, Settings, Span, Tag, TagWord};
+pub use job::{Backup, Forget, Job, Rewrite, Rule, Settings, Span, Tag, TagWord};
 pub use planning::plan;
 pub use policies::policy_of;

@@ -5,17 +5,20 @@ ghost use Rattle.keep_change.specs.Form.{IsWellFormed};
 ghost use Rattle.keep_docs.specs.Doc.{Answers};
 ghost use Rattle.keep_hooks.specs.Kits.{filters_of};
 ghost use Rattle.keep_jobs.specs.Job as spec;
-ghost use Rattle.keep_jobs.specs.Job.{forgetting, job_change, no_memory, or_refused, settings_view, tagging};
+ghost use Rattle.keep_jobs.specs.Job.{forgetting, job_change, no_memory, or_refused, rewriting, settings_view, tagging};
 ghost use Rattle.keep_repo.specs.Repository.{held};
 
 use crate::edits::edit_of;
 use crate::error::JobError;
-use crate::job::{Backup, Forget, Job, Settings, Tag};
+use crate::job::{Backup, Forget, Job, Rewrite, Settings, Tag};
+use crate::patterns::patterns_of;
 use crate::policies::policy_of;
 use keep_backup::{BackupFacts, plan_backup};
 use keep_change::Planned;
 use keep_hooks::Kit;
 use keep_labels::{plan_forget, plan_tag};
+use keep_rewrite::plan_rewrite;
+use keep_upkeep::{plan_mark, plan_repair, plan_sweep};
 use keep_view::View;
 use std::alloc::{AllocError, Global};
 
@@ -38,6 +41,10 @@ pub fn plan(
         Job::Backup(backup) => back_up(alloc, view, settings, backup),
         Job::Tag(tag) => change_tags(alloc, view, kit, tag),
         Job::Forget(forget) => forget_some(alloc, view, kit, forget),
+        Job::Rewrite(rewrite) => rewrite_some(alloc, view, kit, rewrite),
+        Job::Repair => Ok(plan_repair(alloc, view)?),
+        Job::Mark => Ok(plan_mark(alloc, view, settings.now)?),
+        Job::Sweep(wait) => Ok(plan_sweep(alloc, view, settings.now, wait.unwrap_or(0))?),
     }
 }
 
@@ -98,6 +105,27 @@ fn forget_some(alloc: Global, view: &View, kit: &Kit, forget: &Forget) -> Result
         if filter.name.as_str() == forget.filter.as_str() {
             let policy = policy_of(alloc, &forget.rules)?;
             return Ok(plan_forget(alloc, view, filter, &policy)?);
+        }
+    }
+    Err(JobError::NoFilter)
+}
+
+fn rewrite_some(
+    alloc: Global,
+    view: &View,
+    kit: &Kit,
+    rewrite: &Rewrite,
+) -> Result<Planned, JobError>
+    ensures change { Answers no_memory (λ planned. planned.change)
+        (rewriting view.now (filters_of kit.now) rewrite.now) result }
+    ensures seen { IfOk result (λ planned. planned.seen ≡ view.now.length) }
+    ensures well_formed { IfOk result (λ planned. IsWellFormed planned.change) }
+    ensures met { IfOk result (λ planned. is_met (held view.now.repo) planned.change ≡ true) }
+{
+    for filter in &kit.filters {
+        if filter.name.as_str() == rewrite.filter.as_str() {
+            let patterns = patterns_of(alloc, &rewrite.patterns)?;
+            return Ok(plan_rewrite(alloc, view, filter, &patterns, rewrite.forget)?);
         }
     }
     Err(JobError::NoFilter)

@@ -20,6 +20,7 @@ fn adds_of(alloc: Global, kit: &Kit, job: &Job) -> Result<usize, JobError> {
     let view = View::without_events(&live, &history);
     let settings = Settings {
         cut: Cut::after(SETTINGS_CUT),
+        now: 0,
     };
     let planned = plan(alloc, &view, settings, kit, job)?;
     Ok(planned.change.adds.as_slice().len())
@@ -52,6 +53,8 @@ fn jobs_are_planned_or_refused(rt: HostRuntime) -> Result<(), Fail> {
     let all = Filter::new(String::from_str(alloc, "all")?, Pick::Any, ask);
     let kit = Kit {
         filters: vec![in alloc; all]?,
+        vetoes: Vec::new(alloc),
+        watches: Vec::new(alloc),
     };
     let good = backup_at(alloc, "2024-01-01T00:00:00Z")?;
     assert_eq!(rt; adds_of(alloc, &kit, &good), Ok(4));
@@ -61,6 +64,15 @@ fn jobs_are_planned_or_refused(rt: HostRuntime) -> Result<(), Fail> {
     let forget = forget_by(alloc, "all")?;
     let refused = adds_of(alloc, &kit, &forget);
     assert_eq!(rt; refused, Err(JobError::Refused(PlanError::NothingToDo)));
+    for job in [
+        Job::Repair,
+        Job::Mark,
+        Job::Sweep(None),
+        Job::Sweep(Some(1)),
+    ] {
+        let refused = adds_of(alloc, &kit, &job);
+        assert_eq!(rt; refused, Err(JobError::Refused(PlanError::NothingToDo)));
+    }
     let forget = forget_by(alloc, "al")?;
     assert_eq!(rt; adds_of(alloc, &kit, &forget), Err(JobError::NoFilter));
     Ok(())

@@ -66,7 +66,8 @@ number_first : (front rest : List ℕ) → AsksNumber front → AsksNumber (firs
 unfolding first_word
 number_first front rest (inl e) = inl (ap (λ f. first_word (f ++ 32 ∷ rest)) e)
 number_first front rest (inr (inl e)) = inr (inl (ap (λ f. first_word (f ++ 32 ∷ rest)) e))
-number_first front rest (inr (inr e)) = inr (inr (ap (λ f. first_word (f ++ 32 ∷ rest)) e))
+number_first front rest (inr (inr (inl e))) = inr (inr (inl (ap (λ f. first_word (f ++ 32 ∷ rest)) e)))
+number_first front rest (inr (inr (inr e))) = inr (inr (inr (ap (λ f. first_word (f ++ 32 ∷ rest)) e)))
 
 name_first : (front rest : List ℕ) → AsksName front → AsksName (first_word (front ++ 32 ∷ rest))
 unfolding first_word
@@ -82,7 +83,8 @@ words_first : (front rest : List ℕ) → AsksWords front → AsksWords (first_w
 unfolding first_word
 words_first front rest (inl e) = inl (ap (λ f. first_word (f ++ 32 ∷ rest)) e)
 words_first front rest (inr (inl e)) = inr (inl (ap (λ f. first_word (f ++ 32 ∷ rest)) e))
-words_first front rest (inr (inr e)) = inr (inr (ap (λ f. first_word (f ++ 32 ∷ rest)) e))
+words_first front rest (inr (inr (inl e))) = inr (inr (inl (ap (λ f. first_word (f ++ 32 ∷ rest)) e)))
+words_first front rest (inr (inr (inr e))) = inr (inr (inr (ap (λ f. first_word (f ++ 32 ∷ rest)) e)))
 
 restore_first : (front rest : List ℕ) → front ≡ codes "restore" → first_word (front ++ 32 ∷ rest) ≡ codes "restore"
 unfolding first_word
@@ -116,12 +118,14 @@ none_of_other text r x h e other = λ front rest asks split.
 AsksOne-letter : (verb : List ℕ) → AsksOne verb → (get_or verb 0 0 ≢ 97) × (get_or verb 0 0 ≢ 100)
 AsksOne-letter verb (inl (inl e)) = rw e (λ h. omega (arith, h), λ h. omega (arith, h))
 AsksOne-letter verb (inl (inr (inl e))) = rw e (λ h. omega (arith, h), λ h. omega (arith, h))
-AsksOne-letter verb (inl (inr (inr e))) = rw e (λ h. omega (arith, h), λ h. omega (arith, h))
+AsksOne-letter verb (inl (inr (inr (inl e)))) = rw e (λ h. omega (arith, h), λ h. omega (arith, h))
+AsksOne-letter verb (inl (inr (inr (inr e)))) = rw e (λ h. omega (arith, h), λ h. omega (arith, h))
 AsksOne-letter verb (inr (inl (inl e))) = rw e (λ h. omega (arith, h), λ h. omega (arith, h))
 AsksOne-letter verb (inr (inl (inr e))) = rw e (λ h. omega (arith, h), λ h. omega (arith, h))
 AsksOne-letter verb (inr (inr (inl (inl e)))) = rw e (λ h. omega (arith, h), λ h. omega (arith, h))
 AsksOne-letter verb (inr (inr (inl (inr (inl e))))) = rw e (λ h. omega (arith, h), λ h. omega (arith, h))
-AsksOne-letter verb (inr (inr (inl (inr (inr e))))) = rw e (λ h. omega (arith, h), λ h. omega (arith, h))
+AsksOne-letter verb (inr (inr (inl (inr (inr (inl e)))))) = rw e (λ h. omega (arith, h), λ h. omega (arith, h))
+AsksOne-letter verb (inr (inr (inl (inr (inr (inr e)))))) = rw e (λ h. omega (arith, h), λ h. omega (arith, h))
 AsksOne-letter verb (inr (inr (inr e))) = rw e (λ h. omega (arith, h), λ h. omega (arith, h))
 
 two_words : (verb : List ℕ) → AsksKind verb → AsksOne verb → ⊥

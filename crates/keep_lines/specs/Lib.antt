@@ -9,6 +9,7 @@ pub mod Question
 pub mod RawFile
 pub mod Reply
 pub mod Revision
+pub mod RewriteLine
 pub mod TagLine
 pub mod Telling
 pub mod Word

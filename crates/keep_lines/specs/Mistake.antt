@@ -9,10 +9,11 @@ use Rattle.keep_lines.specs.Command.{IsNoCommand}
 use Rattle.keep_lines.specs.ForgetLine.{IsForget, forget_text}
 use Rattle.keep_lines.specs.Line.{IsPassedOver, IsText, longest_line}
 use Rattle.keep_lines.specs.Prints.{NonePrints}
+use Rattle.keep_lines.specs.RewriteLine.{IsRewrite, rewrite_text}
 use Rattle.keep_lines.specs.TagLine.{IsTag, tag_text}
 use Rattle.keep_lines.specs.Word.{AreBytes, IsKind, IsName, IsNumber, IsTarget, hex_word, target_text}
 use Rattle.keep_lines.specs.declared.mistake.Mistake.{Mistake}
-use Rattle.keep_lines.specs.declared.mistake.Mistake.TheVariants.{TooLong, NotText, NoCommand, NotKind, NotHex, NotNumber, NotName, NotTarget, NotBackup, NotTag, NotForget, NoFilter, NoFile, NoNote}
+use Rattle.keep_lines.specs.declared.mistake.Mistake.TheVariants.{TooLong, NotText, NoCommand, NotKind, NotHex, NotNumber, NotName, NotTarget, NotBackup, NotTag, NotForget, NotRewrite, NoFilter, NoFile, NoNote}
 
 -- what an operator is told
 abbrev pub mistake_text : Mistake → List ℕ
@@ -27,13 +28,15 @@ mistake_text NotTarget = codes "neither 64 digits nor @N"
 mistake_text NotBackup = codes "not HOST TIME PATH=HEX .."
 mistake_text NotTag = codes "not FILTER, and words +T, -T or =T"
 mistake_text NotForget = codes "not FILTER, and rules last=N .. yearly=N once each, or tag=T"
+mistake_text NotRewrite = codes "not FILTER PATTERN .. or FILTER forget PATTERN .."
 mistake_text NoFilter = codes "no such FILTER"
 mistake_text NoFile = codes "@N names nothing"
 mistake_text NoNote = codes "no note of this NAME"
 
 -- behind these words a number is asked for
 abbrev pub AsksNumber : List ℕ → Type 0
-AsksNumber verb = (verb ≡ codes "undo") ⊎ ((verb ≡ codes "redo") ⊎ (verb ≡ codes "empty"))
+AsksNumber verb =
+    (verb ≡ codes "undo") ⊎ ((verb ≡ codes "redo") ⊎ ((verb ≡ codes "empty") ⊎ (verb ≡ codes "sweep")))
 
 -- behind these, a name
 abbrev pub AsksName : List ℕ → Type 0
@@ -63,9 +66,13 @@ AsksTag verb = verb ≡ codes "tag"
 abbrev pub AsksForget : List ℕ → Type 0
 AsksForget verb = verb ≡ codes "forget"
 
+-- behind this, a filter and patterns, maybe with `forget` between
+abbrev pub AsksRewrite : List ℕ → Type 0
+AsksRewrite verb = verb ≡ codes "rewrite"
+
 -- behind these, any number of words
 abbrev pub AsksWords : List ℕ → Type 0
-AsksWords verb = AsksBackup verb ⊎ (AsksTag verb ⊎ AsksForget verb)
+AsksWords verb = AsksBackup verb ⊎ (AsksTag verb ⊎ (AsksForget verb ⊎ AsksRewrite verb))
 
 -- behind such a front, and a space, the last words of a line stand: it is one word, or two where a kind is asked for
 abbrev pub AsksMore : List ℕ → Type 0
@@ -101,6 +108,7 @@ Explains text NotTarget = EndsInNo AsksTarget IsTarget target_text text
 Explains text NotBackup = EndsInNo AsksBackup IsBackup backup_text text
 Explains text NotTag = EndsInNo AsksTag IsTag tag_text text
 Explains text NotForget = EndsInNo AsksForget IsForget forget_text text
+Explains text NotRewrite = EndsInNo AsksRewrite IsRewrite rewrite_text text
 Explains text NoFilter = ⊥
 Explains text NoFile = ⊥
 Explains text NoNote = ⊥

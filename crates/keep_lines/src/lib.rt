@@ -11,6 +11,7 @@ mod question;
 mod raw_file;
 mod reply;
 mod revision;
+mod rewrite_line;
 mod tag_line;
 mod telling;
 #[cfg(test)]

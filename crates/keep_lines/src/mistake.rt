@@ -30,6 +30,8 @@ pub enum Mistake {
     NotTag,
     /// What follows `forget` isn't a filter's name and rules, each count once.
     NotForget,
+    /// What follows `rewrite` isn't a filter's name, with or without `forget`, and patterns.
+    NotRewrite,
     /// No filter has the name.
     NoFilter,
     /// `@N` names nothing: change N added no such file.
@@ -57,6 +59,7 @@ impl fmt::Display for Mistake {
             Mistake::NotBackup => "not HOST TIME PATH=HEX ..",
             Mistake::NotTag => "not FILTER, and words +T, -T or =T",
             Mistake::NotForget => { "not FILTER, and rules last=N .. yearly=N once each, or tag=T" }
+            Mistake::NotRewrite => "not FILTER PATTERN .. or FILTER forget PATTERN ..",
             Mistake::NoFilter => "no such FILTER",
             Mistake::NoFile => "@N names nothing",
             Mistake::NoNote => "no note of this NAME",
@@ -74,12 +77,13 @@ pub(crate) fn mistake_of(text: &str) -> Mistake
         return Mistake::NoCommand;
     };
     match verb {
-        "undo" | "redo" | "empty" => Mistake::NotNumber,
+        "undo" | "redo" | "empty" | "sweep" => Mistake::NotNumber,
         "note" | "same" => Mistake::NotName,
         "restore" => Mistake::NotTarget,
         "backup" => Mistake::NotBackup,
         "tag" => Mistake::NotTag,
         "forget" => Mistake::NotForget,
+        "rewrite" => Mistake::NotRewrite,
         "add" | "drop" => mistake_of_file(verb, rest),
         _ => Mistake::NoCommand,
     }

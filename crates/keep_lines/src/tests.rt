@@ -115,6 +115,23 @@ fn asked(alloc: Global, line: &str) -> Result<&'static str, LineError> {
             }
             _ => Ok("forget"),
         },
+        Some(Command::Job(Job::Rewrite(rewrite))) => {
+            match (rewrite.forget, rewrite.patterns.as_slice()) {
+                (true, []) => Ok("rewrite that forgets, of nothing"),
+                (true, [pattern]) if pattern.as_str() == "forget" => {
+                    Ok("rewrite that forgets, of what is named forget")
+                }
+                (false, [_, _]) => Ok("rewrite by two patterns"),
+                _ => Ok("rewrite"),
+            }
+        }
+        Some(Command::Job(Job::Repair)) => Ok("repair"),
+        Some(Command::Job(Job::Mark)) => Ok("mark"),
+        Some(Command::Job(Job::Sweep(None))) => Ok("sweep"),
+        Some(Command::Job(Job::Sweep(Some(wait)))) => match wait {
+            u64::MAX => Ok("sweep after the longest wait"),
+            _ => Ok("sweep after a wait"),
+        },
         Some(Command::RawFile(RawFile::Add { bytes, .. })) => match bytes.is_empty() {
             true => Ok("add of nothing"),
             false => Ok("add"),
@@ -154,6 +171,20 @@ fn lines_are_read(rt: HostRuntime) {
             "forget",
         ),
         ("forget all", "forget"),
+        ("rewrite all", "rewrite"),
+        ("rewrite all *.o /tmp", "rewrite by two patterns"),
+        ("rewrite all x forget", "rewrite by two patterns"),
+        ("rewrite all forget", "rewrite that forgets, of nothing"),
+        (
+            "rewrite forget forget forget",
+            "rewrite that forgets, of what is named forget",
+        ),
+        ("rewrite all forget/ //", "rewrite by two patterns"),
+        ("repair", "repair"),
+        ("mark", "mark"),
+        ("sweep", "sweep"),
+        ("sweep 0", "sweep after a wait"),
+        ("sweep 18446744073709551615", "sweep after the longest wait"),
         ("add pack -", "add of nothing"),
         ("add index 61", "add"),
         ("drop snapshot @3", "drop of what change 3 added"),
@@ -177,6 +208,11 @@ fn bad_lines_are_explained(rt: HostRuntime) {
         ("audit ", Mistake::NoCommand),
         ("add index", Mistake::NoCommand),
         ("é", Mistake::NoCommand),
+        ("mark 1", Mistake::NoCommand),
+        ("repair ", Mistake::NoCommand),
+        ("sweep -1", Mistake::NotNumber),
+        ("sweep 00", Mistake::NotNumber),
+        ("sweep 18446744073709551616", Mistake::NotNumber),
         ("undo 01", Mistake::NotNumber),
         ("redo +1", Mistake::NotNumber),
         ("empty 18446744073709551616", Mistake::NotNumber),
@@ -207,6 +243,12 @@ fn bad_lines_are_explained(rt: HostRuntime) {
         ("forget all last=4294967297", Mistake::NotForget),
         ("forget all daily=1 tag=a daily=2", Mistake::NotForget),
         ("forget all last", Mistake::NotForget),
+        ("rewrite", Mistake::NoCommand),
+        ("rewrite ", Mistake::NotRewrite),
+        ("rewrite  a", Mistake::NotRewrite),
+        ("rewrite all ", Mistake::NotRewrite),
+        ("rewrite all forget ", Mistake::NotRewrite),
+        ("rewrite all a  b", Mistake::NotRewrite),
         ("a\tb", Mistake::NotText),
     ] {
         let bad = Err(LineError::Bad(why));

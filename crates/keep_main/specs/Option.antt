@@ -1,5 +1,5 @@
 -- The options of the program, as clap takes them from the words behind the program's name.
-use Rattle.std.specs.Prelude.{◌≡◌, ◌<◌, ℕ, Bool, true, not, ◌&&◌, IsSome, List, Option, Some, None, if◌then◌else◌, codes, slice_get, take, unwrap_or}
+use Rattle.std.specs.Prelude.{◌≡◌, ◌<◌, ℕ, ℤ, pos, Bool, true, not, ◌&&◌, IsSome, List, Option, Some, None, if◌then◌else◌, codes, slice_get, take, unwrap_or}
 use Rattle.std.specs.List.{list_any}
 use Rattle.std.specs.Str.{bytes_eq}
 use Rattle.std.specs.Option.{option_map_or}
@@ -9,6 +9,7 @@ use Rattle.clap.specs.Words.{App, Row, Rule, fault_of, first_of, matches_of, new
 use Rattle.clap.specs.Simple.{on_top}
 use Rattle.clap.specs.Walk.{is_empty}
 use Rattle.keep_docs.specs.Fields.{◌>>=◌}
+use Rattle.keep_snap.specs.Time.{moment_in}
 use Rattle.keep_main.specs.declared.options.Options.{Options}
 
 -- an option that takes one value: `--NAME VALUE` or `--NAME=VALUE`
@@ -22,7 +23,8 @@ program = on_top (λ top. record top { no_binary_name = true }) (new_app (codes 
 -- the program's command: its options
 abbrev pub command : App
 command =
-    with_rule (with_rule (with_rule program (option (codes "cut"))) (option (codes "host"))) (option (codes "tagged"))
+    with_rule (with_rule (with_rule (with_rule program (option (codes "cut"))) (option (codes "now")))
+    (option (codes "host"))) (option (codes "tagged"))
 
 -- the number that a word writes, if it is one from `least` to `most`: decimal digits, a plus in front or not
 abbrev pub number_in : ℕ → ℕ → List ℕ → Option ℕ
@@ -33,22 +35,29 @@ number_in least most word =
 abbrev pub number_or : ℕ → ℕ → ℕ → Option (List ℕ) → Option ℕ
 number_or least most usual word = option_map_or (number_in least most) word (Some usual)
 
--- after how many bytes backups cut files, the host of the filter `host`, and the tag of the filter `tagged`
+-- the moment that an option writes, and 1970-01-01T00:00:00Z where the words don't give it
+abbrev pub moment_or_first : Option (List ℕ) → Option ℤ
+moment_or_first word = option_map_or moment_in word (Some (pos 0))
+
+-- after how many bytes backups cut files, the moment for marks and sweeps, the host of the filter `host`, and the tag of the filter `tagged`
 pub record OptionsData : Type 0 where
   pub cut : ℕ
+  pub now : ℤ
   pub host : List ℕ
   pub tagged : List ℕ
 
 -- the same without where the texts lie in memory
 abbrev pub options_view : Options → OptionsData
-options_view options = record { cut = options.cut; host = options.host.now; tagged = options.tagged.now }
+options_view options = record { cut = options.cut; now = options.now; host = options.host.now; tagged = options.tagged.now }
 
 -- what the command's matches say: each option's value, and its default where the words don't give it
 abbrev pub options_in : List Row → Option OptionsData
 options_in rows = do
   cut ← number_or 1 8388608 1048576 (first_of (codes "cut") rows)
+  now ← moment_or_first (first_of (codes "now") rows)
   Some (record {
     cut = cut;
+    now = now;
     host = unwrap_or (first_of (codes "host") rows) (codes "web");
     tagged = unwrap_or (first_of (codes "tagged") rows) (codes "keep");
   })

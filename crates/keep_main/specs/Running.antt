@@ -14,14 +14,14 @@ use Rattle.keep_main.specs.Option.{OptionsData}
 abbrev pub stored : String Global → String Global → List NamedRule
 stored host tag = (codes "all", Any) ∷ (codes "host", Host host) ∷ (codes "tagged", Tagged tag) ∷ []
 
--- the script is answered, where files are cut and the filters take snapshots by the options
+-- the script is answered, where files are cut, marks wait and the filters take snapshots by the options
 pub record Runs (options : OptionsData) (known left old new : Option (List ℕ)) (status : Status) : Type 0 where
   pub host : String Global
   pub tag : String Global
   pub of_host : string_bytes host ≡ options.host
   pub of_tag : string_bytes tag ≡ options.tagged
   pub answers : Writes old new (λ text. (after : State)
-      × Ends (begun (settled options.cut (stored host tag))) known left text status after)
+      × Ends (begun (settled options.cut options.now (stored host tag))) known left text status after)
 
 -- nothing is read or written
 abbrev pub IsUntouched : Option (List ℕ) → Option (List ℕ) → Option (List ℕ) → Option (List ℕ) → Type 0

@@ -8,6 +8,7 @@ ghost use Rattle.keep_main.specs.declared.options.BadOptions.TheVariants.{Memory
 
 use clap::error::ErrorKind;
 use clap::{Arg, ArgMatches, Command};
+use keep_snap::parse_moment;
 use std::alloc::{AllocError, Global};
 use thiserror::Error;
 
@@ -16,6 +17,8 @@ use thiserror::Error;
 pub(crate) struct Options<'a> {
     /// After how many bytes a backup cuts a file into blobs: 1 to 8,388,608.
     pub cut: u32,
+    /// The moment for marks and sweeps: whole seconds since 1970-01-01T00:00:00Z.
+    pub now: i64,
     /// The host whose snapshots the filter `host` takes. It may be empty.
     pub host: &'a str,
     /// The tag whose snapshots the filter `tagged` takes.
@@ -55,7 +58,8 @@ impl From<clap::Error> for BadOptions {
 /// Reads the options from the words behind the program's name.
 ///
 /// An option is `--NAME VALUE` or `--NAME=VALUE`, and stands once at most. A value that begins with
-/// `-` has to be joined by `=`. A number is decimal digits, and a plus may stand in front.
+/// `-` has to be joined by `=`. A number is decimal digits, and a plus may stand in front. A time is as RFC 3339
+/// writes it.
 pub(crate) fn read_options<'a>(
     alloc: Global,
     words: &'a [&'a str],
@@ -104,6 +108,7 @@ fn command<'a>(alloc: Global) -> Result<Command<'a>, AllocError>
 {
     let program = Command::new(alloc, "keepd").no_binary_name(true);
     let command = with_option(alloc, program, "cut")?;
+    let command = with_option(alloc, command, "now")?;
     let command = with_option(alloc, command, "host")?;
     let command = with_option(alloc, command, "tagged")?;
     Ok(command)
@@ -127,9 +132,25 @@ fn options_in<'a>(matches: &ArgMatches<'a>) -> Result<Options<'a>, BadOptions>
     ensures range { IfOk result (λ options. (1 ≤ options.cut) × (options.cut ≤ 8388608)) }
 {
     let cut = CUTS.read(matches.get_str("cut"))?;
+    let now = read_moment(matches.get_str("now"))?;
     let host = matches.get_str("host").unwrap_or("web");
     let tagged = matches.get_str("tagged").unwrap_or("keep");
-    Ok(Options { cut, host, tagged })
+    Ok(Options {
+        cut,
+        now,
+        host,
+        tagged,
+    })
+}
+
+/// The moment that the word writes, or the one that is usual.
+fn read_moment(word: Option<&str>) -> Result<i64, BadOptions>
+    ensures { result ≡ ok_or (options.moment_or_first (option_map (λ text. text.now) word.entry)) Refused }
+{
+    let Some(text) = word else {
+        return Ok(0);
+    };
+    parse_moment(text).ok_or(BadOptions::Refused)
 }
 
 /// The numbers that an option takes, and the one that stands where the words give none.

@@ -78,8 +78,10 @@ fn answer<R: Read, W: Write>(
     let by_tag = Filter::new(String::from_str(alloc, "tagged")?, rule, ask);
     let kit = Kit {
         filters: vec![in alloc; all, by_host, by_tag]?,
+        vetoes: Vec::new(alloc),
+        watches: Vec::new(alloc),
     };
-    Ok(run(alloc, reader, writer, &kit, options.cut))
+    Ok(run(alloc, reader, writer, &kit, options.cut, options.now))
 }
 
 /// The end where the words aren't options.

@@ -155,6 +155,43 @@ fn words_give_host_and_tag(rt: HostRuntime) {
 }
 
 #[test]
+fn words_give_the_moment(rt: HostRuntime) {
+    let alloc = rt.alloc();
+    for (words, now) in [
+        (["--now", "1970-01-01T00:16:40Z"].as_slice(), 1_000),
+        (&["--now=1970-01-01T00:16:40.999999999Z"], 1_000),
+        (&["--now", "1969-12-31T23:59:59.5Z"], -1),
+        (&["--now", "1970-01-01T01:00:00+01:00"], 0),
+        (&["--cut", "4"], 0),
+    ] {
+        let options = read_options(alloc, words).expect(&rt, "options");
+        assert_eq!(rt; options.now, now);
+    }
+}
+
+#[test]
+fn marks_wait_by_the_option(rt: HostRuntime) {
+    let script = "backup web 2024-01-01T10:00:00Z /a=61\n\
+                  drop snapshot @1\n\
+                  mark\n\
+                  sweep 1\n\
+                  sweep 0\n";
+    let answers = "ok 1 at 1 +4 -0 *0 ~0\n\
+                   ok 2 at 2 +0 -1 *0 ~0\n\
+                   ok 3 at 3 +0 -0 *2 ~0\n\
+                   no NothingToDo\n\
+                   ok 4 at 4 +0 -3 *0 ~2\n";
+    expect(
+        &rt,
+        rt.alloc(),
+        &["--now", "1970-01-01T00:16:40Z"],
+        &mut script.as_bytes(),
+        AMPLE,
+        (answers, DONE, 0),
+    );
+}
+
+#[test]
 fn filters_go_by_the_options(rt: HostRuntime) {
     let script = "backup db 2024-01-01T10:00:00Z /a=61\n\
                   backup db 2024-01-02T10:00:00Z /a=61\n\
@@ -196,6 +233,13 @@ fn other_words_are_bad_options(rt: HostRuntime) {
         (&["--cut", "-4"], "--cut"),
         (&["--cut", "4", "--cut", "5"], "--cut"),
         (&["--cut", "4", "--cut=5"], "--cut=5"),
+        (&["--now", "1970-01-01"], "--now"),
+        (&["--now", "0"], "--now"),
+        (&["--now="], "--now="),
+        (
+            &["--now=9999-12-31T00:00:00Z"],
+            "--now=9999-12-31T00:00:00Z",
+        ),
         (&["--host"], "--host"),
         (&["--host", "-x"], "--host"),
         (&["--tagged", "a", "--tagged=b"], "--tagged=b"),
@@ -213,7 +257,7 @@ fn other_words_are_bad_options(rt: HostRuntime) {
     ] {
         let mut script = b"count".as_slice();
         let said = format!(in alloc;
-            "keepd: bad option: {bad}; usage: keepd [--cut N] [--host H] [--tagged T] < SCRIPT"
+            "keepd: bad option: {bad}; usage: keepd [--cut N] [--now TIME] [--host H] [--tagged T] < SCRIPT"
         ).expect(&rt, "memory");
         expect(
             &rt,

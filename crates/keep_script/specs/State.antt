@@ -1,5 +1,5 @@
 -- What the lines of a run work on.
-use Rattle.std.specs.Prelude.{ℕ, List, Option, Some, None, if◌then◌else◌}
+use Rattle.std.specs.Prelude.{ℕ, ℤ, List, Option, Some, None, if◌then◌else◌}
 use Rattle.std.specs.BTreeMap.{get_by_text}
 use Rattle.std.specs.Str.{bytes_eq}
 use Rattle.keep_repo.specs.Repository.{Repository, empty_repository}
@@ -19,9 +19,9 @@ pub record State : Type 0 where
 abbrev pub no_notes : List ℕ → Option Repository
 no_notes name = None
 
--- what jobs go by: backups cut files after so many bytes, and these filters are stored
-abbrev pub settled : ℕ → List NamedRule → SettingsData
-settled cut filters = record { cut = cut; filters = filters }
+-- what jobs go by: backups cut files after so many bytes, it is this moment, and these filters are stored
+abbrev pub settled : ℕ → ℤ → List NamedRule → SettingsData
+settled cut now filters = record { cut = cut; now = now; filters = filters }
 
 -- a book, and no notes
 abbrev pub begun_over : SettingsData → BookState → State

@@ -27,18 +27,20 @@ use std::io::{Read, Write};
 /// `restore` and `audit` are written line by line. Where one finds no memory midway, its first
 /// lines are written already, and the run ends as `NoMemory`.
 ///
-/// Lines name the filters of the kit. Files are cut for a backup after every `cut` bytes, 1 to 8,388,608.
+/// Lines name the filters of the kit. Files are cut for a backup after every `cut` bytes, 1 to 8,388,608. For marks
+/// and sweeps it is `now`, in whole seconds since 1970-01-01T00:00:00Z, from the first line to the last.
 pub fn run<R: Read, W: Write>(
     alloc: Global,
     reader: &mut R,
     writer: &mut W,
     kit: &Kit,
     cut: u32,
+    now: i64,
 ) -> Status
     requires some { 0 < cut }
     requires most { cut ≤ 8_388_608 }
     ensures answers { Writes (W.contents writer.old) (W.contents writer.new) (λ text. (after : State)
-        × Ends (begun (settled cut (filters_of kit.now))) (R.remaining reader.old) (R.remaining reader.new) text result after) }
+        × Ends (begun (settled cut now (filters_of kit.now))) (R.remaining reader.old) (R.remaining reader.new) text result after) }
     ensures whole { result ≢ Status.WriteFailed → WritesLines (W.contents writer.old) (W.contents writer.new) }
     ensures limit { result ≡ Status.Done →
         IfSome (R.remaining reader.old) (λ script. length script < longest_script) }
@@ -47,6 +49,7 @@ pub fn run<R: Read, W: Write>(
 {
     let settings = Settings {
         cut: Cut::after(cut),
+        now,
     };
     let mut book = Book::new(alloc, Repo::new(alloc));
     run_over(alloc, settings, kit, &mut book, reader, writer)

@@ -1,7 +1,10 @@
 mod backups;
 mod ends;
 mod labels;
+mod operators;
+mod rewrites;
 mod rows;
+mod upkeep;
 mod writing;
 
 use crate::{Status, run};
@@ -11,25 +14,39 @@ use keep_hooks::{AskFacts, Filter, Kit, Pick, has_tag};
 use keep_lines::Mistake;
 use keep_snap::SnapFacts;
 use labels::LABELS;
+use rewrites::REWRITES;
 use rows::{BAD_LINES, EXAMPLES, ROWS, Row};
 use std::alloc::{AllocError, Global};
 use std::io::Read;
 use std::process::Abort;
 use std::test::Fail;
+use upkeep::UPKEEP;
 
 /// After how many bytes the runs of these tests cut files.
 const CUT: u32 = 1_048_576;
 
-/// A kit without filters.
+/// What moment it is to them.
+const NOW: i64 = 1_000;
+
+/// A kit in which nothing is stored.
 fn nothing_stored(alloc: Global) -> Kit {
     Kit {
         filters: Vec::new(alloc),
+        vetoes: Vec::new(alloc),
+        watches: Vec::new(alloc),
     }
 }
 
 fn expect<R: Read>(rt: &impl Abort, alloc: Global, reader: &mut R, answers: &str, status: Status) {
     let mut written = Vec::new(alloc);
-    let ended = run(alloc, reader, &mut written, &nothing_stored(alloc), CUT);
+    let ended = run(
+        alloc,
+        reader,
+        &mut written,
+        &nothing_stored(alloc),
+        CUT,
+        NOW,
+    );
     assert_eq!(rt; ended, status, "before {answers}");
     assert!(rt; written.as_slice() == answers.as_bytes(), "not {answers}");
 }
@@ -38,7 +55,7 @@ fn expect<R: Read>(rt: &impl Abort, alloc: Global, reader: &mut R, answers: &str
 fn expect_row(rt: &impl Abort, alloc: Global, kit: &Kit, row: Row) {
     let (script, answers, status) = row;
     let mut written = Vec::new(alloc);
-    let ended = run(alloc, &mut script.as_bytes(), &mut written, kit, CUT);
+    let ended = run(alloc, &mut script.as_bytes(), &mut written, kit, CUT, NOW);
     assert_eq!(rt; ended, status, "before {answers}");
     assert!(rt; written.as_slice() == answers.as_bytes(), "not {answers}");
     let mut slow = Slow {
@@ -47,7 +64,7 @@ fn expect_row(rt: &impl Abort, alloc: Global, kit: &Kit, row: Row) {
         fails: false,
     };
     let mut written = Vec::new(alloc);
-    let ended = run(alloc, &mut slow, &mut written, kit, CUT);
+    let ended = run(alloc, &mut slow, &mut written, kit, CUT, NOW);
     assert_eq!(rt; ended, status, "before {answers}");
     assert!(rt; written.as_slice() == answers.as_bytes(), "not {answers}");
 }
@@ -61,20 +78,6 @@ fn scripts_are_answered(rt: HostRuntime) {
 }
 
 #[test]
-fn examples_are_answered(rt: HostRuntime) -> Result<(), Fail> {
-    let alloc = rt.alloc();
-    let ask: AskFacts = Box::new(alloc, |_: &SnapFacts| true)?;
-    let all = Filter::new(String::from_str(alloc, "all")?, Pick::Any, ask);
-    let kit = Kit {
-        filters: vec![in alloc; all]?,
-    };
-    for row in EXAMPLES {
-        expect_row(&rt, alloc, &kit, row);
-    }
-    Ok(())
-}
-
-#[test]
 fn backups_are_answered(rt: HostRuntime) {
     let kit = nothing_stored(rt.alloc());
     for row in BACKUPS {
@@ -83,7 +86,7 @@ fn backups_are_answered(rt: HostRuntime) {
 }
 
 #[test]
-fn tags_and_forgets_are_answered(rt: HostRuntime) -> Result<(), Fail> {
+fn lines_with_filters_are_answered(rt: HostRuntime) -> Result<(), Fail> {
     let alloc = rt.alloc();
     let ask: AskFacts = Box::new(alloc, |_: &SnapFacts| true)?;
     let all = Filter::new(String::from_str(alloc, "all")?, Pick::Any, ask);
@@ -92,9 +95,18 @@ fn tags_and_forgets_are_answered(rt: HostRuntime) -> Result<(), Fail> {
     let by_tag = Filter::new(String::from_str(alloc, "tagged")?, rule, ask);
     let kit = Kit {
         filters: vec![in alloc; all, by_tag]?,
+        vetoes: Vec::new(alloc),
+        watches: Vec::new(alloc),
     };
-    for row in LABELS {
-        expect_row(&rt, alloc, &kit, row);
+    for rows in [
+        EXAMPLES.as_slice(),
+        LABELS.as_slice(),
+        REWRITES.as_slice(),
+        UPKEEP.as_slice(),
+    ] {
+        for row in rows {
+            expect_row(&rt, alloc, &kit, *row);
+        }
     }
     Ok(())
 }
@@ -110,6 +122,7 @@ fn files_are_cut_for_a_backup(rt: HostRuntime) {
         &mut written,
         &nothing_stored(alloc),
         4,
+        NOW,
     );
     assert_eq!(rt; ended, status);
     assert!(rt; written.as_slice() == answers.as_bytes());
@@ -137,6 +150,7 @@ fn bad_lines_end_the_run(rt: HostRuntime) -> Result<(), Fail> {
             &mut written,
             &nothing_stored(alloc),
             CUT,
+            NOW,
         );
         assert!(rt; matches!(ended, Status::BadLine(2, _)));
         assert!(rt; written.as_slice() == answers);
@@ -227,6 +241,7 @@ fn failures_end_the_run(rt: HostRuntime) {
             &mut writer,
             &nothing_stored(alloc),
             CUT,
+            NOW,
         );
         let fits = answered.len() <= room;
         assert_eq!(rt;

@@ -1,6 +1,6 @@
 use super::ends::{ByLine, Flushed, LineByLine, Narrow};
 use super::rows::{LISTED, LISTING};
-use super::{CUT, nothing_stored};
+use super::{CUT, NOW, nothing_stored};
 use crate::{Status, run};
 
 #[test]
@@ -15,6 +15,7 @@ fn lines_are_written_one_by_one(rt: HostRuntime) {
         &mut writer,
         &nothing_stored(alloc),
         CUT,
+        NOW,
     );
     assert_eq!(rt; status, Status::Done);
     assert!(rt; writer.held.as_slice() == LISTED.as_bytes());
@@ -34,6 +35,7 @@ fn listings_may_break_off(rt: HostRuntime) {
             &mut writer,
             &nothing_stored(alloc),
             CUT,
+            NOW,
         );
         assert_eq!(rt; status, Status::WriteFailed, "at {room}");
         assert!(rt;
@@ -62,7 +64,14 @@ fn each_answer_is_handed_on_before_the_next_read(rt: HostRuntime) {
         let mut reader = LineByLine {
             bytes: THREE_LINES.as_bytes(),
         };
-        let ended = run(alloc, &mut reader, &mut writer, &nothing_stored(alloc), CUT);
+        let ended = run(
+            alloc,
+            &mut reader,
+            &mut writer,
+            &nothing_stored(alloc),
+            CUT,
+            NOW,
+        );
         assert_eq!(rt; ended, status, "at {flushes}");
         assert!(rt; writer.lengths.as_slice() == lengths, "at {flushes}");
     }

@@ -1,10 +1,11 @@
-use Rattle.std.proofs.Common.{◌≡◌, ℕ, inl, inr, List, ◌∷◌, ◌++◌, codes, refl, ap, ◌∙◌}
+use Rattle.std.proofs.Common.{◌≡◌, ℕ, inl, inr, List, ◌∷◌, ◌++◌, codes, Some, refl, ap, ◌∙◌}
 use Rattle.std.specs.Fmt.{decimal}
-use Rattle.keep_jobs.specs.declared.job.Job.TheVariants.{Backup, Forget, Tag}
+use Rattle.keep_jobs.specs.declared.job.Job.TheVariants.{Backup, Forget, Rewrite, Sweep, Tag}
 use Rattle.keep_lines.proofs.Mistakes.{cut_first, ends_in_no}
 use Rattle.keep_lines.specs.BackupLine.{IsBackup, backup_text}
 use Rattle.keep_lines.specs.ForgetLine.{IsForget, forget_text}
-use Rattle.keep_lines.specs.Mistake.{AsksBackup, AsksForget, AsksName, AsksNumber, AsksTag, AsksTarget}
+use Rattle.keep_lines.specs.Mistake.{AsksBackup, AsksForget, AsksName, AsksNumber, AsksRewrite, AsksTag, AsksTarget}
+use Rattle.keep_lines.specs.RewriteLine.{IsRewrite, rewrite_text}
 use Rattle.keep_lines.specs.TagLine.{IsTag, tag_text}
 use Rattle.keep_lines.specs.Word.{IsName, IsNumber, IsTarget, target_text}
 use Rattle.keep_lines.specs.declared.command.Command.TheVariants.{Job, Note, Question, Revision}
@@ -31,7 +32,14 @@ returns-in-undo-3 c =
     let text = c.args.text.now in
     let cut = cut_first text c.split_once.result _ c.split_once.ensures.cases c.in-Some.is in
     let split : text ≡ codes "empty" ++ 32 ∷ c.in-Some.rest.now = cut ∙ ap (λ (v : List ℕ). v ++ 32 ∷ c.in-Some.rest.now) c.in-undo.is-empty in
-    ends_in_no AsksNumber IsNumber decimal (λ n. Revision (Empty n)) (codes "empty") text c.in-Some.rest.now (inr (inr refl)) c.requires split (λ value is. is) (λ value. refl)
+    ends_in_no AsksNumber IsNumber decimal (λ n. Revision (Empty n)) (codes "empty") text c.in-Some.rest.now (inr (inr (inl refl))) c.requires split (λ value is. is) (λ value. refl)
+
+pub returns-in-undo-4 : goal.returns-in-undo-4
+returns-in-undo-4 c =
+    let text = c.args.text.now in
+    let cut = cut_first text c.split_once.result _ c.split_once.ensures.cases c.in-Some.is in
+    let split : text ≡ codes "sweep" ++ 32 ∷ c.in-Some.rest.now = cut ∙ ap (λ (v : List ℕ). v ++ 32 ∷ c.in-Some.rest.now) c.in-undo.is-sweep in
+    ends_in_no AsksNumber IsNumber decimal (λ n. Job (Sweep (Some n))) (codes "sweep") text c.in-Some.rest.now (inr (inr (inr refl))) c.requires split (λ value is. is) (λ value. refl)
 
 pub returns-in-note : goal.returns-in-note
 returns-in-note c =
@@ -74,3 +82,10 @@ returns-in-forget c =
     let cut = cut_first text c.split_once.result _ c.split_once.ensures.cases c.in-Some.is in
     let split : text ≡ codes "forget" ++ 32 ∷ c.in-Some.rest.now = cut ∙ ap (λ (v : List ℕ). v ++ 32 ∷ c.in-Some.rest.now) c.in-forget.is in
     ends_in_no AsksForget IsForget forget_text (λ forget. Job (Forget forget)) (codes "forget") text c.in-Some.rest.now refl c.requires split (λ value is. is) (λ value. refl)
+
+pub returns-in-rewrite : goal.returns-in-rewrite
+returns-in-rewrite c =
+    let text = c.args.text.now in
+    let cut = cut_first text c.split_once.result _ c.split_once.ensures.cases c.in-Some.is in
+    let split : text ≡ codes "rewrite" ++ 32 ∷ c.in-Some.rest.now = cut ∙ ap (λ (v : List ℕ). v ++ 32 ∷ c.in-Some.rest.now) c.in-rewrite.is in
+    ends_in_no AsksRewrite IsRewrite rewrite_text (λ rewrite. Job (Rewrite rewrite)) (codes "rewrite") text c.in-Some.rest.now refl c.requires split (λ value is. is) (λ value. refl)

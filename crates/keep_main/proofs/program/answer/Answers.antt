@@ -1,4 +1,4 @@
-use Rattle.std.proofs.Common.{◌≡◌, ◌∙◌, List, ap, map, rules, string_bytes, subst}
+use Rattle.std.proofs.Common.{◌≡◌, ◌∙◌, ℤ, List, ap, map, of_z, rules, string_bytes, subst, to_z, w64}
 use Rattle.keep_hooks.specs.Kits.{NamedRule, named_rule}
 use Rattle.keep_main.proofs.StoredLemmas.{are-stored}
 use Rattle.keep_main.specs.Running.{stored}
@@ -16,6 +16,7 @@ returns-clause-runs g c =
     (ap string_bytes c.new-by_host.ensures.name ∙ c.in_ok-from_str-2.ensures.ok) c.new-by_host.ensures.rule
     (ap string_bytes c.new-by_tag.ensures.name ∙ c.in_ok-from_str-3.ensures.ok) c.new-by_tag.ensures.rule in
     let same : map named_rule c.in_ok-vec.field-0.items ≡ stored host tag = ap (λ filters. map named_rule filters) c.in_ok-vec.ensures.items ∙ rows in
+    let kept : to_z w64 (of_z w64 c.args.options.now) ≡ c.args.options.now = search rules in
     record {
       host = host;
       tag = tag;
@@ -23,6 +24,10 @@ returns-clause-runs g c =
       of_tag = search rules;
       answers = subst
           (λ (filters : List NamedRule). Writes (g.W.Write.contents c.args.writer.now) (g.W.Write.contents c.run.new.writer) (λ text. (after : State)
-          × Ends (begun (settled c.args.options.cut filters)) (g.R.Read.remaining c.args.reader.now) (g.R.Read.remaining c.run.new.reader) text c.run.result after))
-          same c.run.ensures.answers;
+          × Ends (begun (settled c.args.options.cut c.args.options.now filters)) (g.R.Read.remaining c.args.reader.now) (g.R.Read.remaining c.run.new.reader) text c.run.result after))
+          same
+          (subst
+          (λ (now : ℤ). Writes (g.W.Write.contents c.args.writer.now) (g.W.Write.contents c.run.new.writer) (λ text. (after : State)
+          × Ends (begun (settled c.args.options.cut now (map named_rule c.in_ok-vec.field-0.items))) (g.R.Read.remaining c.args.reader.now) (g.R.Read.remaining c.run.new.reader) text c.run.result after))
+          kept c.run.ensures.answers);
     }

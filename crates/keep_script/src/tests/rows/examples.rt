@@ -3,7 +3,7 @@ use crate::Status;
 use keep_lines::Mistake;
 
 /// The examples of this repository, as they stand in its folder of that name.
-pub const EXAMPLES: [Row; 7] = [
+pub const EXAMPLES: [Row; 9] = [
     (
         "add snapshot 61\nadd index 62\nnote n\ndrop index @2\nundo 3\nsame n\nlist\n",
         "ok 1 at 1 +1 -0 *0 ~0\n\
@@ -190,6 +190,90 @@ pub const EXAMPLES: [Row; 7] = [
          restored 1 skipped 0\n\
          ok 7 at 8 +0 -2 *0 ~0\n\
          files 18 marks 0\n",
+        Status::Done,
+    ),
+    (
+        "# Monday's backup is forgotten, and what it alone needs is marked.\n\
+         backup web 2024-03-04T22:00:00Z /notes=6f6e65\n\
+         backup web 2024-03-05T22:00:00Z /notes=74776f\n\
+         forget all last=1\n\
+         mark\n\
+         count\n\
+         # Before the sweep, a backup needs it again: the marks go, and nothing is swept.\n\
+         backup web 2024-03-06T22:00:00Z /notes=6f6e65\n\
+         sweep\n\
+         count\n\
+         # What Tuesday's backup alone needs goes in the same two steps.\n\
+         forget all last=1\n\
+         mark\n\
+         sweep\n\
+         audit\n\
+         restore @5\n\
+         # Until the trash is emptied each step can be taken back.\n\
+         undo 8\n\
+         undo 7\n\
+         undo 6\n\
+         restore @2\n",
+        "ok 1 at 1 +4 -0 *0 ~0\n\
+         ok 2 at 2 +4 -0 *0 ~0\n\
+         ok 3 at 3 +0 -1 *0 ~0\n\
+         ok 4 at 4 +0 -0 *2 ~0\n\
+         files 7 marks 2\n\
+         ok 5 at 5 +1 -0 *0 ~2\n\
+         no NothingToDo\n\
+         files 8 marks 0\n\
+         ok 6 at 6 +0 -1 *0 ~0\n\
+         ok 7 at 7 +0 -0 *2 ~0\n\
+         ok 8 at 8 +0 -3 *0 ~2\n\
+         audit 0\n\
+         /notes 6f6e65\n\
+         restored 1 skipped 0\n\
+         ok 8 at 9\n\
+         ok 7 at 10\n\
+         ok 6 at 11\n\
+         /notes 74776f\n\
+         restored 1 skipped 0\n",
+        Status::Done,
+    ),
+    (
+        "# On Tuesday a key was backed up by mistake, and Wednesday's backup has it too.\n\
+         backup web 2024-03-04T22:00:00Z /home/ada/notes=6f6e65\n\
+         backup web 2024-03-05T22:00:00Z /home/ada/key=736563726574 /home/ada/notes=6f6e65\n\
+         backup web 2024-03-06T22:00:00Z /home/ada/key=736563726574 /home/ada/notes=74776f\n\
+         # It is taken out of all snapshots: those that had it are made anew, and go.\n\
+         rewrite all forget /home/ada/key\n\
+         rewrite all forget /home/ada/key\n\
+         restore @4\n\
+         # That can be taken back, and made again.\n\
+         undo 4\n\
+         restore @3\n\
+         redo 4\n\
+         # The packs that held the key are needed by no snapshot any more.\n\
+         mark\n\
+         sweep\n\
+         audit\n\
+         # Once the trash is emptied, it can't be brought back.\n\
+         empty 6\n\
+         undo 4\n\
+         count\n",
+        "ok 1 at 1 +4 -0 *0 ~0\n\
+         ok 2 at 2 +4 -0 *0 ~0\n\
+         ok 3 at 3 +4 -0 *0 ~0\n\
+         ok 4 at 4 +4 -2 *0 ~0\n\
+         no NothingToDo\n\
+         /home/ada/notes 6f6e65\n\
+         restored 1 skipped 0\n\
+         ok 4 at 5\n\
+         /home/ada/key 736563726574\n\
+         /home/ada/notes 74776f\n\
+         restored 2 skipped 0\n\
+         ok 4 at 6\n\
+         ok 5 at 7 +0 -0 *3 ~0\n\
+         ok 6 at 8 +1 -5 *0 ~3\n\
+         audit 0\n\
+         ok 6 at 9\n\
+         no Final\n\
+         files 10 marks 0\n",
         Status::Done,
     ),
 ];
