@@ -308,7 +308,7 @@ fn unread_options_give_their_status(rt: HostRuntime) -> Result<(), Fail> {
         (BadOptions::Memory, "keepd: no memory", 1),
         (
             BadOptions::Refused,
-            "keepd: bad options; usage: keepd [--cut N] [--host H] [--tagged T] < SCRIPT",
+            "keepd: bad options; usage: keepd [--cut N] [--now TIME] [--host H] [--tagged T] < SCRIPT",
             2,
         ),
     ] {
