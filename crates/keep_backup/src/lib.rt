@@ -6,19 +6,11 @@ mod laws;
 mod packs;
 mod paths;
 mod plan;
-#[cfg(test)]
-mod plan_tests;
-#[cfg(test)]
-mod refusal_tests;
 mod safety;
 mod snapshot;
 mod stored;
 mod storing;
-#[cfg(test)]
-mod tests;
 mod walk;
-#[cfg(test)]
-mod walk_tests;
 
 pub use cut::Cut;
 pub use laws::{a_planned_backup_can_be_made, each_blob_is_kept, packs_are_cut_when_full};

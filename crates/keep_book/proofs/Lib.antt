@@ -1,4 +1,5 @@
 pub mod Looking
+pub mod Marking
 pub mod Redoing
 pub mod Replying
 pub mod Restoring

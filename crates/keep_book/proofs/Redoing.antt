@@ -10,11 +10,11 @@ use Rattle.keep_change.specs.Law.{HaveNoFacetTwice, WithIt}
 use Rattle.keep_change.specs.Result.{result_of}
 use Rattle.keep_change.specs.declared.change.Change.{Change}
 use Rattle.keep_change.proofs.History.{redo_is_exact_lem}
-use Rattle.keep_journal.specs.History.{change_of, is_change, is_in_force, final_number, length_of, IsNumbered}
+use Rattle.keep_journal.specs.History.{change_of, is_change, is_in_force, final_number, length_of, Fits, IsNumbered}
 use Rattle.keep_journal.specs.Kept.{is_kept, kept_with, earlier, later}
 use Rattle.keep_journal.specs.Journal.{Journal, posted}
 use Rattle.keep_journal.specs.declared.event.Event.TheVariants.{Redo}
-use Rattle.keep_journal.proofs.Commits.{committed-Redo, some_change, IsNumbered-push}
+use Rattle.keep_journal.proofs.Commits.{committed-Redo, some_change, IsLegal-push, IsNumbered-push}
 use Rattle.keep_journal.proofs.Numbers.{is_change_parts}
 use Rattle.keep_journal.proofs.Kept.{kept_around_undone, kept_with_around, kept-Redo}
 use Rattle.keep_book.specs.Dependents.{blocked_by}
@@ -67,6 +67,7 @@ module _ (opening : Repository) (j : Journal) (live : Repository) (is : IsOpen o
 pub record CanRedo (j : Journal) (n : ℕ) (broken : Option ℕ) : Type 0 where
   pub change : is_change j n ≡ true
   pub above : final_number j < n
+  pub not_in_force : is_in_force j n ≡ false
   pub out : is_kept j n ≡ false
   pub unbroken : broken ≡ None
 
@@ -84,6 +85,7 @@ can_redo j n broken none = split (is_change j n) refl (nat_le n (final_number j)
   split true k false fe false ie false ue = record {
     change = k;
     above = above_final_lt (final_number j) n fe;
+    not_in_force = ie;
     out = rw ie refl;
     unbroken = nothing_mapped broken (rw (k, fe, ie, ue) at none);
   }
@@ -102,14 +104,16 @@ redone opening j live n c is found none =
     let unbroken : first_break (kept_with j n) opening ≡ None = broken_with opening j live is n c found can.out ∙ can.unbroken in
     let there : first_break (earlier j n ++ record { number = n; change = c } ∷ later j n) opening ≡ None =
     subst (λ ns. first_break ns opening ≡ None) around unbroken in
+    let fits : Fits j (Redo n) = (can.above, (is_change_parts j n can.change).1, can.not_in_force) in
     record {
       ready = subst (λ r. is_ready (held r) c ≡ true) (whole opening j live is n c found can.out) (law.ready there);
       is = λ k above.
           let left = kept-Redo j k n can.above in
           record {
-            numbered = IsNumbered-push j (record { at = k; event = Redo n }) is.numbered
-                (record { above = above; fits = (can.above, (is_change_parts j n can.change).1) });
+            numbered = IsNumbered-push j (record { at = k; event = Redo n }) is.numbered (record { above = above; fits = fits });
+            legal = IsLegal-push j (record { at = k; event = Redo n }) is.legal (record { above = above; fits = fits });
             formed = rw (committed-Redo j k n) is.formed;
+            within = rw (committed-Redo j k n) is.within;
             unbroken = rw left unbroken;
             state = rw left (
                 ap (result_of c) (sym (whole opening j live is n c found can.out)) ∙ sym (law.made there)

@@ -1,5 +1,5 @@
 -- What an event leaves of the opening, the live repository and the fold between them.
-use Rattle.std.proofs.Common.{◌≡◌, ℕ, zero, suc, ◌+◌, ◌<◌, ◌≤◌, true, List, [], ◌∷◌, ◌++◌, None, refl, sym, ap, ◌∙◌, subst, arith}
+use Rattle.std.proofs.Common.{◌≡◌, ℕ, zero, suc, ◌+◌, ◌<◌, ◌≤◌, true, List, [], ◌∷◌, ◌++◌, length, None, refl, sym, ap, ◌∙◌, subst, arith}
 use Rattle.std.specs.List.{list_all}
 use Rattle.std.proofs.lemmas.List.Elements.{All-push}
 use Rattle.keep_repo.specs.Repository.{Repository, held}
@@ -7,8 +7,11 @@ use Rattle.keep_change.specs.Change.{asked, is_as_asked, is_met, is_ready}
 use Rattle.keep_change.specs.Fold.{Numbered, fold_of, first_break}
 use Rattle.keep_change.specs.Form.{IsWellFormed}
 use Rattle.keep_change.specs.Law.{HaveNoFacetTwice}
+use Rattle.keep_change.specs.Limits.{facet_limit}
 use Rattle.keep_change.specs.Result.{result_of, reverse_of}
+use Rattle.keep_change.specs.Touch.{facets}
 use Rattle.keep_change.specs.declared.change.Change.{Change}
+use Rattle.keep_change.specs.declared.change.PackMark.{PackMark}
 use Rattle.keep_change.proofs.History.{taking_back_restores_lem}
 use Rattle.keep_change.proofs.Law.{no_break}
 use Rattle.keep_change.proofs.Records.{and_first}
@@ -16,7 +19,7 @@ use Rattle.keep_journal.specs.History.{committed, final_number, last_change, len
 use Rattle.keep_journal.specs.Journal.{Journal, posted}
 use Rattle.keep_journal.specs.Kept.{kept, later, up_to}
 use Rattle.keep_journal.specs.declared.event.Event.TheVariants.{Commit, Empty}
-use Rattle.keep_journal.proofs.Commits.{committed-Commit, committed-Empty, IsNumbered-push}
+use Rattle.keep_journal.proofs.Commits.{committed-Commit, committed-Empty, IsLegal-push, IsNumbered-push}
 use Rattle.keep_journal.proofs.Kept.{kept-Commit, kept-Empty, kept_split, fold_of-append}
 use Rattle.keep_journal.specs.Opening.{IsOpen, opening_under, unfold_of}
 use Rattle.keep_journal.proofs.Later.{no_facet_twice}
@@ -26,7 +29,7 @@ use Rattle.keep_book.specs.Reply.{book_of}
 -- ---- folds
 
 -- what stands after a part of a fold that has no break has none either
-break_rest : (xs ys : List Numbered) (r : Repository) → first_break (xs ++ ys) r ≡ None → first_break ys (fold_of xs r) ≡ None
+pub break_rest : (xs ys : List Numbered) (r : Repository) → first_break (xs ++ ys) r ≡ None → first_break ys (fold_of xs r) ≡ None
 break_rest [] ys r none = none
 break_rest (x ∷ xs) ys r none =
     break_rest xs ys (result_of x.change r) (no_break (is_met (held r) x.change) (first_break (xs ++ ys) (result_of x.change r)) x.number none).1
@@ -41,7 +44,7 @@ break_push (y ∷ xs) x r none met =
 -- ---- the opening under a live repository
 
 -- changes that are made in turn and taken back, the last first, leave what was there
-unfold_fold : (ns : List Numbered) (r : Repository) → HaveNoFacetTwice ns → first_break ns r ≡ None → unfold_of ns (fold_of ns r) ≡ r
+pub unfold_fold : (ns : List Numbered) (r : Repository) → HaveNoFacetTwice ns → first_break ns r ≡ None → unfold_of ns (fold_of ns r) ≡ r
 unfold_fold [] r once none = refl
 unfold_fold (n ∷ ns) r once none =
     let parts = no_break (is_met (held r) n.change) (first_break ns (result_of n.change r)) n.number none in
@@ -67,28 +70,33 @@ shown opening j live is = rw (opening_told opening j live is, is.state) refl
 
 -- a commit of a change that is met
 pub open-Commit : (opening : Repository) (j : Journal) (live : Repository) (k n : ℕ) (c : Change) → IsOpen opening j live → length_of j < k
-    → n ≡ last_change j + 1 → IsWellFormed c → is_met (held live) c ≡ true → IsOpen opening (posted j k (Commit n c)) (result_of c live)
-open-Commit opening j live k n c is above next formed met =
+    → n ≡ last_change j + 1 → IsWellFormed c → length (facets c) ≤ facet_limit → is_met (held live) c ≡ true
+    → IsOpen opening (posted j k (Commit n c)) (result_of c live)
+open-Commit opening j live k n c is above next formed within met =
     let it : Numbered = record { number = n; change = c } in
     let met_there : is_met (held (fold_of (kept j) opening)) c ≡ true = subst (λ r. is_met (held r) c ≡ true) is.state met in
     let more = kept-Commit j k n c is.numbered next in
     record {
       numbered = IsNumbered-push j (record { at = k; event = Commit n c }) is.numbered (record { above = above; fits = next });
+      legal = IsLegal-push j (record { at = k; event = Commit n c }) is.legal (record { above = above; fits = next });
       formed = rw (committed-Commit j k n c) (All-push (λ m. IsWellFormed m.change) (committed j) it is.formed formed);
+      within = rw (committed-Commit j k n c) (All-push (λ m. length (facets m.change) ≤ facet_limit) (committed j) it is.within within);
       unbroken = rw more (break_push (kept j) it opening is.unbroken met_there);
       state = rw more (ap (result_of c) is.state ∙ sym (fold_of-append (kept j) (it ∷ []) opening));
     }
 
 -- an emptying moves the opening, and leaves the live repository
-pub open-Empty : (opening : Repository) (j : Journal) (live : Repository) (k n : ℕ) → IsOpen opening j live → length_of j < k
-    → final_number j ≤ n → n ≤ last_change j → IsOpen (fold_of (up_to j n) opening) (posted j k (Empty n)) live
-open-Empty opening j live k n is above low high =
+pub open-Empty : (opening : Repository) (j : Journal) (live : Repository) (k n : ℕ) (marks : List PackMark) → IsOpen opening j live → length_of j < k
+    → final_number j ≤ n → n ≤ last_change j → IsOpen (fold_of (up_to j n) opening) (posted j k (Empty n marks)) live
+open-Empty opening j live k n marks is above low high =
     let parts = kept_split j n is.numbered in
     let whole : first_break (up_to j n ++ later j n) opening ≡ None = subst (λ ns. first_break ns opening ≡ None) parts is.unbroken in
-    let left = kept-Empty j k n low in
+    let left = kept-Empty j k n marks low in
     record {
-      numbered = IsNumbered-push j (record { at = k; event = Empty n }) is.numbered (record { above = above; fits = (low, high) });
-      formed = rw (committed-Empty j k n) is.formed;
+      numbered = IsNumbered-push j (record { at = k; event = Empty n marks }) is.numbered (record { above = above; fits = (low, high) });
+      legal = IsLegal-push j (record { at = k; event = Empty n marks }) is.legal (record { above = above; fits = (low, high) });
+      formed = rw (committed-Empty j k n marks) is.formed;
+      within = rw (committed-Empty j k n marks) is.within;
       unbroken = rw left (break_rest (up_to j n) (later j n) opening whole);
       state = rw left (is.state ∙ ap (λ ns. fold_of ns opening) parts ∙ fold_of-append (up_to j n) (later j n) opening);
     }

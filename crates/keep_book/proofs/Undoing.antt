@@ -1,6 +1,7 @@
 -- When a change can be taken back, and what is left then.
 use Rattle.std.proofs.Common.{◌≡◌, ℕ, ◌<◌, Bool, true, false, ◌∷◌, ◌++◌, Option, Some, None, refl, sym, ap, ◌∙◌, subst, arith}
 use Rattle.std.specs.Prelude.{nat_lt, nat_le}
+use Rattle.std.specs.Cmp.{first_so}
 use Rattle.std.specs.Option.{option_map}
 use Rattle.std.proofs.lemmas.Bool.Decides.{nat_tests}
 use Rattle.keep_repo.specs.Repository.{Repository, held}
@@ -11,11 +12,11 @@ use Rattle.keep_change.specs.Result.{result_of, reverse_of}
 use Rattle.keep_change.specs.declared.change.Change.{Change}
 use Rattle.keep_change.proofs.History.{undo_is_exact_lem}
 use Rattle.keep_change.proofs.Records.{and_second}
-use Rattle.keep_journal.specs.History.{change_of, is_change, is_in_force, final_number, length_of, IsNumbered}
+use Rattle.keep_journal.specs.History.{change_of, is_change, is_in_force, final_number, length_of, Fits, IsNumbered}
 use Rattle.keep_journal.specs.Kept.{is_kept, others, earlier, later}
 use Rattle.keep_journal.specs.Journal.{Journal, posted}
 use Rattle.keep_journal.specs.declared.event.Event.TheVariants.{Undo}
-use Rattle.keep_journal.proofs.Commits.{committed-Undo, some_change, IsNumbered-push}
+use Rattle.keep_journal.proofs.Commits.{committed-Undo, some_change, IsLegal-push, IsNumbered-push}
 use Rattle.keep_journal.proofs.Numbers.{is_change_parts}
 use Rattle.keep_journal.proofs.Kept.{kept_around, others_around, kept-Undo}
 use Rattle.keep_book.specs.Dependents.{leaned_on}
@@ -108,14 +109,16 @@ undone opening j live n c is found none =
     let around = kept_around j n c is.numbered found can.in_it in
     let whole : fold_of (earlier j n ++ record { number = n; change = c } ∷ later j n) opening ≡ live =
     ap (λ ns. fold_of ns opening) (sym around) ∙ sym is.state in
+    let fits : Fits j (Undo n) = (can.above, (is_change_parts j n can.change).1, first_so _ _ can.in_it) in
     record {
       ready = subst (λ r. is_ready (held r) (reverse_of c) ≡ true) whole (law.ready nobody);
       is = λ k above.
           let left = kept-Undo j k n in
           record {
-            numbered = IsNumbered-push j (record { at = k; event = Undo n }) is.numbered
-                (record { above = above; fits = (can.above, (is_change_parts j n can.change).1) });
+            numbered = IsNumbered-push j (record { at = k; event = Undo n }) is.numbered (record { above = above; fits = fits });
+            legal = IsLegal-push j (record { at = k; event = Undo n }) is.legal (record { above = above; fits = fits });
             formed = rw (committed-Undo j k n) is.formed;
+            within = rw (committed-Undo j k n) is.within;
             unbroken = rw left (broken_without opening j live is n c found can.in_it ∙ can.unbroken);
             state = rw left (
                 ap (result_of (reverse_of c)) (sym whole) ∙ sym (law.made nobody)

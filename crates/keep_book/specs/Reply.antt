@@ -5,16 +5,17 @@ use Rattle.keep_repo.specs.Repository.{Repository, held}
 use Rattle.keep_repo.specs.declared.facet.Facet.{Facet}
 use Rattle.keep_change.specs.Fold.{first_break, fold_of}
 use Rattle.keep_change.specs.Form.{IsWellFormed, least_unmet}
+use Rattle.keep_change.specs.Limits.{facet_limit}
+use Rattle.keep_change.specs.Marks.{marks_of}
 use Rattle.keep_change.specs.Touch.{facets}
 use Rattle.keep_change.specs.declared.change.Planned.{Planned}
 use Rattle.keep_journal.specs.History.{final_number, is_change, is_in_force, last_change, length_of}
 use Rattle.keep_journal.specs.Journal.{Journal, posted}
 use Rattle.keep_journal.specs.Kept.{kept, others, kept_with, up_to}
-use Rattle.keep_journal.specs.Event.{number_of}
 use Rattle.keep_journal.specs.declared.event.Event.{Event}
 use Rattle.keep_journal.specs.declared.event.Event.TheVariants as event
 use Rattle.keep_book.specs.BookState.{BookState}
-use Rattle.keep_book.specs.Limits.{change_limit, event_limit, facet_limit}
+use Rattle.keep_book.specs.Limits.{change_limit, event_limit}
 use Rattle.keep_book.specs.declared.reply.Refusal.{Refusal}
 use Rattle.keep_book.specs.declared.reply.Refusal.TheVariants.{Malformed, Unknown, Final, NotInForce, InForce, Full, Stale, Unmet, LeanedOn, Blocked, Memory}
 use Rattle.keep_book.specs.Request.{Request, Commit, Undo, Redo, Empty}
@@ -31,7 +32,7 @@ is_full j = nat_le event_limit (length_of j)
 
 -- whether there is no room for one more commit, of this many facets
 abbrev pub is_full_for : Journal → ℕ → Bool
-is_full_for j count = is_full j || (nat_le change_limit (last_change j) || nat_lt facet_limit count)
+is_full_for j count = is_full j || (nat_le change_limit (last_change j) || not (nat_le count facet_limit))
 
 -- why a well formed change can't be committed, where unmet is the least facet that isn't as it asks
 abbrev pub commit_refusal : Journal → Planned → Option Facet → Option Refusal
@@ -67,16 +68,16 @@ abbrev pub RefusesOrTells : Option Refusal → Told → Result Told Refusal → 
 RefusesOrTells (Some refusal) told reply = reply ≡ Err refusal
 RefusesOrTells None told reply = (reply ≡ Ok told) ⊎ (reply ≡ Err Memory)
 
--- the event of an accepted request
-abbrev pub event_of : Journal → Request → Event
-event_of j (Commit p) = event.Commit (last_change j + 1) p.change
-event_of j (Undo n) = event.Undo n
-event_of j (Redo n) = event.Redo n
-event_of j (Empty n) = event.Empty n
+-- the number of the change that an accepted request is about: a commit gets the next one
+abbrev pub about : Journal → Request → ℕ
+about j (Commit p) = last_change j + 1
+about j (Undo n) = n
+about j (Redo n) = n
+about j (Empty n) = n
 
 -- what an accepted request is told: the number of its change, and of its event
 abbrev pub told_of : Journal → Request → Told
-told_of j request = record { number = number_of (event_of j request); at = length_of j + 1 }
+told_of j request = record { number = about j request; at = length_of j + 1 }
 
 -- the book's reply to a request
 abbrev pub Replies : BookState → Request → Result Told Refusal → Type 0
@@ -111,6 +112,13 @@ opening_after b (Undo n) = b.opening
 opening_after b (Redo n) = b.opening
 opening_after b (Empty n) = fold_of (up_to b.events n) b.opening
 
+-- the event of an accepted request: an emptying's has the marks of the opening after it
+abbrev pub event_of : BookState → Request → Event
+event_of b (Commit p) = event.Commit (last_change b.events + 1) p.change
+event_of b (Undo n) = event.Undo n
+event_of b (Redo n) = event.Redo n
+event_of b (Empty n) = event.Empty n (marks_of (opening_after b (Empty n)))
+
 -- a book of these events over this opening: what its kept changes make of it is there
 abbrev pub book_of : Repository → Journal → BookState
 book_of opening j = record { opening = opening; events = j; live = fold_of (kept j) opening }
@@ -118,5 +126,5 @@ book_of opening j = record { opening = opening; events = j; live = fold_of (kept
 -- an accepted request adds its event, and a refused one changes nothing
 abbrev pub state_after : BookState → Request → Result Told Refusal → BookState
 state_after b request (Ok told) =
-    book_of (opening_after b request) (posted b.events (length_of b.events + 1) (event_of b.events request))
+    book_of (opening_after b request) (posted b.events (length_of b.events + 1) (event_of b request))
 state_after b request (Err refusal) = b

@@ -8,6 +8,7 @@ ghost use Rattle.keep_journal.specs.Event.{number_of};
 ghost use Rattle.keep_journal.specs.History.{Fits, IsNumbered, change_of, length_of};
 ghost use Rattle.keep_journal.specs.Kept.{is_kept};
 ghost use Rattle.keep_journal.specs.Journal.{posted};
+ghost use Rattle.keep_journal.specs.Opening.{IsOpen};
 ghost use Rattle.keep_view.specs.Shown.{shown_of};
 ghost use Rattle.keep_book.specs.BookState.{BookState, JustCommitted, new_book};
 ghost use Rattle.keep_book.specs.Limits.{event_limit};
@@ -15,9 +16,10 @@ ghost use Rattle.keep_book.specs.Reply.{Replies, Restores, TakesBack, state_afte
 ghost use Rattle.keep_book.specs.Request as request;
 
 use crate::checks::{check_commit, check_empty, check_redo, check_undo};
+use crate::opening_marks::marks_under;
 use crate::reply::{Refusal, Told};
 use keep_catalog::LiveRepo;
-use keep_change::Planned;
+use keep_change::{Planned, SharedChange};
 use keep_journal::{Entry, Event, History};
 use keep_repo::Repo;
 use keep_view::View;
@@ -27,6 +29,7 @@ use std::marker::Model;
 /// A repository under numbered changes.
 #[derive(Drop)]
 pub struct Book {
+    alloc: Global,
     /// What the changes that can still be undone make of the opening.
     live: LiveRepo,
     history: History,
@@ -57,6 +60,7 @@ impl Book {
         ensures { result ≡ new_book opening }
     {
         Book {
+            alloc,
             live: LiveRepo::new(alloc, opening),
             history: History::new(alloc, 0),
         }
@@ -100,8 +104,11 @@ impl Book {
         View::of(&self.live, &self.history)
     }
 
+    /// The events. They are legal, no change among them touches more facets than it may, and those in force make
+    /// the live repository of the opening.
     pub fn history(&self) -> &History
-        ensures { result.now.journal ≡ self.now.events }
+        ensures events { result.now.journal ≡ self.now.events }
+        ensures open { IsOpen self.now.opening self.now.events self.now.live }
     {
         &self.history
     }
@@ -116,7 +123,8 @@ impl Book {
         check_commit(&self.history, self.live.repo(), &planned)?;
         self.history.reserve()?;
         let Planned { change, seen: _ } = planned;
-        self.live.apply(&change)?;
+        let change = SharedChange::new(self.alloc, change)?;
+        self.live.apply(change.as_change())?;
         let number = self.history.last_change() + 1;
         Ok(post(&mut self.history, Event::Commit(number, change)))
     }
@@ -172,7 +180,8 @@ impl Book {
     {
         check_empty(&self.history, n)?;
         self.history.reserve()?;
-        Ok(post(&mut self.history, Event::Empty(n)))
+        let marks = marks_under(self.live.repo(), &self.history, n)?;
+        Ok(post(&mut self.history, Event::Empty(n, marks)))
     }
 }
 

@@ -1,7 +1,8 @@
-ghost use Rattle.std.specs.Prelude.{◌≡◌, ◌<◌, ◌==◌, nat_le, true, not, ◌&&◌, [], ◌∷◌, length, OnOk};
+ghost use Rattle.std.specs.Prelude.{◌≡◌, ◌<◌, ◌≤◌, ◌==◌, nat_le, true, not, ◌&&◌, [], ◌∷◌, length, OnOk};
 ghost use Rattle.keep_repo.specs.Repository.{held};
 ghost use Rattle.keep_change.specs.Change.{is_met};
 ghost use Rattle.keep_change.specs.Form.{IsWellFormed, least_unmet};
+ghost use Rattle.keep_change.specs.Limits.{facet_limit};
 ghost use Rattle.keep_change.specs.Touch.{facets};
 ghost use Rattle.keep_journal.specs.History.{final_number, is_change, last_change, length_of};
 ghost use Rattle.keep_book.specs.Dependents.{leaned_on, blocked_by, Passes};
@@ -21,9 +22,6 @@ const MAX_EVENTS: u64 = 16_777_216;
 /// The greatest number that a change can have.
 const MAX_CHANGES: u64 = 1_048_576;
 
-/// The most facets that a change may touch.
-const MAX_FACETS: usize = 65_536;
-
 /// Why the book refuses the commit, memory aside.
 pub(crate) fn check_commit(history: &History, live: &Repo, planned: &Planned) -> Result<(), Refusal>
     ensures malformed { ¬ IsWellFormed planned.now.change → result ≡ Err Refusal.Malformed }
@@ -34,6 +32,7 @@ pub(crate) fn check_commit(history: &History, live: &Repo, planned: &Planned) ->
     ensures met { OnOk result (is_met (held live.now) planned.now.change ≡ true) }
     ensures room { OnOk result (length_of history.now.journal < event_limit) }
     ensures numbers { OnOk result (last_change history.now.journal < change_limit) }
+    ensures within { OnOk result (length (facets planned.now.change) ≤ facet_limit) }
 {
     let change = &planned.change;
     if !change.well_formed() {
@@ -123,9 +122,10 @@ fn check_room_for(history: &History, change: &Change) -> Result<(), Refusal>
         result }
     ensures room { OnOk result (length_of history.now.journal < event_limit) }
     ensures numbers { OnOk result (last_change history.now.journal < change_limit) }
+    ensures within { OnOk result (length (facets change.now) ≤ facet_limit) }
 {
     check_room(history)?;
-    if history.last_change() >= MAX_CHANGES || change.facet_count() > MAX_FACETS {
+    if history.last_change() >= MAX_CHANGES || !change.is_within_limit() {
         return Err(Refusal::Full);
     }
     Ok(())

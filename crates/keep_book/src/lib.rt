@@ -4,10 +4,9 @@
 mod book;
 mod checks;
 mod dependents;
+mod opening_marks;
 mod place;
 mod reply;
-#[cfg(test)]
-mod tests;
 
 pub use book::Book;
 pub use reply::{Refusal, Told};

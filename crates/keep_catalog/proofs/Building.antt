@@ -1,5 +1,5 @@
 -- The repository that tables follow, one file after another.
-use Rattle.std.proofs.Common.{◌≡◌, ℕ, ◌+◌, ◌<◌, Bool, true, false, ◌||◌, cond, List, [], ◌∷◌, drop, length, get_or, Option, None, Some, is_some, refl, sym, ap, subst, ◌∙◌, Less, IfSome}
+use Rattle.std.proofs.Common.{◌≡◌, ℕ, ◌+◌, ◌<◌, Bool, true, false, ◌||◌, cond, List, [], ◌∷◌, drop, length, get_or, Option, None, Some, is_some, refl, sym, ap, subst, ◌∙◌, Less}
 use Rattle.std.proofs.lemmas.List.{drop_more}
 use Rattle.std.proofs.lemmas.Map.Views.{tells_apart}
 use Rattle.std.specs.BTreeMap.{IsOrdered, is_at}
@@ -10,8 +10,6 @@ use Rattle.std.specs.Map.{lookup}
 use Rattle.std.specs.Option.{option_and_then, option_map}
 use Rattle.std.specs.Ordering.{is_eq}
 use Rattle.keep_change.specs.NamedBytes.{NamedBytes}
-use Rattle.keep_change.specs.Result.{put_files, put_marks, result_of, take_marks}
-use Rattle.keep_change.specs.declared.change.Change.{Change}
 use Rattle.keep_names.proofs.Orders.{name_exact, name_total}
 use Rattle.keep_names.specs.FileName.{named}
 use Rattle.keep_names.specs.Orders.{blob_cmp, id_cmp, name_cmp}
@@ -24,7 +22,6 @@ use Rattle.keep_catalog.specs.Kept.{AreNew, AreThere, IsKept, has, with_file, wi
 use Rattle.keep_catalog.specs.Orders.{name_eq, packed_blob_cmp}
 use Rattle.keep_catalog.specs.declared.tables.Tables.{Tables}
 use Rattle.keep_catalog.proofs.Coming.{re_marked}
-use Rattle.keep_catalog.proofs.Following.{FilesFollow}
 use Rattle.keep_catalog.proofs.Growing.{no_id}
 use Rattle.keep_catalog.proofs.Ids.{id_refl}
 use Rattle.keep_catalog.proofs.Ordered.{keys_in_order}
@@ -187,15 +184,3 @@ module _ (r : Repository) (names : List FileName) (i : ℕ) (name : FileName) (t
           cases : (b : Bool) → name_eq q name ≡ b → finite.get left.now.files q ≡ cond b None (finite.get left.now.files q)
           cases true same = left.read q ∙ ap (λ b. cond (b || list_any (name_eq q) others) None (finite.get r.files q)) same
           cases false other = refl
-
--- ---- a repository that changes
-
--- what is kept of it follows a change whose files are as it asks
-pub change_kept : (c : Change) (r after : Repository) (tables result : Option Tables) (adds drops : List NamedBytes) → adds ≡ c.adds → drops ≡ c.drops → after ≡ result_of c r → FilesFollow c r → IfSome tables (IsKept r) → ((s : Repository) → AreNew adds s.files → AreThere drops (put_files adds s.files) → IfSome tables (IsKept s) → IfSome result (IsKept (without_files drops (with_files adds s)))) → IfSome result (IsKept after)
-change_kept c r after tables result adds drops adds_are drops_are is follow kept followed =
-    let F : List NamedBytes × List NamedBytes → Type 0 = λ fs. AreNew fs.0 r.files → AreThere fs.1 (put_files fs.0 r.files) → IfSome tables (IsKept r) → IfSome result (IsKept (without_files fs.1 (with_files fs.0 r))) in
-    let A : Repository → Type 0 = λ s. IfSome result (IsKept s) in
-    subst A (sym is) (marked result (subst F (λ i. (adds_are i, drops_are i)) (followed r) follow.0 follow.1 kept)) where
-      marked : (t : Option Tables) → IfSome t (IsKept (without_files c.drops (with_files c.adds r))) → IfSome t (IsKept (result_of c r))
-      marked None h = tt
-      marked (Some t) h = re_marked (without_files c.drops (with_files c.adds r)) t (take_marks c.clears (put_marks c.sets r.marks)) h

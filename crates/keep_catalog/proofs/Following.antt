@@ -1,5 +1,5 @@
 -- The files that a ready change adds aren't there, and those that it drops are.
-use Rattle.std.proofs.Common.{◌≡◌, ℕ, Bool, true, false, cond, List, [], ◌∷◌, ◌++◌, map, Option, None, Some, refl, ap, ◌∙◌}
+use Rattle.std.proofs.Common.{◌≡◌, ℕ, Bool, true, false, cond, List, [], ◌∷◌, ◌++◌, map, Option, None, Some, refl, ap, ◌∙◌, arith}
 use Rattle.std.specs.FinMap as finite
 use Rattle.std.specs.List.{list_all}
 use Rattle.std.specs.Option.{option_map}
@@ -8,13 +8,13 @@ use Rattle.keep_repo.specs.Facet.{Stored, facet_eq}
 use Rattle.keep_repo.specs.Repository.{Repository, held}
 use Rattle.keep_repo.specs.declared.facet.Facet.{Facet}
 use Rattle.keep_repo.specs.declared.facet.Facet.TheVariants.{File}
-use Rattle.keep_change.proofs.Carry.{reverse_writes_once, writes_once}
-use Rattle.keep_change.proofs.Law.{ready_kept}
+use Rattle.keep_change.proofs.Carry.{held-result_of, reverse_writes_once, times-append}
+use Rattle.keep_change.proofs.History.{is_ready-reverse}
+use Rattle.keep_change.proofs.Law.{ready_kept, undo_ready}
 use Rattle.keep_change.proofs.Records.{WritesOnce, among, and_first, and_second, holds_same_equal, once_head, once_tail, refuted, same_facet}
-use Rattle.keep_change.specs.Change.{Written, added, dropped, holds_same, is_as_written, is_ready, written}
-use Rattle.keep_change.specs.Form.{HasNoFacetTwice}
+use Rattle.keep_change.specs.Change.{Holding, Written, added, cleared, dropped, holds_same, is_as_written, is_ready, set, written}
 use Rattle.keep_change.specs.NamedBytes.{NamedBytes}
-use Rattle.keep_change.specs.Result.{put_files, reverse_of}
+use Rattle.keep_change.specs.Result.{put_files, result_of, reverse_of}
 use Rattle.keep_change.specs.declared.change.Change.{Change}
 use Rattle.keep_catalog.specs.Kept.{AreNew, AreThere, with_file, with_files, without_file}
 
@@ -76,13 +76,25 @@ taken_there (f ∷ fs) rest r once ready =
 abbrev pub FilesFollow : Change → Repository → Type 0
 FilesFollow c r = AreNew c.adds r.files × AreThere c.drops (put_files c.adds r.files)
 
-follows : (c : Change) (r : Repository) → WritesOnce (written c) → is_ready (held r) c ≡ true → FilesFollow c r
+pub follows : (c : Change) (r : Repository) → WritesOnce (written c) → is_ready (held r) c ≡ true → FilesFollow c r
 follows c r once ready =
     let put = put_first c.adds _ r once ready in
     (put.new, taken_there c.drops _ (with_files c.adds r) put.once put.ready)
 
-pub follows_made : (c : Change) (r : Repository) → HasNoFacetTwice c → is_ready (held r) c ≡ true → FilesFollow c r
-follows_made c r once = follows c r (writes_once c once)
+-- the change that puts this one's files, and does nothing else
+abbrev pub puts_alone : Change → Change
+puts_alone c = record c { drops = []; sets = []; clears = [] }
 
-pub follows_back : (c : Change) (r : Repository) → HasNoFacetTwice c → is_ready (held r) (reverse_of c) ≡ true → FilesFollow (reverse_of c) r
-follows_back c r once = follows (reverse_of c) r (reverse_writes_once c (writes_once c once))
+puts_alone_once : (c : Change) → WritesOnce (written c) → WritesOnce (written (puts_alone c))
+puts_alone_once c once q =
+    let others : List Written = map dropped c.drops ++ (map set c.sets ++ map cleared c.clears) in
+    omega (arith, once q, times-append q (map added c.adds) others, times-append q (map added c.adds) [])
+
+-- files that were put are there, with their bytes
+pub put_there : (c : Change) (r : Repository) → WritesOnce (written c) → AreThere c.adds (put_files c.adds r.files)
+put_there c r once =
+    let d = puts_alone c in
+    let once : WritesOnce (written d) = puts_alone_once c once in
+    let ready : is_ready (held (result_of d r)) (reverse_of d) ≡ true =
+    ap (λ (h : Holding). is_ready h (reverse_of d)) (held-result_of d once r) ∙ is_ready-reverse d _ ∙ undo_ready d [] (held r) once refl in
+    (follows (reverse_of d) (result_of d r) (reverse_writes_once d once) ready).1

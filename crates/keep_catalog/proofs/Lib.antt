@@ -5,6 +5,7 @@ pub mod EachTable
 pub mod Following
 pub mod Gathered
 pub mod Growing
+pub mod Halfway
 pub mod Hashes
 pub mod Heights
 pub mod Ids

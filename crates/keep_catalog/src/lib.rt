@@ -11,23 +11,13 @@ mod headers;
 mod laws;
 mod listed;
 mod live_repo;
-#[cfg(test)]
-mod live_tests;
 mod names;
-#[cfg(test)]
-mod place_tests;
 mod reach;
 mod reach_error;
-#[cfg(test)]
-mod reach_tests;
 mod reading;
 mod spot;
 mod stored;
 mod tables;
-#[cfg(test)]
-mod test_changes;
-#[cfg(test)]
-mod tests;
 mod unread;
 mod walk;
 mod wrong;

@@ -1,7 +1,8 @@
 ghost use Rattle.std.specs.Prelude.{◌≡◌, ◌≢◌, [], IfErr, IfOk, IfSome, IsTrue, OnErr, OnOk, option_map, slice_get};
 ghost use Rattle.keep_change.specs.Change.{is_ready};
 ghost use Rattle.keep_change.specs.Form.{HasNoFacetTwice};
-ghost use Rattle.keep_change.specs.Result.{put_files, result_of, reverse_of};
+ghost use Rattle.keep_change.specs.Halves.{IsBegun, begun_of, completed_of, turned};
+ghost use Rattle.keep_change.specs.Result.{result_of, reverse_of};
 ghost use Rattle.keep_repo.specs.Repository.{Repository, held};
 ghost use Rattle.keep_catalog.specs.Files.{unread_in};
 ghost use Rattle.keep_catalog.specs.Kept.{AreNew, AreThere, IsKept, with_files, without_files};
@@ -12,13 +13,10 @@ use crate::catalog_error::CatalogError;
 use crate::hashing::hash_places;
 use crate::tables::Tables;
 use crate::unread::Unread;
-use keep_change::{Change, StoredFile};
+use keep_change::{Change, StoredFile, Turn};
 use keep_repo::Repo;
 use std::alloc::{AllocError, Global};
 use std::marker::Model;
-
-#[cfg(test)]
-mod tests;
 
 /// A repository that changes, and lends the catalog of what it holds.
 ///
@@ -91,9 +89,8 @@ impl LiveRepo {
         ensures ok { OnOk result (self.new ≡ result_of change.now self.old) }
         ensures err { OnErr result (self.new ≡ self.old) }
     {
-        change.apply(&mut self.repo)?;
-        let (adds, drops) = (change.adds.as_slice(), change.drops.as_slice());
-        self.tables = followed(self.tables.take(), adds, drops);
+        self.begin(Turn::Make, change)?;
+        self.complete(Turn::Make, change);
         Ok(())
     }
 
@@ -104,10 +101,42 @@ impl LiveRepo {
         ensures ok { OnOk result (self.new ≡ result_of (reverse_of change.now) self.old) }
         ensures err { OnErr result (self.new ≡ self.old) }
     {
-        change.unapply(&mut self.repo)?;
-        let (adds, drops) = (change.adds.as_slice(), change.drops.as_slice());
-        self.tables = followed(self.tables.take(), drops, adds);
+        self.begin(Turn::TakeBack, change)?;
+        self.complete(Turn::TakeBack, change);
         Ok(())
+    }
+
+    /// The first half of a change: puts all that comes. Where memory runs out for it the repository is as it was.
+    pub fn begin(&mut self, turn: Turn, change: &Change) -> Result<(), AllocError>
+        requires once { HasNoFacetTwice change.now }
+        requires ready { IsTrue (is_ready (held self.old) (turned turn change.now)) }
+        ensures ok { OnOk result (self.new ≡ begun_of (turned turn change.now) self.old) }
+        ensures err { OnErr result (self.new ≡ self.old) }
+    {
+        change.begin(turn, &mut self.repo)?;
+        self.tables = came(self.tables.take(), change.coming_files(turn));
+        Ok(())
+    }
+
+    /// The second half: takes away all that goes. It can't fail.
+    pub fn complete(&mut self, turn: Turn, change: &Change)
+        requires once { HasNoFacetTwice change.now }
+        requires begun { IsBegun (turned turn change.now) self.old }
+        ensures { self.new ≡ completed_of (turned turn change.now) self.old }
+    {
+        change.complete(turn, &mut self.repo);
+        self.tables = went(self.tables.take(), change.going_files(turn));
+    }
+
+    /// Takes the first half back, in place of the second one. It can't fail.
+    pub fn abandon(&mut self, turn: Turn, change: &Change)
+        requires once { HasNoFacetTwice change.now }
+        requires begun { IsBegun (turned turn change.now) self.old }
+        ensures { (before : Repository) → IsTrue (is_ready (held before) (turned turn change.now))
+            → self.old ≡ begun_of (turned turn change.now) before → self.new ≡ before }
+    {
+        change.abandon(turn, &mut self.repo);
+        self.tables = went(self.tables.take(), change.coming_files(turn));
     }
 
     /// The catalog, if each pack, index and snapshot can be read. Else the first that can't, by name.
@@ -139,13 +168,25 @@ impl LiveRepo {
     }
 }
 
-// The tables after these files came and those went, none where memory ran out.
-fn followed(tables: Option<Tables>, adds: &[StoredFile], drops: &[StoredFile]) -> Option<Tables>
-    ensures { (r : Repository) → AreNew adds.now r.files → AreThere drops.now (put_files adds.now r.files)
-        → IfSome tables (IsKept r) → IfSome result (IsKept (without_files drops.now (with_files adds.now r))) }
+// The tables after these files came, none where memory ran out.
+fn came(tables: Option<Tables>, files: &[StoredFile]) -> Option<Tables>
+    ensures { (r : Repository) → AreNew files.now r.files
+        → IfSome tables (IsKept r) → IfSome result (IsKept (with_files files.now r)) }
 {
     let mut tables = tables?;
-    match tables.follow(adds, drops) {
+    match tables.add_files(files) {
+        Ok(()) => Some(tables),
+        Err(_) => None,
+    }
+}
+
+// The tables after these files went, none where memory ran out.
+fn went(tables: Option<Tables>, files: &[StoredFile]) -> Option<Tables>
+    ensures { (r : Repository) → AreThere files.now r.files
+        → IfSome tables (IsKept r) → IfSome result (IsKept (without_files files.now r)) }
+{
+    let mut tables = tables?;
+    match tables.drop_files(files) {
         Ok(()) => Some(tables),
         Err(_) => None,
     }

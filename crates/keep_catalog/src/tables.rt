@@ -3,7 +3,6 @@ ghost use Rattle.std.specs.BTreeMap.{IsOrdered};
 ghost use Rattle.std.specs.BTreeMap as tree;
 ghost use Rattle.std.specs.FinMap as finite;
 ghost use Rattle.std.specs.Option.{option_map, option_or};
-ghost use Rattle.keep_change.specs.Result.{put_files};
 ghost use Rattle.keep_names.specs.FileName.{named};
 ghost use Rattle.keep_names.specs.Orders.{id_cmp, name_cmp};
 ghost use Rattle.keep_names.specs.declared.file_name.FileName as the_name;
@@ -64,21 +63,8 @@ impl Tables {
         }
     }
 
-    // Follows a change of files: these come, and then those go. No others are read.
-    pub(crate) fn follow(
-        &mut self,
-        adds: &[StoredFile],
-        drops: &[StoredFile],
-    ) -> Result<(), AllocError>
-        ensures { OnOk result ((r : Repository) → AreNew adds.now r.files
-            → AreThere drops.now (put_files adds.now r.files) → IsKept r self.old
-            → IsKept (without_files drops.now (with_files adds.now r)) self.new) }
-    {
-        self.add_files(adds)?;
-        self.drop_files(drops)
-    }
-
-    fn add_files(&mut self, files: &[StoredFile]) -> Result<(), AllocError>
+    // Follows files that come. No others are read.
+    pub(crate) fn add_files(&mut self, files: &[StoredFile]) -> Result<(), AllocError>
         ensures { OnOk result ((r : Repository) → AreNew files.now r.files → IsKept r self.old
             → IsKept (with_files files.now r) self.new) }
     {
@@ -88,7 +74,8 @@ impl Tables {
         Ok(())
     }
 
-    fn drop_files(&mut self, files: &[StoredFile]) -> Result<(), AllocError>
+    // Follows files that go. No others are read.
+    pub(crate) fn drop_files(&mut self, files: &[StoredFile]) -> Result<(), AllocError>
         ensures { OnOk result ((r : Repository) → AreThere files.now r.files → IsKept r self.old
             → IsKept (without_files files.now r) self.new) }
     {

@@ -89,7 +89,7 @@ held-each c r =
 abbrev pub times : Facet → List Written → ℕ
 times q ws = count_by (facet_eq q) (facets_of ws)
 
-times-append : (q : Facet) (ws vs : List Written) → times q (ws ++ vs) ≡ times q ws + times q vs
+pub times-append : (q : Facet) (ws vs : List Written) → times q (ws ++ vs) ≡ times q ws + times q vs
 times-append q ws vs =
     ap (count_by (facet_eq q)) (map-append (λ w. w.facet) ws vs)
     ∙ sum_by-append (λ x. cond (facet_eq q x) 1 0) (facets_of ws) (facets_of vs)

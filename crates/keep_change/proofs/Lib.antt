@@ -6,6 +6,7 @@ pub mod Carry
 pub mod Exchange
 pub mod Filling
 pub mod Following
+pub mod Halves
 pub mod History
 pub mod Holdings
 pub mod Law
@@ -15,3 +16,4 @@ pub mod Place
 pub mod Records
 pub mod Sorted
 pub mod Touching
+pub mod Turning

@@ -9,10 +9,11 @@ use Rattle.keep_names.specs.declared.id.Id.{Id}
 use Rattle.keep_repo.specs.Repository.{Repository, held, is_filled}
 use Rattle.keep_repo.specs.declared.facet.Facet.{Facet}
 use Rattle.keep_repo.specs.declared.facet.Facet.TheVariants.{File, Mark}
-use Rattle.keep_change.specs.Change.{is_met}
+use Rattle.keep_change.specs.Change.{is_met, is_ready}
 use Rattle.keep_change.specs.Form.{HasNoFacetTwice}
 use Rattle.keep_change.specs.Lists.{file_names, marked_packs}
 use Rattle.keep_change.specs.Result.{result_of}
+use Rattle.keep_change.specs.Touch.{writes, before_of, after_of}
 use Rattle.keep_change.specs.declared.change.Change.{Change}
 
 -- whether the name, or the pack, is one of these
@@ -74,3 +75,16 @@ FilesComeFrom =
     (c : Change) (r : Repository) (name : FileName) (bytes : List ℕ)
     → finite.get (result_of c r).files name ≡ Some bytes
     → (finite.get r.files name ≡ Some bytes) ⊎ Any (λ f. (f.name ≡ name) × (f.bytes ≡ bytes)) c.adds
+
+-- what each facet holds before and after the change, made in this repository
+pub record Turns (c : Change) (r : Repository) : Type 0 where
+  -- a facet that it writes holds what the change asks for, and then what the change writes
+  pub before : (q : Facet) → writes c q ≡ true → held r q ≡ before_of c q
+  pub after : (q : Facet) → writes c q ≡ true → held (result_of c r) q ≡ after_of c q
+  -- and any other holds what it held
+  pub others : (q : Facet) → writes c q ≡ false → held (result_of c r) q ≡ held r q
+
+-- each change that is made where it is ready turns what it writes, and nothing else
+abbrev pub WrittenFacetsTurn : Type 0
+WrittenFacetsTurn =
+    (c : Change) (r : Repository) → HasNoFacetTwice c → is_ready (held r) c ≡ true → Turns c r

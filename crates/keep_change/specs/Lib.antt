@@ -2,9 +2,12 @@ pub mod Change
 pub mod Filling
 pub mod Fold
 pub mod Form
+pub mod Halves
 pub mod Holdings
 pub mod Law
+pub mod Limits
 pub mod Lists
+pub mod Marks
 pub mod NamedBytes
 pub mod Outline
 pub mod Result

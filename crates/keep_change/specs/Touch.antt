@@ -30,3 +30,7 @@ leans_on c other = list_any (touches c) (written_facets other)
 -- what the change asks the facet to hold before it, if it writes the facet
 abbrev pub before_of : Change → Facet → Option Content
 before_of c facet = option_map_or (λ w. w.before) (record_of (written c) facet) None
+
+-- what the facet holds after it, if it writes the facet
+abbrev pub after_of : Change → Facet → Option Content
+after_of c facet = option_map_or (λ w. w.after) (record_of (written c) facet) None

@@ -1,12 +1,14 @@
 ghost use Rattle.std.specs.Prelude.{◌≡◌, IsTrue, OnOk, OnErr, map};
 ghost use Rattle.std.specs.FinMap.{insert};
 ghost use Rattle.std.specs.List.{list_all};
-ghost use Rattle.keep_repo.specs.Repository.{held};
+ghost use Rattle.keep_repo.specs.Repository.{Repository, held};
 ghost use Rattle.keep_change.specs.Change.{added, set, is_as_written, is_ready};
+ghost use Rattle.keep_change.specs.Halves.{turned, begun_of, completed_of};
 ghost use Rattle.keep_change.specs.Result as made;
 
 use crate::change::{Change, PackMark};
 use crate::stored_file::StoredFile;
+use crate::turn::Turn;
 use keep_repo::Repo;
 use std::alloc::AllocError;
 
@@ -17,8 +19,8 @@ impl Change {
         ensures ok { OnOk result (repo.new ≡ made.result_of self.now repo.old) }
         ensures err { OnErr result (repo.new ≡ repo.old) }
     {
-        put(self.adds.as_slice(), self.sets.as_slice(), repo)?;
-        take(self.drops.as_slice(), self.clears.as_slice(), repo);
+        self.begin(Turn::Make, repo)?;
+        self.complete(Turn::Make, repo);
         Ok(())
     }
 
@@ -28,8 +30,51 @@ impl Change {
         ensures ok { OnOk result (repo.new ≡ made.result_of (made.reverse_of self.now) repo.old) }
         ensures err { OnErr result (repo.new ≡ repo.old) }
     {
-        put(self.drops.as_slice(), self.clears.as_slice(), repo)?;
-        take(self.adds.as_slice(), self.sets.as_slice(), repo);
+        self.begin(Turn::TakeBack, repo)?;
+        self.complete(Turn::TakeBack, repo);
+        Ok(())
+    }
+
+    /// The first half of a change: puts all that comes. Where memory runs out the repository is as it was.
+    pub fn begin(&self, turn: Turn, repo: &mut Repo) -> Result<(), AllocError>
+        requires { IsTrue (is_ready (held repo.old) (turned turn self.now)) }
+        ensures ok { OnOk result (repo.new ≡ begun_of (turned turn self.now) repo.old) }
+        ensures err { OnErr result (repo.new ≡ repo.old) }
+    {
+        put(self.coming_files(turn), self.coming_marks(turn), repo)
+    }
+
+    /// The second half: takes away all that goes. It takes no memory.
+    pub fn complete(&self, turn: Turn, repo: &mut Repo)
+        ensures { repo.new ≡ completed_of (turned turn self.now) repo.old }
+    {
+        take(self.going_files(turn), self.going_marks(turn), repo);
+    }
+
+    /// Takes the first half back, in place of the second one. It takes no memory.
+    pub fn abandon(&self, turn: Turn, repo: &mut Repo)
+        ensures { (r : Repository) → IsTrue (is_ready (held r) (turned turn self.now))
+            → repo.old ≡ begun_of (turned turn self.now) r → repo.new ≡ r }
+    {
+        self.withdraw(turn, repo);
+    }
+
+    /// Takes away all that came. It takes no memory.
+    fn withdraw(&self, turn: Turn, repo: &mut Repo)
+        ensures { repo.new ≡ completed_of (made.reverse_of (turned turn self.now)) repo.old }
+    {
+        take(self.coming_files(turn), self.coming_marks(turn), repo);
+    }
+
+    /// Takes back what the change made of marks, and nothing else. Where memory runs out some marks are
+    /// taken back: it is for a copy that is let go then.
+    pub fn unapply_marks(&self, repo: &mut Repo) -> Result<(), AllocError>
+        ensures ok { let marks = made.take_marks self.now.sets (made.put_marks self.now.clears repo.old.marks) in
+            OnOk result (repo.new ≡ record repo.old { marks = marks }) }
+        ensures err { OnErr result (repo.new.files ≡ repo.old.files) }
+    {
+        put_marks_there(self.clears.as_slice(), repo)?;
+        take_marks(self.sets.as_slice(), repo);
         Ok(())
     }
 }
@@ -100,6 +145,18 @@ fn put_marks(marks: &[PackMark], repo: &mut Repo) -> Result<(), AllocError>
             take_marks(&marks[..place], repo);
             return Err(error);
         }
+    }
+    Ok(())
+}
+
+/// Puts the marks one by one, in the place of those that are there. Where memory runs out some are put.
+fn put_marks_there(marks: &[PackMark], repo: &mut Repo) -> Result<(), AllocError>
+    ensures ok { let marks = made.put_marks marks.now repo.old.marks in
+        OnOk result (repo.new ≡ record repo.old { marks = marks }) }
+    ensures err { OnErr result (repo.new.files ≡ repo.old.files) }
+{
+    for put in marks {
+        repo.insert_mark(put.pack, put.mark)?;
     }
     Ok(())
 }

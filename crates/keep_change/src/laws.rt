@@ -1,4 +1,4 @@
-ghost use Rattle.keep_change.specs.Filling.{FacetsFollow, FilesComeFrom};
+ghost use Rattle.keep_change.specs.Filling.{FacetsFollow, FilesComeFrom, WrittenFacetsTurn};
 ghost use Rattle.keep_change.specs.Law.{RedoIsExact, TakingBackRestores, UndoIsExact};
 ghost use Rattle.keep_change.specs.Lists.{SortedListsAreWellFormed, WhatIsAskedIsMet};
 
@@ -32,4 +32,9 @@ pub fn what_is_asked_is_met()
 pub fn results_follow_the_lists()
     ensures facets { FacetsFollow }
     ensures files { FilesComeFrom }
+{}
+
+/// What the facets that a change writes hold before it and after it, and that no others change.
+pub fn written_facets_turn()
+    ensures { WrittenFacetsTurn }
 {}

@@ -6,22 +6,26 @@ mod effect;
 mod holder;
 mod laws;
 mod listed;
+mod marks;
 mod meets;
 mod member;
 mod outline;
+mod shared_change;
 mod stored_file;
-#[cfg(test)]
-mod tests;
 mod touch;
+mod turn;
 mod well_formedness;
 
 pub use change::{Change, PackMark, Planned};
 pub use holder::Holder;
 pub use laws::{
     redo_is_exact, results_follow_the_lists, sorted_lists_are_well_formed, taking_back_restores,
-    undo_is_exact, what_is_asked_is_met,
+    undo_is_exact, what_is_asked_is_met, written_facets_turn,
 };
 pub use listed::Listed;
+pub use marks::marks_of;
 pub use member::Member;
 pub use outline::{Outline, What};
+pub use shared_change::SharedChange;
 pub use stored_file::StoredFile;
+pub use turn::Turn;

@@ -1,14 +1,18 @@
-ghost use Rattle.std.specs.Prelude.{◌≡◌, is_some, length, map, min};
+ghost use Rattle.std.specs.Prelude.{◌≡◌, is_some, length, map, min, nat_le};
 ghost use Rattle.std.specs.List.{list_any};
 ghost use Rattle.keep_repo.specs.Facet.{Stored, Marked};
 ghost use Rattle.keep_change.specs.Change.{holds_same};
 ghost use Rattle.keep_change.specs.Form.{ListsInOrder, IsWellFormed};
+ghost use Rattle.keep_change.specs.Limits.{facet_limit};
 ghost use Rattle.keep_change.specs.Touch.{facets, writes, touches, leans_on, before_of};
 
 use crate::change::Change;
 use crate::member::{Member, contains, find};
 use keep_names::{FileName, Id};
 use keep_repo::{Bytes, Facet, Mark};
+
+/// The most facets that a change may touch.
+const MAX_FACETS: usize = 65_536;
 
 impl Change {
     /// Whether the change writes the facet. It takes log n steps for n facets.
@@ -55,6 +59,13 @@ impl Change {
             .saturating_add(marked)
             .saturating_add(unmarked);
         files.saturating_add(marks)
+    }
+
+    /// Whether the change touches no more facets than a change may.
+    pub fn is_within_limit(&self) -> bool
+        ensures { result ≡ nat_le (length (facets self.now)) facet_limit }
+    {
+        self.facet_count() <= MAX_FACETS
     }
 
     /// Whether the change touches a facet that the other one writes.

@@ -7,8 +7,6 @@ mod doc;
 mod fields;
 mod lists;
 mod made;
-#[cfg(test)]
-mod tests;
 
 pub use config::{Config, ConfigError, read_config};
 pub use doc::{DocError, read_doc, readable_values_read_back, write_doc};

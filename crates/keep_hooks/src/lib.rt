@@ -10,8 +10,6 @@ mod laws;
 mod limit;
 mod measure;
 mod pick;
-#[cfg(test)]
-mod tests;
 mod veto;
 mod watch;
 mod written;

@@ -6,8 +6,6 @@ mod index_error;
 mod joining;
 mod leaving;
 mod reading;
-#[cfg(test)]
-mod tests;
 mod writing;
 
 pub use index::{Index, IndexedPack};

@@ -7,8 +7,6 @@ mod job;
 mod patterns;
 mod planning;
 mod policies;
-#[cfg(test)]
-mod tests;
 
 pub use edits::edit_of;
 pub use error::JobError;

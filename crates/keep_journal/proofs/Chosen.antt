@@ -9,6 +9,7 @@ use Rattle.std.specs.List.{filter, find}
 use Rattle.std.specs.Option.{option_map}
 use Rattle.keep_change.specs.Fold.{Numbered}
 use Rattle.keep_change.specs.declared.change.Change.{Change}
+use Rattle.keep_change.specs.declared.change.PackMark.{PackMark}
 use Rattle.keep_journal.specs.History.{committed, last_change, change_of, CountsFrom, IsNumbered}
 use Rattle.keep_journal.specs.Kept.{chosen}
 use Rattle.keep_journal.specs.Journal.{Journal, posted}
@@ -113,8 +114,8 @@ chosen-Undo test j k n = ap (filter (λ x. test x.number)) (committed-Undo j k n
 pub chosen-Redo : (test : ℕ → Bool) (j : Journal) (k n : ℕ) → chosen test (posted j k (Redo n)) ≡ chosen test j
 chosen-Redo test j k n = ap (filter (λ x. test x.number)) (committed-Redo j k n)
 
-pub chosen-Empty : (test : ℕ → Bool) (j : Journal) (k n : ℕ) → chosen test (posted j k (Empty n)) ≡ chosen test j
-chosen-Empty test j k n = ap (filter (λ x. test x.number)) (committed-Empty j k n)
+pub chosen-Empty : (test : ℕ → Bool) (j : Journal) (k n : ℕ) (marks : List PackMark) → chosen test (posted j k (Empty n marks)) ≡ chosen test j
+chosen-Empty test j k n marks = ap (filter (λ x. test x.number)) (committed-Empty j k n marks)
 
 -- tests that agree choose the same
 pub chosen_agree : (p q : ℕ → Bool) (j : Journal) → ((m : ℕ) → p m ≡ q m) → chosen p j ≡ chosen q j

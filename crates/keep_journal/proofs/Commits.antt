@@ -3,14 +3,15 @@ use Rattle.std.proofs.Common.{◌≡◌, ℕ, zero, suc, ◌+◌, ◌-◌, ◌<�
 use Rattle.std.proofs.lemmas.Bool.{and_right, cases_lt, eq-eqb, le-leb, le-ltb, lt-leb, lt-ltb, ne_eqb}
 use Rattle.std.proofs.lemmas.Bool.Decides.{nat_tests}
 use Rattle.std.proofs.lemmas.Grind.{fold-append}
-use Rattle.std.proofs.lemmas.List.{length_push, append-nil}
+use Rattle.std.proofs.lemmas.List.{append_assoc, length_push, append-nil}
 use Rattle.std.proofs.lemmas.List.Folds.{find-append}
 use Rattle.std.proofs.lemmas.List.Elements.{filter_map-append}
 use Rattle.std.specs.List.{find, filter_map, fold, slice_get}
 use Rattle.std.specs.Option.{is_some, option_map, option_or}
 use Rattle.keep_change.specs.Fold.{Numbered}
 use Rattle.keep_change.specs.declared.change.Change.{Change}
-use Rattle.keep_journal.specs.History.{committed, last_change, change_of, in_force_after, is_in_force, final_after, final_number, length_of, AscendFrom, ComesNext, CountsFrom, Fits, IsNumbered}
+use Rattle.keep_change.specs.declared.change.PackMark.{PackMark}
+use Rattle.keep_journal.specs.History.{committed, last_change, change_of, in_force_after, is_in_force, final_after, final_number, length_of, AscendFrom, ComeInTurn, ComesNext, CountsFrom, Fits, IsLegal, IsNumbered}
 use Rattle.keep_journal.specs.Event.{commit_of}
 use Rattle.keep_journal.specs.Journal.{Journal, posted}
 use Rattle.keep_journal.specs.declared.event.Entry.{Entry}
@@ -29,8 +30,8 @@ committed-Undo j k n = filter_map-append (λ e. commit_of e.event) j.entries (re
 pub committed-Redo : (j : Journal) (k n : ℕ) → committed (posted j k (Redo n)) ≡ committed j
 committed-Redo j k n = filter_map-append (λ e. commit_of e.event) j.entries (record { at = k; event = Redo n } ∷ []) ∙ append-nil (committed j)
 
-pub committed-Empty : (j : Journal) (k n : ℕ) → committed (posted j k (Empty n)) ≡ committed j
-committed-Empty j k n = filter_map-append (λ e. commit_of e.event) j.entries (record { at = k; event = Empty n } ∷ []) ∙ append-nil (committed j)
+pub committed-Empty : (j : Journal) (k n : ℕ) (marks : List PackMark) → committed (posted j k (Empty n marks)) ≡ committed j
+committed-Empty j k n marks = filter_map-append (λ e. commit_of e.event) j.entries (record { at = k; event = Empty n marks } ∷ []) ∙ append-nil (committed j)
 
 pub last_change-Commit : (j : Journal) (k n : ℕ) (c : Change) → last_change (posted j k (Commit n c)) ≡ last_change j + 1
 last_change-Commit j k n c =
@@ -43,8 +44,8 @@ last_change-Undo j k n = ap (λ ns. j.base + length ns) (committed-Undo j k n)
 pub last_change-Redo : (j : Journal) (k n : ℕ) → last_change (posted j k (Redo n)) ≡ last_change j
 last_change-Redo j k n = ap (λ ns. j.base + length ns) (committed-Redo j k n)
 
-pub last_change-Empty : (j : Journal) (k n : ℕ) → last_change (posted j k (Empty n)) ≡ last_change j
-last_change-Empty j k n = ap (λ ns. j.base + length ns) (committed-Empty j k n)
+pub last_change-Empty : (j : Journal) (k n : ℕ) (marks : List PackMark) → last_change (posted j k (Empty n marks)) ≡ last_change j
+last_change-Empty j k n marks = ap (λ ns. j.base + length ns) (committed-Empty j k n marks)
 
 pub is_in_force-push : (j : Journal) (k : ℕ) (e : Event) (m : ℕ)
     → is_in_force (posted j k e) m ≡ in_force_after m (is_in_force j m) e
@@ -184,16 +185,27 @@ IsNumbered-push j e h next = record {
         rw (committed-Commit j e.at n c) (CountsFrom-push (j.base + 1) (committed j) (record { number = n; change = c }) h.commits (omega arith))
     commits (Undo n) fits = rw (committed-Undo j e.at n) h.commits
     commits (Redo n) fits = rw (committed-Redo j e.at n) h.commits
-    commits (Empty n) fits = rw (committed-Empty j e.at n) h.commits
+    commits (Empty n marks) fits = rw (committed-Empty j e.at n marks) h.commits
 
     first_final : (event : Event) → Fits j event → j.base ≤ final_number (posted j e.at event)
     first_final (Commit n c) fits = rw (final_number-push j e.at (Commit n c)) h.first_final
     first_final (Undo n) fits = rw (final_number-push j e.at (Undo n)) h.first_final
     first_final (Redo n) fits = rw (final_number-push j e.at (Redo n)) h.first_final
-    first_final (Empty n) fits = rw (final_number-push j e.at (Empty n)) (omega (arith, h.first_final, fits.0))
+    first_final (Empty n marks) fits = rw (final_number-push j e.at (Empty n marks)) (omega (arith, h.first_final, fits.0))
 
     last_final : (event : Event) → Fits j event → final_number (posted j e.at event) ≤ last_change (posted j e.at event)
     last_final (Commit n c) fits = rw (final_number-push j e.at (Commit n c), last_change-Commit j e.at n c) (omega (arith, h.last_final))
     last_final (Undo n) fits = rw (final_number-push j e.at (Undo n), last_change-Undo j e.at n) h.last_final
     last_final (Redo n) fits = rw (final_number-push j e.at (Redo n), last_change-Redo j e.at n) h.last_final
-    last_final (Empty n) fits = rw (final_number-push j e.at (Empty n), last_change-Empty j e.at n) fits.1
+    last_final (Empty n marks) fits = rw (final_number-push j e.at (Empty n marks), last_change-Empty j e.at n marks) fits.1
+
+-- ---- a history stays legal
+
+-- one more that can come next
+ComeInTurn-push : (j : Journal) (es : List Entry) (e : Entry) → ComeInTurn j es → ComesNext (record { base = j.base; entries = j.entries ++ es }) e → ComeInTurn j (es ++ e ∷ [])
+ComeInTurn-push j [] e h next = (rw (append-nil j.entries) at next, tt)
+ComeInTurn-push j (x ∷ es) e h next =
+    (h.0, ComeInTurn-push (posted j x.at x.event) es e h.1 (rw (append_assoc j.entries (x ∷ []) es) next))
+
+pub IsLegal-push : (j : Journal) (e : Entry) → IsLegal j → ComesNext j e → IsLegal (posted j e.at e.event)
+IsLegal-push j e h next = ComeInTurn-push (record { base = j.base; entries = [] }) j.entries e h next

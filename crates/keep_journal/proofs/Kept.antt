@@ -6,6 +6,7 @@ use Rattle.keep_repo.specs.Repository.{Repository}
 use Rattle.keep_change.specs.Fold.{Numbered, fold_of}
 use Rattle.keep_change.specs.Result.{result_of}
 use Rattle.keep_change.specs.declared.change.Change.{Change}
+use Rattle.keep_change.specs.declared.change.PackMark.{PackMark}
 use Rattle.keep_journal.specs.History.{last_change, change_of, final_number, is_in_force, IsNumbered}
 use Rattle.keep_journal.specs.Kept.{above, chosen, earlier, is_kept, kept, kept_with, later, others, up_to}
 use Rattle.keep_journal.specs.Journal.{Journal, posted}
@@ -67,8 +68,8 @@ is_kept-Undo j k n m = rw (is_in_force-push j k (Undo n) m, final_number-push j 
 pub is_kept-Redo : (j : Journal) (k n m : ℕ) → final_number j < n → is_kept (posted j k (Redo n)) m ≡ (is_kept j m || m == n)
 is_kept-Redo j k n m above = rw (is_in_force-push j k (Redo n) m, final_number-push j k (Redo n)) (redone_test (is_in_force j m) (final_number j) n m above)
 
-pub is_kept-Empty : (j : Journal) (k n m : ℕ) → final_number j ≤ n → is_kept (posted j k (Empty n)) m ≡ (is_kept j m && nat_lt n m)
-is_kept-Empty j k n m above = rw (is_in_force-push j k (Empty n) m, final_number-push j k (Empty n)) (emptied_test (is_in_force j m) (final_number j) n m above)
+pub is_kept-Empty : (j : Journal) (k n : ℕ) (marks : List PackMark) (m : ℕ) → final_number j ≤ n → is_kept (posted j k (Empty n marks)) m ≡ (is_kept j m && nat_lt n m)
+is_kept-Empty j k n marks m above = rw (is_in_force-push j k (Empty n marks) m, final_number-push j k (Empty n marks)) (emptied_test (is_in_force j m) (final_number j) n m above)
 
 -- ---- the kept ones, after one more event
 
@@ -82,10 +83,10 @@ kept-Redo j k n above =
     chosen-Redo (is_kept (posted j k (Redo n))) j k n
     ∙ chosen_agree (is_kept (posted j k (Redo n))) (λ m. is_kept j m || m == n) j (λ m. is_kept-Redo j k n m above)
 
-pub kept-Empty : (j : Journal) (k n : ℕ) → final_number j ≤ n → kept (posted j k (Empty n)) ≡ later j n
-kept-Empty j k n above =
-    chosen-Empty (is_kept (posted j k (Empty n))) j k n
-    ∙ chosen_agree (is_kept (posted j k (Empty n))) (λ m. is_kept j m && nat_lt n m) j (λ m. is_kept-Empty j k n m above)
+pub kept-Empty : (j : Journal) (k n : ℕ) (marks : List PackMark) → final_number j ≤ n → kept (posted j k (Empty n marks)) ≡ later j n
+kept-Empty j k n marks above =
+    chosen-Empty (is_kept (posted j k (Empty n marks))) j k n marks
+    ∙ chosen_agree (is_kept (posted j k (Empty n marks))) (λ m. is_kept j m && nat_lt n m) j (λ m. is_kept-Empty j k n marks m above)
 
 pub kept-Commit : (j : Journal) (k n : ℕ) (c : Change) → IsNumbered j → n ≡ last_change j + 1
     → kept (posted j k (Commit n c)) ≡ kept j ++ record { number = n; change = c } ∷ []

@@ -8,6 +8,7 @@ use Rattle.std.specs.List.{slice_get}
 use Rattle.std.specs.Option.{MatchOption, option_copied}
 use Rattle.std.specs.Slice.{IsItemAt}
 use Rattle.keep_change.specs.declared.change.Change.{Change}
+use Rattle.keep_change.specs.declared.change.PackMark.{PackMark}
 use Rattle.keep_journal.specs.History.{last_change, change_of, final_after, in_force_after, is_in_force, ComesNext, Fits, IsNumbered}
 use Rattle.keep_journal.specs.Journal.{Journal, posted}
 use Rattle.keep_journal.specs.Standings.{AreStandings, IsStandingOf, IsUpToDate, journal_of, last_after}
@@ -15,7 +16,7 @@ use Rattle.keep_journal.specs.declared.event.Entry.{Entry}
 use Rattle.keep_journal.specs.declared.event.Event.{Event}
 use Rattle.keep_journal.specs.declared.event.Event.TheVariants.{Commit, Undo, Redo, Empty}
 use Rattle.keep_journal.specs.declared.history.Standing.{Standing}
-use Rattle.keep_journal.proofs.Commits.{last_change-Commit, last_change-Empty, last_change-Redo, last_change-Undo, change_of-Commit, change_of-push, final_number-push, is_in_force-push, IsNumbered-push, no_change, some_change}
+use Rattle.keep_journal.proofs.Commits.{last_change-Commit, last_change-Empty, last_change-Redo, last_change-Undo, change_of-Commit, change_of-push, final_number-push, is_in_force-push, IsLegal-push, IsNumbered-push, no_change, some_change}
 
 -- ---- elements of a longer or written list
 
@@ -145,11 +146,11 @@ pub AreStandings-Redo : (j : Journal) (ss : List Standing) (k n p : ℕ) (s : St
 AreStandings-Redo j ss k n p s all number within read =
     AreStandings-set j k (Redo n) ss n p s (record { place = s.place; in_force = true }) true all number within read refl refl (last_change-Redo j k n) (redo_turns n)
 
-pub AreStandings-Empty : (j : Journal) (ss : List Standing) (k n : ℕ) → AreStandings j ss
-    → AreStandings (posted j k (Empty n)) ss
-AreStandings-Empty j ss k n all = record {
-  count = all.count ∙ sym (last_change-Empty j k n);
-  each = λ i s at. IsStandingOf-push j k (Empty n) (j.base + i + 1) s s (all.each i s at) refl (all.each i s at).in_force;
+pub AreStandings-Empty : (j : Journal) (ss : List Standing) (k n : ℕ) (marks : List PackMark) → AreStandings j ss
+    → AreStandings (posted j k (Empty n marks)) ss
+AreStandings-Empty j ss k n marks all = record {
+  count = all.count ∙ sym (last_change-Empty j k n marks);
+  each = λ i s at. IsStandingOf-push j k (Empty n marks) (j.base + i + 1) s s (all.each i s at) refl (all.each i s at).in_force;
 }
 
 -- ---- what a history keeps
@@ -158,7 +159,7 @@ last_after-push : (j : Journal) (k : ℕ) (e : Event) (last : ℕ) → Fits j e 
 last_after-push j k (Commit n c) last fits counted = fits ∙ sym (last_change-Commit j k n c)
 last_after-push j k (Undo n) last fits counted = counted ∙ sym (last_change-Undo j k n)
 last_after-push j k (Redo n) last fits counted = counted ∙ sym (last_change-Redo j k n)
-last_after-push j k (Empty n) last fits counted = counted ∙ sym (last_change-Empty j k n)
+last_after-push j k (Empty n marks) last fits counted = counted ∙ sym (last_change-Empty j k n marks)
 
 -- what the fields show after the event is the journal with it
 pub shown_after : (last : ℕ) (entries : List Entry) (e : Entry) (ss ts : List Standing) (top : ℕ)
@@ -180,6 +181,7 @@ IsUpToDate-push last entries e ss ts top h next all =
     let j : Journal = journal_of last (length ss) entries in
     rw (shown_after last entries e ss ts top h next all) (record {
       numbered = IsNumbered-push j e h.numbered next;
+      legal = IsLegal-push j e h.legal next;
       standings = all;
       last_final = ap (λ k. final_after k e.event) h.last_final ∙ sym (final_number-push j e.at e.event);
       counted = last_after-push j e.at e.event last next.fits h.counted;

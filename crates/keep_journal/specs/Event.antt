@@ -11,14 +11,14 @@ abbrev pub number_of : Event → ℕ
 number_of (Commit n c) = n
 number_of (Undo n) = n
 number_of (Redo n) = n
-number_of (Empty n) = n
+number_of (Empty n marks) = n
 
 -- what was done to the change
 abbrev pub what_of : Event → What
 what_of (Commit n c) = what.Commit
 what_of (Undo n) = what.Undo
 what_of (Redo n) = what.Redo
-what_of (Empty n) = what.Empty
+what_of (Empty n marks) = what.Empty
 
 -- the change that the event made for the first time
 abbrev pub commit_of : Event → Option Numbered

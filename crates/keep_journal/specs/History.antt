@@ -1,11 +1,11 @@
 -- What a journal says of each change.
-use Rattle.std.specs.Prelude.{◌≡◌, ℕ, ◌+◌, ◌<◌, ◌≤◌, ◌==◌, nat_lt, nat_le, Bool, false, ◌||◌, ◌&&◌, not, if◌then◌else◌, List, [], ◌∷◌, length, fold, Option}
+use Rattle.std.specs.Prelude.{◌≡◌, ℕ, ◌+◌, ◌<◌, ◌≤◌, ◌==◌, nat_lt, nat_le, Bool, true, false, ◌||◌, ◌&&◌, not, if◌then◌else◌, List, [], ◌∷◌, length, fold, Option}
 use Rattle.std.specs.List.{filter_map, find}
 use Rattle.std.specs.Option.{option_map}
 use Rattle.keep_change.specs.Fold.{Numbered}
 use Rattle.keep_change.specs.declared.change.Change.{Change}
 use Rattle.keep_journal.specs.Event.{commit_of}
-use Rattle.keep_journal.specs.Journal.{Journal}
+use Rattle.keep_journal.specs.Journal.{Journal, posted}
 use Rattle.keep_journal.specs.declared.event.Entry.{Entry}
 use Rattle.keep_journal.specs.declared.event.Event.{Event}
 use Rattle.keep_journal.specs.declared.event.Event.TheVariants.{Commit, Undo, Redo, Empty}
@@ -37,7 +37,7 @@ abbrev pub in_force_after : ℕ → Bool → Event → Bool
 in_force_after n before (Commit m c) = m == n || before
 in_force_after n before (Undo m) = not (m == n) && before
 in_force_after n before (Redo m) = m == n || before
-in_force_after n before (Empty m) = before
+in_force_after n before (Empty m marks) = before
 
 -- whether change n is in force: the last of its events among commit, undo and redo isn't an undo
 abbrev pub is_in_force : Journal → ℕ → Bool
@@ -45,7 +45,7 @@ is_in_force j n = fold (λ before e. in_force_after n before e.event) false j.en
 
 -- the last final change's number after the event
 abbrev pub final_after : ℕ → Event → ℕ
-final_after before (Empty m) = m
+final_after before (Empty m marks) = m
 final_after before _ = before
 
 -- the number up to which changes are final: that of the last emptying, else the one that the history began with
@@ -59,17 +59,26 @@ status_of j n =
     else (if nat_le n (final_number j) then Final
     else (if is_in_force j n then InForce else Undone))
 
--- what the event is about: a commit has the next number, and the others are about a change that can have such an event
+-- what the event is about: a commit has the next number, an undo is of a change in force that isn't final, a redo of one that is undone, and an emptying moves the final number up
 abbrev pub Fits : Journal → Event → Type 0
 Fits j (Commit n c) = n ≡ last_change j + 1
-Fits j (Undo n) = (final_number j < n) × (n ≤ last_change j)
-Fits j (Redo n) = (final_number j < n) × (n ≤ last_change j)
-Fits j (Empty n) = (final_number j ≤ n) × (n ≤ last_change j)
+Fits j (Undo n) = (final_number j < n) × (n ≤ last_change j) × (is_in_force j n ≡ true)
+Fits j (Redo n) = (final_number j < n) × (n ≤ last_change j) × (is_in_force j n ≡ false)
+Fits j (Empty n marks) = (final_number j ≤ n) × (n ≤ last_change j)
 
 -- the entry can come next: its number is above those before it, and its event fits
 pub record ComesNext (j : Journal) (e : Entry) : Type 0 where
   pub above : length_of j < e.at
   pub fits : Fits j e.event
+
+-- the entries can come in turn, each after the journal that those before it make
+abbrev pub ComeInTurn : Journal → List Entry → Type 0
+ComeInTurn j [] = Unit {0}
+ComeInTurn j (e ∷ es) = ComesNext j e × ComeInTurn (posted j e.at e.event) es
+
+-- the journal is legal at each of its entries: from its beginning on, each could come next
+abbrev pub IsLegal : Journal → Type 0
+IsLegal j = ComeInTurn (record { base = j.base; entries = [] }) j.entries
 
 -- the changes are numbered from k on
 abbrev pub CountsFrom : ℕ → List Numbered → Type 0

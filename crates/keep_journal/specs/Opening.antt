@@ -1,10 +1,12 @@
 -- The repository under a history: what the changes that can still be undone were made of.
-use Rattle.std.specs.Prelude.{◌≡◌, List, [], ◌∷◌, None, All}
+use Rattle.std.specs.Prelude.{◌≡◌, ◌≤◌, List, [], ◌∷◌, length, None, All}
 use Rattle.keep_repo.specs.Repository.{Repository}
 use Rattle.keep_change.specs.Fold.{Numbered, first_break, fold_of}
 use Rattle.keep_change.specs.Form.{IsWellFormed}
+use Rattle.keep_change.specs.Limits.{facet_limit}
 use Rattle.keep_change.specs.Result.{result_of, reverse_of}
-use Rattle.keep_journal.specs.History.{committed, IsNumbered}
+use Rattle.keep_change.specs.Touch.{facets}
+use Rattle.keep_journal.specs.History.{committed, IsLegal, IsNumbered}
 use Rattle.keep_journal.specs.Journal.{Journal}
 use Rattle.keep_journal.specs.Kept.{kept}
 
@@ -21,9 +23,15 @@ opening_under j live = unfold_of (kept j) live
 abbrev pub AreWellFormed : Journal → Type 0
 AreWellFormed j = All (λ n. IsWellFormed n.change) (committed j)
 
--- the events are numbered, and the kept changes can be made of the opening in turn, and make the live repository
+-- every committed change is within the limit of facets
+abbrev pub AreWithinLimit : Journal → Type 0
+AreWithinLimit j = All (λ n. length (facets n.change) ≤ facet_limit) (committed j)
+
+-- the events are numbered and legal, and the kept changes can be made of the opening in turn, and make the live repository
 pub record IsOpen (opening : Repository) (j : Journal) (live : Repository) : Type 0 where
   pub numbered : IsNumbered j
+  pub legal : IsLegal j
   pub formed : AreWellFormed j
+  pub within : AreWithinLimit j
   pub unbroken : first_break (kept j) opening ≡ None
   pub state : live ≡ fold_of (kept j) opening

@@ -1,7 +1,7 @@
 -- What a history keeps of each change, beside its events.
 use Rattle.std.specs.Prelude.{◌≡◌, ℕ, ◌+◌, ◌-◌, List, length, slice_get, Some}
 use Rattle.keep_change.specs.declared.change.Change.{Change}
-use Rattle.keep_journal.specs.History.{change_of, final_number, is_in_force, last_change, IsNumbered}
+use Rattle.keep_journal.specs.History.{change_of, final_number, is_in_force, last_change, IsLegal, IsNumbered}
 use Rattle.keep_journal.specs.Journal.{Journal}
 use Rattle.keep_journal.specs.declared.event.Entry.{Entry}
 use Rattle.keep_journal.specs.declared.event.Event.{Event}
@@ -33,6 +33,7 @@ pub record AreStandings (j : Journal) (ss : List Standing) : Type 0 where
 -- what is kept beside the events is what they say
 pub record IsUpToDate (j : Journal) (ss : List Standing) (final last : ℕ) : Type 0 where
   pub numbered : IsNumbered j
+  pub legal : IsLegal j
   pub standings : AreStandings j ss
   pub last_final : final ≡ final_number j
   pub counted : last ≡ last_change j

@@ -1,18 +1,19 @@
 ghost use Rattle.std.specs.Prelude.{◌≡◌};
 
-use keep_change::{Change, What};
+use keep_change::{Listed, PackMark, SharedChange, What};
 
 /// What happened to a repository, each with the number of the change that it is about.
 #[derive(Debug, Drop)]
 pub enum Event {
     /// The change was made, for the first time.
-    Commit(u64, Change),
+    Commit(u64, SharedChange),
     /// The change was taken back.
     Undo(u64),
     /// The change was made again.
     Redo(u64),
-    /// All changes up to this one became final.
-    Empty(u64),
+    /// All changes up to this one became final, and the repository that the others are made of has these marks then,
+    /// by pack.
+    Empty(u64, Listed<PackMark>),
 }
 
 impl Event {
@@ -26,7 +27,7 @@ impl Event {
             Event::Commit(number, _) => *number,
             Event::Undo(number) => *number,
             Event::Redo(number) => *number,
-            Event::Empty(number) => *number,
+            Event::Empty(number, _) => *number,
         }
     }
 
@@ -37,7 +38,7 @@ impl Event {
             Event::Commit(_, _) => What::Commit,
             Event::Undo(_) => What::Undo,
             Event::Redo(_) => What::Redo,
-            Event::Empty(_) => What::Empty,
+            Event::Empty(_, _) => What::Empty,
         }
     }
 }

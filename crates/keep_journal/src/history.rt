@@ -56,7 +56,7 @@ impl Model for History {
 }
 
 impl History {
-    ghost use Rattle.keep_journal.specs.History.{change_of, final_number, is_change, last_change, length_of, status_of, ComesNext, IsNumbered};
+    ghost use Rattle.keep_journal.specs.History.{change_of, final_number, is_change, last_change, length_of, status_of, ComesNext, IsLegal, IsNumbered};
     ghost use Rattle.keep_journal.specs.Journal.{Journal, posted};
     ghost use Rattle.keep_journal.specs.Kept.{kept_change};
     ghost use Rattle.keep_journal.specs.Opening.{AreWellFormed};
@@ -77,6 +77,7 @@ impl History {
     pub fn entries(&self) -> &[Entry]
         ensures exact { result.now ≡ self.now.journal.entries }
         ensures numbered { IsNumbered self.now.journal }
+        ensures legal { IsLegal self.now.journal }
     {
         self.entries.as_slice()
     }
@@ -128,7 +129,7 @@ impl History {
     {
         let standing = self.standing(n)?;
         match &self.entries.get(standing.place)?.event {
-            Event::Commit(_, change) => Some(change),
+            Event::Commit(_, change) => Some(change.as_change()),
             _ => None,
         }
     }
@@ -206,7 +207,7 @@ fn note(standings: &mut Vec<Standing>, entries: &[Entry], last: u64, entry: &Ent
             let place = place_of(standings.len(), last, *n);
             standings[place].in_force = true;
         }
-        Event::Empty(_) => {}
+        Event::Empty(_, _) => {}
     }
 }
 
@@ -224,7 +225,7 @@ fn final_after(before: u64, event: &Event) -> u64
     ensures { result ≡ final_number_after before event.now }
 {
     match event {
-        Event::Empty(number) => *number,
+        Event::Empty(number, _) => *number,
         _ => before,
     }
 }

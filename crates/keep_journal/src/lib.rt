@@ -3,8 +3,6 @@
 
 mod event;
 mod history;
-#[cfg(test)]
-mod tests;
 
 pub use event::{Entry, Event};
 pub use history::{History, Status};

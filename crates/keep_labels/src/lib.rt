@@ -3,24 +3,16 @@
 
 mod count;
 mod edit;
-#[cfg(test)]
-mod edit_tests;
 mod forget;
-#[cfg(test)]
-mod forget_tests;
 mod groups;
 mod laws;
 mod order;
 mod policy;
-#[cfg(test)]
-mod policy_tests;
 mod retagged;
 mod rising;
 mod row;
 mod swap;
 mod tag;
-#[cfg(test)]
-mod tag_tests;
 mod taking;
 mod walk;
 

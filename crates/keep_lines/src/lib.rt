@@ -14,8 +14,6 @@ mod revision;
 mod rewrite_line;
 mod tag_line;
 mod telling;
-#[cfg(test)]
-mod tests;
 mod word;
 mod word_list;
 

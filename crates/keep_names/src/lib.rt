@@ -6,8 +6,6 @@ mod file_name;
 mod hex_digit;
 mod id;
 mod laws;
-#[cfg(test)]
-mod tests;
 
 pub use blob::{Blob, BlobId, BlobType};
 pub use file_name::{FileName, Kind, path_of};

@@ -6,8 +6,6 @@ mod header;
 mod laws;
 mod pack;
 mod pack_error;
-#[cfg(test)]
-mod tests;
 
 pub use entry::blob_at;
 pub use header::read_header;

@@ -7,8 +7,6 @@ mod plan_error;
 mod reuses;
 mod settling;
 mod stored;
-#[cfg(test)]
-mod tests;
 mod unreached;
 
 pub use laws::{

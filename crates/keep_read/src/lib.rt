@@ -9,8 +9,6 @@ mod laws;
 mod restoration;
 mod restore_error;
 mod restored;
-#[cfg(test)]
-mod tests;
 mod walk;
 
 pub use finding::Finding;

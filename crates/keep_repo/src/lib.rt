@@ -6,8 +6,6 @@ mod facet;
 mod kinds;
 mod laws;
 mod repo;
-#[cfg(test)]
-mod tests;
 
 pub use bytes::Bytes;
 pub use facet::{Facet, Mark};

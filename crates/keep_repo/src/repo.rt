@@ -101,6 +101,16 @@ impl Repo {
         Ok((names, packs))
     }
 
+    /// The marked packs with their marks, by pack.
+    pub fn marks(&self) -> Result<Vec<(Id, Mark)>, AllocError>
+        ensures { IfOk result (λ listed. listed.items ≡ map.entries self.now.marks) }
+    {
+        self.marks
+            .iter()
+            .map(|(pack, mark)| (*pack, *mark))
+            .collect(self.alloc)
+    }
+
     /// The ids of the files of this kind, in order. It goes over no others.
     pub fn ids(&self, kind: Kind) -> Result<Vec<Id>, AllocError>
         ensures { IfOk result (λ ids. ids.items ≡ ids_among kind (map.keys self.now.files)) }
@@ -119,6 +129,18 @@ impl Repo {
             alloc: self.alloc,
             files: self.files.clone()?,
             marks: self.marks.clone()?,
+        })
+    }
+
+    /// A repository of its own with the same marks, and without files.
+    pub fn copy_marks(&self) -> Result<Repo, AllocError>
+        ensures { IfOk result (λ made. made ≡ record { files = map.empty; marks = self.now.marks }) }
+    {
+        let marks = self.marks.clone()?;
+        Ok(Repo {
+            alloc: self.alloc,
+            files: BTreeMap::new(self.alloc),
+            marks,
         })
     }
 

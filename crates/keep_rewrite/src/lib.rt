@@ -6,8 +6,6 @@ mod laws;
 mod left;
 mod plan;
 mod retreed;
-#[cfg(test)]
-mod tests;
 mod walk;
 
 pub use laws::{a_planned_rewrite_can_be_made, plan_rewrite_is_safe};

@@ -11,8 +11,6 @@ mod reply;
 mod script;
 mod session;
 mod status;
-#[cfg(test)]
-mod tests;
 
 pub use script::run;
 pub use status::Status;

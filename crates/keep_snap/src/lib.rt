@@ -6,11 +6,7 @@ mod copies;
 mod fact;
 mod relabel;
 mod snap;
-#[cfg(test)]
-mod tests;
 mod time;
-#[cfg(test)]
-mod time_tests;
 mod written;
 
 pub use fact::{SnapFacts, facts};

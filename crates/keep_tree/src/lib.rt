@@ -3,8 +3,6 @@
 
 mod laws;
 mod leaving;
-#[cfg(test)]
-mod leaving_tests;
 mod letters;
 mod matching;
 mod name_match;
@@ -12,15 +10,9 @@ mod names;
 mod node;
 mod parsing;
 mod pattern;
-#[cfg(test)]
-mod pattern_tests;
 mod rest;
 mod rests;
-#[cfg(test)]
-mod rests_tests;
 mod step;
-#[cfg(test)]
-mod tests;
 mod tree;
 mod written;
 

@@ -4,17 +4,9 @@
 
 mod laws;
 mod mark;
-#[cfg(test)]
-mod mark_tests;
 mod reindexing;
 mod repair;
-#[cfg(test)]
-mod repair_tests;
 mod sweep;
-#[cfg(test)]
-mod sweep_tests;
-#[cfg(test)]
-mod test_packs;
 
 pub use laws::{
     a_planned_mark_can_be_made, a_planned_mark_is_safe, a_planned_repair_can_be_made,

@@ -21,7 +21,9 @@ open_alone j r none =
     let P : List Entry → Type 0 = λ es. IsOpen (opening_under (begun j.base es) r) (begun j.base es) r in
     subst P (sym none) (record {
       numbered = record { events = tt; commits = tt; first_final = omega arith; last_final = omega arith };
+      legal = tt;
       formed = All-nil _;
+      within = All-nil _;
       unbroken = refl;
       state = refl;
     })

@@ -2,8 +2,6 @@
 #![tactic(auto)]
 
 mod known;
-#[cfg(test)]
-mod tests;
 mod view;
 
 pub use view::View;

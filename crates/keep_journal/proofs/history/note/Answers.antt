@@ -21,4 +21,4 @@ returns-in-Redo c =
     rw c.in-Redo.is (AreStandings-Redo _ _ _ _ _ _ c.requires.kept.standings at.0 at.1 c.index_mut-in-Redo.ensures.value)
 
 pub returns-in-Empty : goal.returns-in-Empty
-returns-in-Empty c = rw c.in-Empty.is (AreStandings-Empty _ _ _ _ c.requires.kept.standings)
+returns-in-Empty c = rw c.in-Empty.is (AreStandings-Empty _ _ _ _ _ c.requires.kept.standings)

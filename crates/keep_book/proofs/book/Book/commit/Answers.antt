@@ -1,6 +1,7 @@
 -- The check says what the definitions say, and a change that is met is made.
 use Rattle.std.proofs.Common.{◌≡◌, ◌+◌, ap, ◌∙◌, arith, refl}
 use Rattle.std.proofs.lemmas.Result.{err_from_is_err_and}
+use Rattle.keep_change.proofs.Records.{and_first}
 use Rattle.keep_book.proofs.Replying.{refused, accepted, replies_told, replies_memory, same_error}
 use Rattle.keep_journal.specs.History.{last_change, length_of}
 use Rattle.keep_journal.specs.Journal.{posted}
@@ -26,6 +27,21 @@ returns-in_err-reserve-clause-reply c =
       λ malformed. absurd (malformed c.in_ok-check_commit.ensures.well_formed),
     )
 
+pub returns-in_err-change-clause-reply : goal.returns-in_err-change-clause-reply
+returns-in_err-change-clause-reply c =
+    let p = err_from_is_err_and c.from_residual-in_err-change.result c.from_residual-in_err-change.ensures.1 in
+    rw (p.1, p.2, ← c.self.view_is, ← c.repo.ensures) (
+      λ formed. replies_memory _ _ (accepted _ (c.in_ok-check_commit.ensures.formed formed)),
+      λ malformed. absurd (malformed c.in_ok-check_commit.ensures.well_formed),
+    )
+
+pub apply-requires-clause-once : goal.apply-requires-clause-once
+apply-requires-clause-once c = rw (c.as_change.ensures, c.in_ok-change.ensures) c.in_ok-check_commit.ensures.well_formed.once
+
+pub apply-requires-clause-ready : goal.apply-requires-clause-ready
+apply-requires-clause-ready c =
+    rw (c.as_change.ensures, c.in_ok-change.ensures) (and_first _ _ (rw c.repo.ensures at c.in_ok-check_commit.ensures.met))
+
 pub returns-in_err-apply-clause-reply : goal.returns-in_err-apply-clause-reply
 returns-in_err-apply-clause-reply c =
     let p = err_from_is_err_and c.from_residual-in_err-apply.result c.from_residual-in_err-apply.ensures.1 in
@@ -41,11 +57,11 @@ written : (c : goal.After-post) → WrittenBack (opening_under c.self.inside.his
     (posted c.self.inside.history.journal (length_of c.self.inside.history.journal + 1) (Commit (last_change c.self.inside.history.journal + 1) c.args.planned.change))
     c.post.new.history.journal c.apply.new.self
 written c =
-    rw c.in_ok-apply.ensures.ok
+    rw (c.in_ok-apply.ensures.ok, c.as_change.ensures, c.in_ok-change.ensures)
     (written_back _ _ _ _
     (open-Commit _ c.self.inside.history.journal c.self.inside.live _ _ c.args.planned.change c.self.invariant (omega arith) refl
-    c.in_ok-check_commit.ensures.well_formed (rw c.repo.ensures at c.in_ok-check_commit.ensures.met))
-    (c.post.ensures.events ∙ rw (c.in_ok-reserve.ensures.same, next c) refl))
+    c.in_ok-check_commit.ensures.well_formed c.in_ok-check_commit.ensures.within (rw c.repo.ensures at c.in_ok-check_commit.ensures.met))
+    (c.post.ensures.events ∙ rw (c.in_ok-reserve.ensures.same, next c, c.in_ok-change.ensures) refl))
 
 pub invariant_of-self-2 : goal.invariant_of-self-2
 invariant_of-self-2 c = (written c).is_open

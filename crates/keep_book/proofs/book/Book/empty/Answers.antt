@@ -1,14 +1,16 @@
 -- Emptying moves the opening, and leaves the live repository.
-use Rattle.std.proofs.Common.{arith, ◌+◌, ◌∙◌, refl}
+use Rattle.std.proofs.Common.{◌≡◌, arith, ap, ◌+◌, ◌∙◌, refl}
 use Rattle.std.proofs.lemmas.Result.{err_from_is_err_and}
 use Rattle.keep_book.proofs.Replying.{refused, accepted, replies_told, replies_memory, can_empty}
 use Rattle.keep_change.specs.Fold.{fold_of}
+use Rattle.keep_change.specs.Marks.{marks_of}
 use Rattle.keep_journal.specs.History.{length_of}
 use Rattle.keep_journal.specs.Journal.{posted}
 use Rattle.keep_journal.specs.Kept.{up_to}
 use Rattle.keep_journal.specs.declared.event.Event.TheVariants.{Empty}
 use Rattle.keep_journal.proofs.Numbers.{is_change_parts}
 use Rattle.keep_journal.specs.Opening.{opening_under}
+use Rattle.keep_book.proofs.Marking.{new_opening}
 use Rattle.keep_book.proofs.Steps.{WrittenBack, open-Empty, written_back}
 use Rattle.keep_book.proofs.book.Book.empty.Goals as goal
 
@@ -22,13 +24,24 @@ returns-in_err-reserve-clause-reply c =
     let p = err_from_is_err_and c.from_residual-in_err-reserve.result c.from_residual-in_err-reserve.ensures.1 in
     rw (p.1, p.2, ← c.self.view_is) (replies_memory _ _ (accepted _ c.in_ok-check_empty.ensures.refusal))
 
+pub returns-in_err-marks-clause-reply : goal.returns-in_err-marks-clause-reply
+returns-in_err-marks-clause-reply c =
+    let p = err_from_is_err_and c.from_residual-in_err-marks.result c.from_residual-in_err-marks.ensures.1 in
+    rw (p.1, p.2, ← c.self.view_is) (replies_memory _ _ (accepted _ c.in_ok-check_empty.ensures.refusal))
+
+-- the marks of the repository over which the changes are moved
+marks_are : (c : goal.After-post) → c.in_ok-marks.marks ≡ marks_of (fold_of (up_to c.self.inside.history.journal c.args.n) (opening_under c.self.inside.history.journal c.self.inside.live))
+marks_are c =
+    rw (c.repo.ensures, c.in_ok-reserve.ensures.same) at c.in_ok-marks.ensures
+    ∙ ap marks_of (new_opening _ c.self.inside.history.journal c.self.inside.live c.args.n c.self.invariant)
+
 written : (c : goal.After-post) → WrittenBack (fold_of (up_to c.self.inside.history.journal c.args.n) (opening_under c.self.inside.history.journal c.self.inside.live))
-    (posted c.self.inside.history.journal (length_of c.self.inside.history.journal + 1) (Empty c.args.n)) c.post.new.history.journal c.self.inside.live
+    (posted c.self.inside.history.journal (length_of c.self.inside.history.journal + 1) (Empty c.args.n (marks_of (fold_of (up_to c.self.inside.history.journal c.args.n) (opening_under c.self.inside.history.journal c.self.inside.live))))) c.post.new.history.journal c.self.inside.live
 written c =
     let can = can_empty c.self.inside.history.journal c.args.n (accepted _ c.in_ok-check_empty.ensures.refusal) in
     written_back _ _ _ _
-    (open-Empty _ c.self.inside.history.journal c.self.inside.live _ c.args.n c.self.invariant (omega arith) (omega (arith, can.above)) (is_change_parts c.self.inside.history.journal c.args.n can.change).1)
-    (c.post.ensures.events ∙ rw c.in_ok-reserve.ensures.same refl)
+    (open-Empty _ c.self.inside.history.journal c.self.inside.live _ c.args.n _ c.self.invariant (omega arith) (omega (arith, can.above)) (is_change_parts c.self.inside.history.journal c.args.n can.change).1)
+    (c.post.ensures.events ∙ rw (c.in_ok-reserve.ensures.same, marks_are c) refl)
 
 pub invariant_of-self-2 : goal.invariant_of-self-2
 invariant_of-self-2 c = (written c).is_open

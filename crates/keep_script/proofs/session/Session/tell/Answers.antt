@@ -25,7 +25,7 @@ pub returns-in_ok-name-in-Restore-clause-answers : goal.returns-in_ok-name-in-Re
 returns-in_ok-name-in-Restore-clause-answers g c = λ filters.
     let state = state_of filters c.args.self.now c.args.book.now in
     let after = state_of filters c.args.self.now c.refresh.new.self in
-    let meant = rw c.history-in-Restore.ensures at c.find-found.ensures in
+    let meant = rw c.history-in-Restore.ensures.events at c.find-found.ensures in
     let told = rw (c.view.ensures, c.refresh.ensures) at c.restore.ensures.restored in
     AnswersCommand-puts _ _ state after (the_command.Question c.args.question) _ _ c.write_restore.ensures.puts (rw c.in-Restore.is (
       Restored-tells state c.in-Restore.target c.in_ok-name-in-Restore.name c.restore.result (sym meant ∙ c.in_ok-name-in-Restore.ensures.ok_part) told,

@@ -1,0 +1,4 @@
+mod edits;
+mod forgets;
+mod policies;
+mod tags;

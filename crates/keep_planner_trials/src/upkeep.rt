@@ -1,0 +1,4 @@
+mod marks;
+mod packs;
+mod repairs;
+mod sweeps;
