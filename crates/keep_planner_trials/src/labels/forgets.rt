@@ -31,21 +31,11 @@ fn last(alloc: Global, most: u32) -> Policy {
     }
 }
 
-// The filter of the snapshots of the host `web`.
-pub(crate) fn of_web(alloc: Global) -> Result<Filter, AllocError> {
-    let host = String::from_str(alloc, "web")?;
-    let rule = Pick::Host(host.clone()?);
-    let ask: AskFacts = Box::new(
-        alloc,
-        move |facts: &SnapFacts| facts.host.as_str() == host.as_str(),
-    )?;
-    let name = String::from_str(alloc, "mine")?;
-    Ok(Filter::new(name, rule, ask))
-}
-
 // The names of what a forget of the host `web` drops.
 fn forgotten(alloc: Global, repo: Repo, most: u32) -> Result<Vec<FileName>, PlanError> {
-    let filter = of_web(alloc)?;
+    let ask: AskFacts = Box::new(alloc, |facts: &SnapFacts| facts.host.as_str() == "web")?;
+    let rule = Pick::Host(String::from_str(alloc, "web")?);
+    let filter = Filter::new(String::from_str(alloc, "mine")?, rule, ask);
     let live = LiveRepo::new(alloc, repo);
     let history = History::new(alloc, 0);
     let view = View::without_events(&live, &history);

@@ -1,14 +1,14 @@
 use crate::files::{names_of, put_own};
 use crate::labels::edits::{edit, tags};
-use crate::labels::forgets::of_web;
 use keep_catalog::LiveRepo;
 use keep_change::Change;
+use keep_hooks::{AskFacts, Filter, Pick};
 use keep_journal::History;
 use keep_labels::{Edit, plan_tag};
 use keep_names::{FileName, Id, Kind, id_of};
 use keep_plan::PlanError;
 use keep_repo::Repo;
-use keep_snap::{Snap, write_snap};
+use keep_snap::{Snap, SnapFacts, write_snap};
 use keep_view::View;
 use serde_json::Map;
 use std::alloc::{AllocError, Global};
@@ -49,7 +49,9 @@ fn put(
 
 // The change of the tags of the snapshots of the host `web`.
 fn tagged(alloc: Global, repo: &Repo, edit: &Edit) -> Result<Change, PlanError> {
-    let filter = of_web(alloc)?;
+    let ask: AskFacts = Box::new(alloc, |facts: &SnapFacts| facts.host.as_str() == "web")?;
+    let rule = Pick::Host(String::from_str(alloc, "web")?);
+    let filter = Filter::new(String::from_str(alloc, "mine")?, rule, ask);
     let live = LiveRepo::new(alloc, repo.copy()?);
     let history = History::new(alloc, 0);
     let view = View::without_events(&live, &history);
