@@ -27,7 +27,7 @@ fn adds_of(alloc: Global, kit: &Kit, job: &Job) -> Result<usize, JobError> {
 }
 
 // A backup of these bytes in the file `/a`, at this time.
-pub fn backup_of(alloc: Global, bytes: &[u8], time: &str) -> Result<Job, AllocError> {
+pub(crate) fn backup_of(alloc: Global, bytes: &[u8], time: &str) -> Result<Job, AllocError> {
     let mut files = Vec::new(alloc);
     let path = String::from_str(alloc, "/a")?;
     let bytes = Vec::from_slice(alloc, bytes)?;
