@@ -1,7 +1,10 @@
 pub mod Looking
 pub mod Marking
+pub mod Places
 pub mod Redoing
 pub mod Replying
 pub mod Restoring
 pub mod Steps
+pub mod Totals
 pub mod Undoing
+pub mod Walking

@@ -1,5 +1,5 @@
 -- When a change can be made again at its place, and what is left then.
-use Rattle.std.proofs.Common.{◌≡◌, ℕ, ◌<◌, Bool, true, false, ◌∷◌, ◌++◌, Option, Some, None, refl, sym, ap, ◌∙◌, subst, arith}
+use Rattle.std.proofs.Common.{◌≡◌, ℕ, ◌<◌, Bool, true, false, List, ◌∷◌, ◌++◌, Option, Some, None, Result, refl, sym, ap, ◌∙◌, subst, arith}
 use Rattle.std.specs.Prelude.{nat_le, if◌then◌else◌}
 use Rattle.std.specs.Option.{option_map}
 use Rattle.keep_repo.specs.Repository.{Repository, held}
@@ -19,14 +19,38 @@ use Rattle.keep_journal.proofs.Numbers.{is_change_parts}
 use Rattle.keep_journal.proofs.Kept.{kept_around_undone, kept_with_around, kept-Redo}
 use Rattle.keep_book.specs.Dependents.{blocked_by}
 use Rattle.keep_journal.specs.Opening.{IsOpen}
-use Rattle.keep_book.specs.Reply.{redo_refusal, is_full}
+use Rattle.keep_change.specs.declared.outline.Outline.{Outline}
+use Rattle.keep_hooks.specs.Guards.{Rule}
+use Rattle.keep_book.specs.Reply.{Answers, redo_refusal}
+use Rattle.keep_book.specs.declared.reply.Refusal.{Refusal}
 use Rattle.keep_book.specs.declared.reply.Refusal.TheVariants.{Blocked}
+use Rattle.keep_book.specs.declared.reply.Told.{Told}
 use Rattle.keep_journal.proofs.Later.{no_facet_twice}
 use Rattle.keep_book.proofs.Undoing.{above_final_lt}
 
 -- a change that isn't final is one of the journal's
 pub undone_is_there : (j : Journal) (n : ℕ) → IsNumbered j → is_change j n ≡ true → final_number j < n → (c : Change) × (change_of j n ≡ Some c)
 undone_is_there j n numbered change above = some_change j n numbered (omega (arith, numbered.first_final)) (is_change_parts j n change).1
+
+-- what a redo that isn't refused early knows
+pub record CanRedo (j : Journal) (n : ℕ) : Type 0 where
+  pub change : is_change j n ≡ true
+  pub above : final_number j < n
+  pub not_in_force : is_in_force j n ≡ false
+  pub out : is_kept j n ≡ false
+
+pub can_redo : (j : Journal) (n : ℕ) → redo_refusal j n ≡ None → CanRedo j n
+can_redo j n none = split (is_change j n) refl (nat_le n (final_number j)) refl (is_in_force j n) refl where
+  split : (k : Bool) → is_change j n ≡ k → (f : Bool) → nat_le n (final_number j) ≡ f → (i : Bool) → is_in_force j n ≡ i → CanRedo j n
+  split false k f fe i ie = cc (rw k at none)
+  split true k true fe i ie = cc (rw (k, fe) at none)
+  split true k false fe true ie = cc (rw (k, fe, ie) at none)
+  split true k false fe false ie = record {
+    change = k;
+    above = above_final_lt (final_number j) n fe;
+    not_in_force = ie;
+    out = rw ie refl;
+  }
 
 module _ (opening : Repository) (j : Journal) (live : Repository) (is : IsOpen opening j live) (n : ℕ) where
   module _ (c : Change) (found : change_of j n ≡ Some c) (out : is_kept j n ≡ false) where
@@ -53,42 +77,16 @@ module _ (opening : Repository) (j : Journal) (live : Repository) (is : IsOpen o
       broken_with found.0 found.1 out
 
   -- the first break with it at its place is told by the live repository and the later changes, wherever that is asked
-  pub same_redo_refusal : redo_refusal j n (first_break (kept_with j n) opening) ≡ redo_refusal j n (blocked_by j live n)
-  same_redo_refusal = split (is_change j n) refl (nat_le n (final_number j)) refl (is_in_force j n) refl where
-    split : (k : Bool) → is_change j n ≡ k → (f : Bool) → nat_le n (final_number j) ≡ f → (i : Bool) → is_in_force j n ≡ i → redo_refusal j n (first_break (kept_with j n) opening) ≡ redo_refusal j n (blocked_by j live n)
-    split false k f fe i ie = rw k refl
-    split true k true fe i ie = rw (k, fe) refl
-    split true k false fe true ie = rw (k, fe, ie) refl
-    split true k false fe false ie =
-        let out : is_kept j n ≡ false = rw ie refl in
-        ap (redo_refusal j n) (same_broken k (above_final_lt (final_number j) n fe) out)
-
--- what a redo that isn't refused knows
-pub record CanRedo (j : Journal) (n : ℕ) (broken : Option ℕ) : Type 0 where
-  pub change : is_change j n ≡ true
-  pub above : final_number j < n
-  pub not_in_force : is_in_force j n ≡ false
-  pub out : is_kept j n ≡ false
-  pub unbroken : broken ≡ None
-
-nothing_mapped : (broken : Option ℕ) → option_map Blocked broken ≡ None → broken ≡ None
-nothing_mapped None h = refl
-nothing_mapped (Some m) h = cc h
-
-pub can_redo : (j : Journal) (n : ℕ) (broken : Option ℕ) → redo_refusal j n broken ≡ None → CanRedo j n broken
-can_redo j n broken none = split (is_change j n) refl (nat_le n (final_number j)) refl (is_in_force j n) refl (is_full j) refl where
-  split : (k : Bool) → is_change j n ≡ k → (f : Bool) → nat_le n (final_number j) ≡ f → (i : Bool) → is_in_force j n ≡ i → (u : Bool) → is_full j ≡ u → CanRedo j n broken
-  split false k f fe i ie u ue = cc (rw k at none)
-  split true k true fe i ie u ue = cc (rw (k, fe) at none)
-  split true k false fe true ie u ue = cc (rw (k, fe, ie) at none)
-  split true k false fe false ie true ue = cc (rw (k, fe, ie, ue) at none)
-  split true k false fe false ie false ue = record {
-    change = k;
-    above = above_final_lt (final_number j) n fe;
-    not_in_force = ie;
-    out = rw ie refl;
-    unbroken = nothing_mapped broken (rw (k, fe, ie, ue) at none);
-  }
+  pub same_redo_answer : (rules : List Rule) (o : Outline) (told : Told) (reply : Result Told Refusal)
+      → Answers (redo_refusal j n) rules o (option_map Blocked (blocked_by j live n)) told reply
+      → Answers (redo_refusal j n) rules o (option_map Blocked (first_break (kept_with j n) opening)) told reply
+  same_redo_answer rules o told reply answers = split (redo_refusal j n) refl answers where
+    split : (early : Option Refusal) → redo_refusal j n ≡ early → Answers early rules o (option_map Blocked (blocked_by j live n)) told reply
+        → Answers (redo_refusal j n) rules o (option_map Blocked (first_break (kept_with j n) opening)) told reply
+    split (Some refusal) e said = rw e said
+    split None e said =
+        let can = can_redo j n e in
+        rw (e, same_broken can.change can.above can.out) said
 
 -- what making a change again finds and leaves
 pub record Redone (opening : Repository) (j : Journal) (live : Repository) (n : ℕ) (c : Change) : Type 0 where
@@ -96,12 +94,12 @@ pub record Redone (opening : Repository) (j : Journal) (live : Repository) (n : 
   pub is : (k : ℕ) → length_of j < k → IsOpen opening (posted j k (Redo n)) (result_of c live)
 
 pub redone : (opening : Repository) (j : Journal) (live : Repository) (n : ℕ) (c : Change) → IsOpen opening j live → change_of j n ≡ Some c
-    → redo_refusal j n (blocked_by j live n) ≡ None → Redone opening j live n c
-redone opening j live n c is found none =
-    let can = can_redo j n (blocked_by j live n) none in
+    → redo_refusal j n ≡ None → blocked_by j live n ≡ None → Redone opening j live n c
+redone opening j live n c is found none met =
+    let can = can_redo j n none in
     let law = with_it opening j live is n c found can.out in
     let around = kept_with_around j n c is.numbered found in
-    let unbroken : first_break (kept_with j n) opening ≡ None = broken_with opening j live is n c found can.out ∙ can.unbroken in
+    let unbroken : first_break (kept_with j n) opening ≡ None = broken_with opening j live is n c found can.out ∙ met in
     let there : first_break (earlier j n ++ record { number = n; change = c } ∷ later j n) opening ≡ None =
     subst (λ ns. first_break ns opening ≡ None) around unbroken in
     let fits : Fits j (Redo n) = (can.above, (is_change_parts j n can.change).1, can.not_in_force) in

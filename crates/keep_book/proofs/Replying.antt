@@ -1,8 +1,7 @@
 -- What a check says of the reply.
-use Rattle.std.proofs.Common.{◌≡◌, ℕ, ◌+◌, ◌<◌, Bool, true, false, Option, Some, None, Result, Ok, Err, refl, ap, subst, arith, inl, inr, ◌⊎◌, ◌∙◌}
-use Rattle.std.specs.Prelude.{IsSome, MatchOption, OnOk, nat_le, nat_lt, ◌&&◌}
+use Rattle.std.proofs.Common.{◌≡◌, ℕ, ◌+◌, ◌<◌, Bool, true, false, List, Option, Some, None, Result, Ok, Err, refl, ap, subst, arith, inl, inr, ◌⊎◌, ◌∙◌}
+use Rattle.std.specs.Prelude.{IsSome, MatchOption, OnOk, nat_le, nat_lt}
 use Rattle.std.specs.Option.{option_map}
-use Rattle.std.proofs.lemmas.Bool.{lt-ltb}
 use Rattle.std.proofs.lemmas.Bool.Decides.{nat_tests}
 use Rattle.std.specs.Cmp.{first_so, second_so}
 use Rattle.keep_repo.specs.Repository.{Repository}
@@ -13,12 +12,15 @@ use Rattle.keep_journal.proofs.Kept.{kept-Undo}
 use Rattle.keep_change.specs.declared.change.Change.{Change}
 use Rattle.keep_journal.proofs.Numbers.{is_change_found}
 use Rattle.keep_journal.specs.Journal.{Journal}
+use Rattle.keep_change.specs.declared.outline.Outline.{Outline}
+use Rattle.keep_hooks.specs.Guards.{Rule, first_refusing}
 use Rattle.keep_book.specs.Dependents.{Passes}
+use Rattle.keep_book.specs.Guarding.{Vetoes}
 use Rattle.keep_book.specs.BookState.{BookState}
 use Rattle.keep_book.specs.Limits.{event_limit}
-use Rattle.keep_book.specs.Reply.{RefusesOrTells, TakesBack, undo_refusal, redo_refusal, empty_refusal, is_full, told_of, state_after}
+use Rattle.keep_book.specs.Reply.{Answers, RefusesOrTells, TakesBack, undo_refusal, empty_refusal, is_full, told_of, state_after}
 use Rattle.keep_book.specs.declared.reply.Refusal.{Refusal}
-use Rattle.keep_book.specs.declared.reply.Refusal.TheVariants.{Blocked, Memory, LeanedOn}
+use Rattle.keep_book.specs.declared.reply.Refusal.TheVariants.{Memory, LeanedOn}
 use Rattle.keep_book.specs.Request.{Undo}
 use Rattle.keep_book.specs.declared.reply.Told.{Told}
 use Rattle.keep_book.proofs.Undoing.{above_final_lt}
@@ -44,22 +46,37 @@ pub replies_memory : (r : Option Refusal) (told : Told) → r ≡ None → Refus
 replies_memory None told none = inr refl
 replies_memory (Some refusal) told none = cc none
 
+-- ---- the same where vetoes are asked
+
+pub refused_early : (early : Option Refusal) (rules : List Rule) (o : Outline) (late : Option Refusal) (e : Refusal) (told : Told)
+    → Passes early (Err e) → Answers early rules o late told (Err e)
+refused_early None rules o late e told h = cc h
+refused_early (Some refusal) rules o late e told h = same_error e refusal h
+
+pub refused_by_veto : (early : Option Refusal) (rules : List Rule) (o : Outline) (late : Option Refusal) (e : Refusal) (told : Told)
+    → early ≡ None → Vetoes rules o (Err e) → Answers early rules o late told (Err e)
+refused_by_veto early rules o late e told none (inl first) = rw (none, first) (inl refl)
+refused_by_veto early rules o late e told none (inr (asked, memory)) = rw (none, memory) (inr (asked, refl))
+
+pub refused_late : (early : Option Refusal) (rules : List Rule) (o : Outline) (late : Option Refusal) (e : Refusal) (told : Told)
+    → early ≡ None → first_refusing rules o ≡ None → Passes late (Err e) → Answers early rules o late told (Err e)
+refused_late early rules o late e told none first h = rw (none, first) (inl (refused late e told h))
+
+pub no_memory : (early : Option Refusal) (rules : List Rule) (o : Outline) (late : Option Refusal) (told : Told)
+    → early ≡ None → first_refusing rules o ≡ None → late ≡ None → Answers early rules o late told (Err Memory)
+no_memory early rules o late told none first last = rw (none, first) (inl (replies_memory late told last))
+
+pub answers_told : (early : Option Refusal) (rules : List Rule) (o : Outline) (late : Option Refusal) (told t : Told)
+    → early ≡ None → first_refusing rules o ≡ None → late ≡ None → t ≡ told → Answers early rules o late told (Ok t)
+answers_told early rules o late told t none first last same = rw (none, first) (inl (replies_told late told t last same))
+
+-- ---- single requests
+
 -- an undo of a change in force, where there is room, is refused only where the others can't be made
 pub can_be : (j : Journal) (n : ℕ) (broken : Option ℕ) → is_change j n ≡ true → final_number j < n → is_kept j n ≡ true → is_full j ≡ false → undo_refusal j n broken ≡ option_map LeanedOn broken
 can_be j n broken change above in_it room =
     let not_final : nat_le n (final_number j) ≡ false = grind (arith, nat_tests) in
     let in_force : is_in_force j n ≡ true = first_so _ _ in_it in
-    rw (change, not_final, in_force, room) refl
-
-not_in_force : (f k : Bool) → k ≡ true → (f && k) ≡ false → f ≡ false
-not_in_force true k e h = cc (e, h)
-not_in_force false k e h = refl
-
--- and a redo of an undone one only where those with it can't be
-pub can_be_again : (j : Journal) (n : ℕ) (broken : Option ℕ) → is_change j n ≡ true → final_number j < n → is_kept j n ≡ false → is_full j ≡ false → redo_refusal j n broken ≡ option_map Blocked broken
-can_be_again j n broken change above out room =
-    let not_final : nat_le n (final_number j) ≡ false = grind (arith, nat_tests) in
-    let in_force : is_in_force j n ≡ false = not_in_force (is_in_force j n) (nat_lt (final_number j) n) (lt-ltb (final_number j) n above) out in
     rw (change, not_final, in_force, room) refl
 
 -- what an emptying that isn't refused knows

@@ -1,6 +1,8 @@
+pub mod Armed
 pub mod BookState
 pub mod Dependents
 pub mod Formed
+pub mod Guarding
 pub mod Limits
 pub mod Refusal
 pub mod Reply

@@ -1,8 +1,7 @@
 -- What a book replies to a request, and what it leaves, as a function of its value.
-use Rattle.std.specs.Prelude.{◌≡◌, ◌≢◌, ℕ, ◌+◌, ◌==◌, nat_lt, nat_le, Bool, not, ◌&&◌, ◌||◌, if◌then◌else◌, List, [], ◌∷◌, length, Option, Some, None, Result, Ok, Err, OnOk, MatchOption, ◌⊎◌}
+use Rattle.std.specs.Prelude.{◌≡◌, ◌≢◌, ℕ, ◌+◌, ◌<◌, ◌==◌, nat_le, Bool, not, ◌&&◌, ◌||◌, if◌then◌else◌, List, [], ◌∷◌, length, Option, Some, None, Result, Ok, Err, OnOk, MatchOption, ◌⊎◌}
 use Rattle.std.specs.Option.{option_map, option_or}
 use Rattle.keep_repo.specs.Repository.{Repository, held}
-use Rattle.keep_repo.specs.declared.facet.Facet.{Facet}
 use Rattle.keep_change.specs.Fold.{first_break, fold_of}
 use Rattle.keep_change.specs.Form.{IsWellFormed, least_unmet}
 use Rattle.keep_change.specs.Limits.{facet_limit}
@@ -14,10 +13,13 @@ use Rattle.keep_journal.specs.Journal.{Journal, posted}
 use Rattle.keep_journal.specs.Kept.{kept, others, kept_with, up_to}
 use Rattle.keep_journal.specs.declared.event.Event.{Event}
 use Rattle.keep_journal.specs.declared.event.Event.TheVariants as event
+use Rattle.keep_change.specs.declared.outline.Outline.{Outline}
+use Rattle.keep_hooks.specs.Guards.{Rule, first_refusing}
 use Rattle.keep_book.specs.BookState.{BookState}
+use Rattle.keep_book.specs.Guarding.{event_outline}
 use Rattle.keep_book.specs.Limits.{change_limit, event_limit}
 use Rattle.keep_book.specs.declared.reply.Refusal.{Refusal}
-use Rattle.keep_book.specs.declared.reply.Refusal.TheVariants.{Malformed, Unknown, Final, NotInForce, InForce, Full, Stale, Unmet, LeanedOn, Blocked, Memory}
+use Rattle.keep_book.specs.declared.reply.Refusal.TheVariants.{Malformed, Unknown, Final, NotInForce, InForce, Full, Stale, Vetoed, Unmet, LeanedOn, Blocked, Memory}
 use Rattle.keep_book.specs.Request.{Request, Commit, Undo, Redo, Empty}
 use Rattle.keep_book.specs.declared.reply.Told.{Told}
 
@@ -34,13 +36,11 @@ is_full j = nat_le event_limit (length_of j)
 abbrev pub is_full_for : Journal → ℕ → Bool
 is_full_for j count = is_full j || (nat_le change_limit (last_change j) || not (nat_le count facet_limit))
 
--- why a well formed change can't be committed, where unmet is the least facet that isn't as it asks
-abbrev pub commit_refusal : Journal → Planned → Option Facet → Option Refusal
-commit_refusal j p unmet =
-    option_or
-    (first_of ((is_full_for j (length (facets p.change)), Full)
-    ∷ (p.change.strict && not (p.seen == length_of j), Stale (length_of j)) ∷ []))
-    (option_map Unmet unmet)
+-- why a well formed change can't be committed, whatever the vetoes and the live repository say
+abbrev pub commit_refusal : Journal → Planned → Option Refusal
+commit_refusal j p =
+    first_of ((is_full_for j (length (facets p.change)), Full)
+    ∷ (p.change.strict && not (p.seen == length_of j), Stale (length_of j)) ∷ [])
 
 -- why change n can't be undone, where broken is the first of the others that isn't met without it
 abbrev pub undo_refusal : Journal → ℕ → Option ℕ → Option Refusal
@@ -50,15 +50,13 @@ undo_refusal j n broken =
     ∷ (not (is_in_force j n), NotInForce) ∷ (is_full j, Full) ∷ []))
     (option_map LeanedOn broken)
 
--- why change n can't be redone, where broken is the first that isn't met with it at its place
-abbrev pub redo_refusal : Journal → ℕ → Option ℕ → Option Refusal
-redo_refusal j n broken =
-    option_or
-    (first_of ((not (is_change j n), Unknown) ∷ (nat_le n (final_number j), Final)
-    ∷ (is_in_force j n, InForce) ∷ (is_full j, Full) ∷ []))
-    (option_map Blocked broken)
+-- why change n can't be redone, whatever the vetoes and the other changes say
+abbrev pub redo_refusal : Journal → ℕ → Option Refusal
+redo_refusal j n =
+    first_of ((not (is_change j n), Unknown) ∷ (nat_le n (final_number j), Final)
+    ∷ (is_in_force j n, InForce) ∷ (is_full j, Full) ∷ [])
 
--- why the changes up to n can't be made final
+-- why the changes up to n can't be made final, whatever the vetoes say
 abbrev pub empty_refusal : Journal → ℕ → Option Refusal
 empty_refusal j n =
     first_of ((not (is_change j n), Unknown) ∷ (nat_le n (final_number j), Final) ∷ (is_full j, Full) ∷ [])
@@ -67,6 +65,13 @@ empty_refusal j n =
 abbrev pub RefusesOrTells : Option Refusal → Told → Result Told Refusal → Type 0
 RefusesOrTells (Some refusal) told reply = reply ≡ Err refusal
 RefusesOrTells None told reply = (reply ≡ Ok told) ⊎ (reply ≡ Err Memory)
+
+-- the early refusal where there is one; else that of the first veto, the late one, and what is told; memory may run out where a veto is asked
+abbrev pub Answers : Option Refusal → List Rule → Outline → Option Refusal → Told → Result Told Refusal → Type 0
+Answers (Some refusal) rules o late told reply = reply ≡ Err refusal
+Answers None rules o late told reply =
+    RefusesOrTells (option_or (option_map Vetoed (first_refusing rules o)) late) told reply
+    ⊎ ((0 < length rules) × (reply ≡ Err Memory))
 
 -- the number of the change that an accepted request is about: a commit gets the next one
 abbrev pub about : Journal → Request → ℕ
@@ -79,19 +84,23 @@ about j (Empty n) = n
 abbrev pub told_of : Journal → Request → Told
 told_of j request = record { number = about j request; at = length_of j + 1 }
 
--- the book's reply to a request
-abbrev pub Replies : BookState → Request → Result Told Refusal → Type 0
-Replies b (Commit p) reply =
+-- the book's reply to a request, where these are its vetoes; an undo isn't theirs to refuse
+abbrev pub Replies : BookState → List Rule → Request → Result Told Refusal → Type 0
+Replies b rules (Commit p) reply =
     let unmet = least_unmet (held b.live) p.change in
-    (IsWellFormed p.change → RefusesOrTells (commit_refusal b.events p unmet) (told_of b.events (Commit p)) reply)
+    (IsWellFormed p.change →
+    Answers (commit_refusal b.events p) rules (event_outline b.events (Commit p)) (option_map Unmet unmet)
+    (told_of b.events (Commit p)) reply)
     × (¬ IsWellFormed p.change → reply ≡ Err Malformed)
-Replies b (Undo n) reply =
+Replies b rules (Undo n) reply =
     let broken = first_break (others b.events n) b.opening in
     RefusesOrTells (undo_refusal b.events n broken) (told_of b.events (Undo n)) reply
-Replies b (Redo n) reply =
+Replies b rules (Redo n) reply =
     let broken = first_break (kept_with b.events n) b.opening in
-    RefusesOrTells (redo_refusal b.events n broken) (told_of b.events (Redo n)) reply
-Replies b (Empty n) reply = RefusesOrTells (empty_refusal b.events n) (told_of b.events (Empty n)) reply
+    Answers (redo_refusal b.events n) rules (event_outline b.events (Redo n)) (option_map Blocked broken)
+    (told_of b.events (Redo n)) reply
+Replies b rules (Empty n) reply =
+    Answers (empty_refusal b.events n) rules (event_outline b.events (Empty n)) None (told_of b.events (Empty n)) reply
 
 -- change n is taken back where the others, in their order, can be made of the opening, and what they make of it is left, unless memory runs out; else the first that can't be made is named
 abbrev pub TakesBack : BookState → ℕ → Result Told Refusal → Repository → Type 0
@@ -123,8 +132,12 @@ event_of b (Empty n) = event.Empty n (marks_of (opening_after b (Empty n)))
 abbrev pub book_of : Repository → Journal → BookState
 book_of opening j = record { opening = opening; events = j; live = fold_of (kept j) opening }
 
+-- the book with the request's event
+abbrev pub with_event : BookState → Request → BookState
+with_event b request =
+    book_of (opening_after b request) (posted b.events (length_of b.events + 1) (event_of b request))
+
 -- an accepted request adds its event, and a refused one changes nothing
 abbrev pub state_after : BookState → Request → Result Told Refusal → BookState
-state_after b request (Ok told) =
-    book_of (opening_after b request) (posted b.events (length_of b.events + 1) (event_of b request))
+state_after b request (Ok told) = with_event b request
 state_after b request (Err refusal) = b

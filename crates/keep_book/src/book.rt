@@ -1,230 +1,192 @@
-ghost use Rattle.std.specs.Prelude.{◌≡◌, ◌+◌, ◌<◌, true, IfOk, IsSome, IsTrue, OnOk, OnErr};
-ghost use Rattle.keep_repo.specs.Repository.{Repository, held};
-ghost use Rattle.keep_change.specs.Change.{is_ready};
-ghost use Rattle.keep_change.specs.Form.{HasNoFacetTwice};
-ghost use Rattle.keep_change.specs.Result.{result_of, reverse_of};
-ghost use Rattle.keep_change.specs.declared.change.Change.{Change};
-ghost use Rattle.keep_journal.specs.Event.{number_of};
-ghost use Rattle.keep_journal.specs.History.{Fits, IsNumbered, change_of, length_of};
+ghost use Rattle.std.specs.Prelude.{◌≡◌, ◌++◌, ◌<◌, ◌∷◌, IfErr, IfOk, IsSome, IsTrue, OnOk, [], false, string_bytes};
+ghost use Rattle.std.specs.List.{list_any};
+ghost use Rattle.std.specs.Str.{bytes_eq};
+ghost use Rattle.keep_hooks.specs.Rules.{rule_of, tally_of};
+ghost use Rattle.keep_book.specs.Armed.{IsCounted, hook_of, is_armed, is_double, rules_in, tallies_in, untold};
+ghost use Rattle.keep_journal.specs.History.{change_of, length_of};
 ghost use Rattle.keep_journal.specs.Kept.{is_kept};
-ghost use Rattle.keep_journal.specs.Journal.{posted};
-ghost use Rattle.keep_journal.specs.Opening.{IsOpen};
-ghost use Rattle.keep_view.specs.Shown.{shown_of};
 ghost use Rattle.keep_book.specs.BookState.{BookState, JustCommitted, new_book};
+ghost use Rattle.keep_book.specs.Guarding.{tallies_told};
 ghost use Rattle.keep_book.specs.Limits.{event_limit};
 ghost use Rattle.keep_book.specs.Reply.{Replies, Restores, TakesBack, state_after};
 ghost use Rattle.keep_book.specs.Request as request;
 
-use crate::checks::{check_commit, check_empty, check_redo, check_undo};
-use crate::opening_marks::marks_under;
+use crate::hooks::Hooks;
+use crate::ledger::Ledger;
 use crate::reply::{Refusal, Told};
-use keep_catalog::LiveRepo;
-use keep_change::{Planned, SharedChange};
-use keep_journal::{Entry, Event, History};
+use keep_change::Planned;
+use keep_hooks::{Veto, Watch};
 use keep_repo::Repo;
-use keep_view::View;
 use std::alloc::{AllocError, Global};
-use std::marker::Model;
 
-/// A repository under numbered changes.
+/// A ledger, with the vetoes and watches that are armed over it.
 #[derive(Drop)]
-pub struct Book {
-    alloc: Global,
-    /// What the changes that can still be undone make of the opening.
-    live: LiveRepo,
-    history: History,
+pub struct Book<V> {
+    pub ledger: Ledger,
+    pub hooks: V,
 }
 
-impl Model for Book {
-    ghost use Rattle.std.specs.Coded.{codes};
-    ghost use Rattle.keep_repo.specs.Repository.{coded_repository};
-    ghost use Rattle.keep_journal.specs.Opening.{IsOpen, opening_under};
-    ghost use Rattle.keep_book.specs.BookState.{BookState};
-
-    ghost Value = { BookState };
-
-    ghost coded = { Prim.hlevel (codes, coded_repository) };
-
-    ghost view = { λ b. record {
-      opening = opening_under b.history.journal b.live;
-      events = b.history.journal;
-      live = b.live;
-    } };
-
-    ghost invariant = { λ b. IsOpen (opening_under b.history.journal b.live) b.history.journal b.live };
+/// Why a veto or a watch isn't armed. It is handed back.
+#[derive(Drop)]
+pub enum NotArmed<H> {
+    /// A veto or a watch of this name is armed.
+    DoubleName(H),
+    /// Memory ran out.
+    Memory(H),
 }
 
-impl Book {
-    /// A book over this repository, without changes.
-    pub fn new(alloc: Global, opening: Repo) -> Book
-        ensures { result ≡ new_book opening }
+impl Book<Hooks> {
+    /// A book over this repository, without changes, vetoes and watches.
+    pub fn new(alloc: Global, opening: Repo) -> Book<Hooks>
+        ensures ledger { result.ledger ≡ new_book opening }
+        ensures rules { rules_in result ≡ [] }
+        ensures tallies { tallies_in result ≡ [] }
+        ensures counted { IsCounted result }
     {
         Book {
-            alloc,
-            live: LiveRepo::new(alloc, opening),
-            history: History::new(alloc, 0),
+            ledger: Ledger::new(alloc, opening),
+            hooks: Hooks {
+                vetoes: Vec::new(alloc),
+                watches: Vec::new(alloc),
+            },
         }
     }
 
-    /// The present repository, with the bytes shared.
-    pub fn repo(&self) -> Result<Repo, AllocError>
-        ensures { IfOk result (λ repo. repo ≡ self.now.live) }
+    /// Whether a veto or a watch of this name is armed.
+    pub fn is_armed(&self, name: &str) -> bool
+        ensures { result ≡ is_armed name.now (rules_in self.now) (tallies_in self.now) }
     {
-        self.live.repo().copy()
+        self.has_veto(name) || self.has_watch(name)
     }
 
-    /// The present repository, lent.
-    pub fn live(&self) -> &Repo
-        ensures { result.now ≡ self.now.live }
+    fn has_veto(&self, name: &str) -> bool
+        ensures { result ≡ list_any (λ rule. bytes_eq rule.name name.now) (rules_in self.now) }
     {
-        self.live.repo()
+        for veto in &self.hooks.vetoes {
+            if veto.name.as_str() == name {
+                return true;
+            }
+        }
+        false
     }
 
-    /// Reads the files of the live repository, unless each was read before. A view then lends what they say, and
-    /// each change costs what its own files hold. Where there is no memory for it, a view reads them itself.
-    pub fn refresh(&mut self)
-        ensures { self.new ≡ self.old }
+    fn has_watch(&self, name: &str) -> bool
+        ensures { result ≡ list_any (λ tally. bytes_eq tally.name name.now) (tallies_in self.now) }
     {
-        self.live.refresh();
+        for watch in &self.hooks.watches {
+            if watch.name.as_str() == name {
+                return true;
+            }
+        }
+        false
     }
 
-    /// Hashes each blob of the live repository that wasn't hashed before, if its files were read. Where memory runs
-    /// out, some are.
-    pub fn hash_all(&mut self)
-        ensures { self.new ≡ self.old }
+    /// Arms the veto, behind the others.
+    pub fn add_veto(&mut self, veto: Veto) -> Result<(), NotArmed<Veto>>
+        requires { IsCounted self.old }
+        ensures single { OnOk result
+            (is_armed (string_bytes veto.name) (rules_in self.old) (tallies_in self.old) ≡ false) }
+        ensures double { IfErr result (λ refusal.
+            is_double refusal ≡ is_armed (string_bytes veto.name) (rules_in self.old) (tallies_in self.old)) }
+        ensures handed { IfErr result (λ refusal. hook_of refusal ≡ veto) }
+        ensures armed { OnOk result (rules_in self.new ≡ rules_in self.old ++ rule_of veto ∷ []) }
+        ensures refused { IfErr result (λ refusal. rules_in self.new ≡ rules_in self.old) }
+        ensures tallies { tallies_in self.new ≡ tallies_in self.old }
+        ensures ledger { self.new.ledger ≡ self.old.ledger }
+        ensures counted { IsCounted self.new }
     {
-        self.live.hash_all();
+        if self.is_armed(veto.name.as_str()) {
+            return Err(NotArmed::DoubleName(veto));
+        }
+        match self.hooks.vetoes.push(veto) {
+            Ok(()) => Ok(()),
+            Err(failed) => Err(NotArmed::Memory(failed.value)),
+        }
     }
 
-    /// The live repository, the snapshots that the book knows, and the number of the last event. It
-    /// takes no memory.
-    pub fn view(&self) -> View<'_>
-        ensures { result ≡ shown_of self.now.opening self.now.events self.now.live }
+    /// Arms the watch, behind the others. It was told of no event yet, so that its total is 0.
+    pub fn add_watch(&mut self, watch: Watch) -> Result<(), NotArmed<Watch>>
+        requires { IsCounted self.old }
+        ensures single { OnOk result
+            (is_armed (string_bytes watch.name) (rules_in self.old) (tallies_in self.old) ≡ false) }
+        ensures double { IfErr result (λ refusal.
+            is_double refusal ≡ is_armed (string_bytes watch.name) (rules_in self.old) (tallies_in self.old)) }
+        ensures handed { IfErr result (λ refusal. hook_of refusal ≡ watch) }
+        ensures armed { OnOk result (tallies_in self.new ≡ tallies_in self.old ++ untold (tally_of watch) ∷ []) }
+        ensures refused { IfErr result (λ refusal. tallies_in self.new ≡ tallies_in self.old) }
+        ensures rules { rules_in self.new ≡ rules_in self.old }
+        ensures ledger { self.new.ledger ≡ self.old.ledger }
+        ensures counted { IsCounted self.new }
     {
-        View::of(&self.live, &self.history)
+        if self.is_armed(watch.name.as_str()) {
+            return Err(NotArmed::DoubleName(watch));
+        }
+        if let Err(AllocError) = self.hooks.watches.reserve(1) {
+            return Err(NotArmed::Memory(watch));
+        }
+        let mut fresh = watch;
+        fresh.total = 0;
+        match self.hooks.watches.push(fresh) {
+            Ok(()) => Ok(()),
+            Err(failed) => Err(NotArmed::Memory(failed.value)),
+        }
     }
 
-    /// The events. They are legal, no change among them touches more facets than it may, and those in force make
-    /// the live repository of the opening.
-    pub fn history(&self) -> &History
-        ensures events { result.now.journal ≡ self.now.events }
-        ensures open { IsOpen self.now.opening self.now.events self.now.live }
-    {
-        &self.history
-    }
-
-    /// Makes a change. It is refused as `Malformed`, `Full`, `Stale`, `Unmet` or `Memory`, the
-    /// first of these that holds, and nothing is changed then.
+    /// Makes a change, unless a veto refuses it, and tells the watches: `Ledger::commit`.
     pub fn commit(&mut self, planned: Planned) -> Result<Told, Refusal>
-        ensures reply { Replies self.old (request.Commit planned) result }
-        ensures after { self.new ≡ state_after self.old (request.Commit planned) result }
-        ensures made { IfOk result (λ told. JustCommitted self.old told.number self.new) }
+        requires { IsCounted self.old }
+        ensures reply { Replies self.old.ledger (rules_in self.old) (request.Commit planned) result }
+        ensures after { self.new.ledger ≡ state_after self.old.ledger (request.Commit planned) result }
+        ensures made { IfOk result (λ told. JustCommitted self.old.ledger told.number self.new.ledger) }
+        ensures rules { rules_in self.new ≡ rules_in self.old }
+        ensures told { tallies_in self.new
+            ≡ tallies_told self.old.ledger.events (request.Commit planned) result (tallies_in self.old) }
+        ensures counted { IsCounted self.new }
     {
-        check_commit(&self.history, self.live.repo(), &planned)?;
-        self.history.reserve()?;
-        let Planned { change, seen: _ } = planned;
-        let change = SharedChange::new(self.alloc, change)?;
-        self.live.apply(change.as_change())?;
-        let number = self.history.last_change() + 1;
-        Ok(post(&mut self.history, Event::Commit(number, change)))
+        self.ledger.commit(&mut self.hooks, planned)
     }
 
-    /// Takes the change back. It is refused as `Unknown`, `Final`, `NotInForce`, `Full`,
-    /// `LeanedOn` or `Memory`, the first of these that holds, and nothing is changed then.
+    /// Takes the change back, and tells the watches: `Ledger::undo`.
     pub fn undo(&mut self, n: u64) -> Result<Told, Refusal>
-        ensures reply { Replies self.old (request.Undo n) result }
-        ensures after { self.new ≡ state_after self.old (request.Undo n) result }
-
-        // A change in force that isn't final is taken back where the others, in their order, can be
-        // made of the opening, and what they make of it is left; else the first that can't is named.
-        ensures exact { IsSome (change_of self.old.events n) → IsTrue (is_kept self.old.events n) →
-            length_of self.old.events < event_limit → TakesBack self.old n result self.new.live }
-
-        // Nothing can lean on a commit that was just accepted, and its undo leaves what was there.
-        ensures restores { (before : BookState) → JustCommitted before n self.old →
-            Restores before.live result self.new.live }
+        requires { IsCounted self.old }
+        ensures reply { Replies self.old.ledger (rules_in self.old) (request.Undo n) result }
+        ensures after { self.new.ledger ≡ state_after self.old.ledger (request.Undo n) result }
+        ensures exact { IsSome (change_of self.old.ledger.events n) → IsTrue (is_kept self.old.ledger.events n) →
+            length_of self.old.ledger.events < event_limit → TakesBack self.old.ledger n result self.new.ledger.live }
+        ensures restores { (before : BookState) → JustCommitted before n self.old.ledger →
+            Restores before.live result self.new.ledger.live }
+        ensures rules { rules_in self.new ≡ rules_in self.old }
+        ensures told { tallies_in self.new
+            ≡ tallies_told self.old.ledger.events (request.Undo n) result (tallies_in self.old) }
+        ensures counted { IsCounted self.new }
     {
-        self.take_back(n)
+        self.ledger.undo(&mut self.hooks, n)
     }
 
-    fn take_back(&mut self, n: u64) -> Result<Told, Refusal>
-        ensures reply { Replies self.old (request.Undo n) result }
-        ensures after { self.new ≡ state_after self.old (request.Undo n) result }
-        ensures numbered { IsNumbered self.old.events }
-    {
-        check_undo(&self.history, n)?;
-        self.history.reserve()?;
-        unapply_change(&self.history, n, &mut self.live)?;
-        Ok(post(&mut self.history, Event::Undo(n)))
-    }
-
-    /// Makes the change again, at its place. It is refused as `Unknown`, `Final`, `InForce`,
-    /// `Full`, `Blocked` or `Memory`, the first of these that holds, and nothing is changed then.
+    /// Makes the change again, at its place, unless a veto refuses it, and tells the watches: `Ledger::redo`.
     pub fn redo(&mut self, n: u64) -> Result<Told, Refusal>
-        ensures reply { Replies self.old (request.Redo n) result }
-        ensures after { self.new ≡ state_after self.old (request.Redo n) result }
+        requires { IsCounted self.old }
+        ensures reply { Replies self.old.ledger (rules_in self.old) (request.Redo n) result }
+        ensures after { self.new.ledger ≡ state_after self.old.ledger (request.Redo n) result }
+        ensures rules { rules_in self.new ≡ rules_in self.old }
+        ensures told { tallies_in self.new
+            ≡ tallies_told self.old.ledger.events (request.Redo n) result (tallies_in self.old) }
+        ensures counted { IsCounted self.new }
     {
-        check_redo(&self.history, self.live.repo(), n)?;
-        self.history.reserve()?;
-        apply_change(&self.history, n, &mut self.live)?;
-        Ok(post(&mut self.history, Event::Redo(n)))
+        self.ledger.redo(&mut self.hooks, n)
     }
 
-    /// Makes all changes up to n final, and so moves the opening over those in force. It is refused
-    /// as `Unknown`, `Final`, `Full` or `Memory`, the first of these that holds, and nothing is
-    /// changed then.
+    /// Makes all changes up to n final, unless a veto refuses it, and tells the watches: `Ledger::empty`.
     pub fn empty(&mut self, n: u64) -> Result<Told, Refusal>
-        ensures reply { Replies self.old (request.Empty n) result }
-        ensures after { self.new ≡ state_after self.old (request.Empty n) result }
-        ensures live { self.new.live ≡ self.old.live }
+        requires { IsCounted self.old }
+        ensures reply { Replies self.old.ledger (rules_in self.old) (request.Empty n) result }
+        ensures after { self.new.ledger ≡ state_after self.old.ledger (request.Empty n) result }
+        ensures live { self.new.ledger.live ≡ self.old.ledger.live }
+        ensures rules { rules_in self.new ≡ rules_in self.old }
+        ensures told { tallies_in self.new
+            ≡ tallies_told self.old.ledger.events (request.Empty n) result (tallies_in self.old) }
+        ensures counted { IsCounted self.new }
     {
-        check_empty(&self.history, n)?;
-        self.history.reserve()?;
-        let marks = marks_under(self.live.repo(), &self.history, n)?;
-        Ok(post(&mut self.history, Event::Empty(n, marks)))
-    }
-}
-
-/// Appends the event under the next number, for which there is room.
-fn post(history: &mut History, event: Event) -> Told
-    requires room { 0 < history.old.room }
-    requires below { length_of history.old.journal < event_limit }
-    requires fits { Fits history.old.journal event }
-    ensures told { result ≡ record { number = number_of event; at = length_of history.old.journal + 1 } }
-    ensures events { let at = length_of history.old.journal + 1 in
-        history.new.journal ≡ posted history.old.journal at event }
-{
-    let number = event.number();
-    let at = history.length() + 1;
-    history.push(Entry { at, event });
-    Told { number, at }
-}
-
-/// Makes change n of the history.
-fn apply_change(history: &History, n: u64, live: &mut LiveRepo) -> Result<(), AllocError>
-    requires once { (c : Change) → change_of history.now.journal n ≡ Some c → HasNoFacetTwice c }
-    requires ready { (c : Change) → change_of history.now.journal n ≡ Some c → is_ready (held live.old) c ≡ true }
-    ensures ok { OnOk result ((c : Change) → change_of history.now.journal n ≡ Some c →
-        live.new ≡ result_of c live.old) }
-    ensures err { OnErr result (live.new ≡ live.old) }
-{
-    match history.change(n) {
-        Some(change) => live.apply(change),
-        None => Ok(()),
-    }
-}
-
-/// Takes change n of the history back.
-fn unapply_change(history: &History, n: u64, live: &mut LiveRepo) -> Result<(), AllocError>
-    requires once { (c : Change) → change_of history.now.journal n ≡ Some c → HasNoFacetTwice c }
-    requires ready { (c : Change) → change_of history.now.journal n ≡ Some c →
-        is_ready (held live.old) (reverse_of c) ≡ true }
-    ensures ok { OnOk result ((c : Change) → change_of history.now.journal n ≡ Some c →
-        live.new ≡ result_of (reverse_of c) live.old) }
-    ensures err { OnErr result (live.new ≡ live.old) }
-{
-    match history.change(n) {
-        Some(change) => live.unapply(change),
-        None => Ok(()),
+        self.ledger.empty(&mut self.hooks, n)
     }
 }

@@ -1,4 +1,5 @@
 ghost use Rattle.std.specs.Prelude.{◌≡◌, ◌<◌, ◌≤◌, ◌==◌, nat_le, true, not, ◌&&◌, [], ◌∷◌, length, OnOk};
+ghost use Rattle.std.specs.Option.{option_map};
 ghost use Rattle.keep_repo.specs.Repository.{held};
 ghost use Rattle.keep_change.specs.Change.{is_met};
 ghost use Rattle.keep_change.specs.Form.{IsWellFormed, least_unmet};
@@ -22,14 +23,12 @@ const MAX_EVENTS: u64 = 16_777_216;
 /// The greatest number that a change can have.
 const MAX_CHANGES: u64 = 1_048_576;
 
-/// Why the book refuses the commit, memory aside.
-pub(crate) fn check_commit(history: &History, live: &Repo, planned: &Planned) -> Result<(), Refusal>
+/// Why the book refuses the commit, whatever the vetoes and the live repository say.
+pub(crate) fn check_commit(history: &History, planned: &Planned) -> Result<(), Refusal>
     ensures malformed { ¬ IsWellFormed planned.now.change → result ≡ Err Refusal.Malformed }
     ensures formed { IsWellFormed planned.now.change →
-        let unmet = least_unmet (held live.now) planned.now.change in
-        Passes (commit_refusal history.now.journal planned.now unmet) result }
+        Passes (commit_refusal history.now.journal planned.now) result }
     ensures well_formed { OnOk result (IsWellFormed planned.now.change) }
-    ensures met { OnOk result (is_met (held live.now) planned.now.change ≡ true) }
     ensures room { OnOk result (length_of history.now.journal < event_limit) }
     ensures numbers { OnOk result (last_change history.now.journal < change_limit) }
     ensures within { OnOk result (length (facets planned.now.change) ≤ facet_limit) }
@@ -39,7 +38,15 @@ pub(crate) fn check_commit(history: &History, live: &Repo, planned: &Planned) ->
         return Err(Refusal::Malformed);
     }
     check_room_for(history, change)?;
-    check_seen(history, planned)?;
+    check_seen(history, planned)
+}
+
+/// Each facet of the change is as it asks.
+pub(crate) fn check_met(live: &Repo, change: &Change) -> Result<(), Refusal>
+    requires { IsWellFormed change.now }
+    ensures refusal { Passes (option_map Refusal.Unmet (least_unmet (held live.now) change.now)) result }
+    ensures met { OnOk result (is_met (held live.now) change.now ≡ true) }
+{
     match change.meets(live) {
         Ok(()) => Ok(()),
         Err(facet) => Err(Refusal::Unmet(facet)),
@@ -63,25 +70,30 @@ pub(crate) fn check_undo(history: &History, n: u64) -> Result<(), Refusal>
     }
 }
 
-/// Why the book refuses to make change n again, memory aside.
-pub(crate) fn check_redo(history: &History, live: &Repo, n: u64) -> Result<(), Refusal>
-    requires { AreWellFormed history.now.journal }
-    ensures refusal { let blocked = blocked_by history.now.journal live.now n in
-        Passes (redo_refusal history.now.journal n blocked) result }
+/// Why the book refuses to make change n again, whatever the vetoes and the other changes say.
+pub(crate) fn check_redo(history: &History, n: u64) -> Result<(), Refusal>
+    ensures refusal { Passes (redo_refusal history.now.journal n) result }
     ensures room { OnOk result (length_of history.now.journal < event_limit) }
 {
     check_open(history, n)?;
     if history.status(n) == Status::InForce {
         return Err(Refusal::InForce);
     }
-    check_room(history)?;
+    check_room(history)
+}
+
+/// Change n can be made again at its place, and the later ones after it.
+pub(crate) fn check_blocked(history: &History, live: &Repo, n: u64) -> Result<(), Refusal>
+    requires { AreWellFormed history.now.journal }
+    ensures { Passes (option_map Refusal.Blocked (blocked_by history.now.journal live.now n)) result }
+{
     match blocked_by(history, live, n) {
         Some(blocked) => Err(Refusal::Blocked(blocked)),
         None => Ok(()),
     }
 }
 
-/// Why the book refuses to make the changes up to n final, memory aside.
+/// Why the book refuses to make the changes up to n final, whatever the vetoes say.
 pub(crate) fn check_empty(history: &History, n: u64) -> Result<(), Refusal>
     ensures refusal { Passes (empty_refusal history.now.journal n) result }
     ensures room { OnOk result (length_of history.now.journal < event_limit) }

@@ -4,9 +4,15 @@
 mod book;
 mod checks;
 mod dependents;
+mod guarding;
+mod hooks;
+mod ledger;
+mod making;
 mod opening_marks;
 mod place;
 mod reply;
 
-pub use book::Book;
+pub use book::{Book, NotArmed};
+pub use hooks::Hooks;
+pub use ledger::Ledger;
 pub use reply::{Refusal, Told};

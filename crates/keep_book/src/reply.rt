@@ -1,5 +1,6 @@
 ghost use Rattle.std.specs.Prelude.{◌≡◌};
 
+use keep_hooks::HookName;
 use keep_repo::Facet;
 use std::alloc::AllocError;
 use std::fmt;
@@ -29,6 +30,8 @@ pub enum Refusal {
     Full,
     /// A strict change was planned on an older history; the length now.
     Stale(u64),
+    /// The first veto that refuses the event.
+    Vetoed(HookName),
     /// The least facet that isn't as the change asks.
     Unmet(Facet),
     /// The first change that couldn't be made without the one to be undone.
@@ -54,6 +57,7 @@ impl fmt::Display for Refusal {
             Refusal::InForce => f.write_str("InForce"),
             Refusal::Full => f.write_str("Full"),
             Refusal::Stale(length) => write!(f, "Stale {length}"),
+            Refusal::Vetoed(name) => write!(f, "Vetoed {}", name.as_str()),
             Refusal::Unmet(facet) => write!(f, "Unmet {facet}"),
             Refusal::LeanedOn(number) => write!(f, "LeanedOn {number}"),
             Refusal::Blocked(number) => write!(f, "Blocked {number}"),

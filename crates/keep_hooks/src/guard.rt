@@ -1,25 +1,32 @@
-ghost use Rattle.std.specs.Prelude.{◌≡◌, ◌^◌, ◌≤◌, []};
+ghost use Rattle.std.specs.Prelude.{◌≡◌, ◌^◌, ◌≤◌, [], IfOk, length, nat_lt};
 ghost use Rattle.std.specs.List.{All};
 ghost use Rattle.keep_hooks.specs.Guards.{HasRoom, first_refusing, tallies_after};
 ghost use Rattle.keep_hooks.specs.Written.{name_count};
 
+use crate::hook_name::HookName;
 use keep_change::Outline;
+use std::alloc::AllocError;
 
 /// What is asked before an event is made, and told of it after.
 pub trait Guard: Drop + Send {
-    ghost use Rattle.keep_hooks.specs.Guards.{Tally};
-    ghost use Rattle.keep_hooks.specs.declared.limit.Limit.{Limit};
+    ghost use Rattle.keep_hooks.specs.Guards.{Rule, Tally};
     ghost use Rattle.std.specs.Prelude.{List};
 
-    /// The limits of its vetoes, in order.
-    ghost rules: { Self → List Limit };
+    /// The names and limits of its vetoes, in order.
+    ghost rules: { Self → List Rule };
 
-    /// What its watches count, and their totals, in order.
+    /// The names of its watches, what they count, and their totals, in order.
     ghost tallies: { Self → List Tally };
 
-    /// The place of the first veto that refuses the event.
-    fn first(&self, outline: &Outline) -> Option<usize>
-        ensures { result ≡ first_refusing (rules self.now) outline.now };
+    fn has_vetoes(&self) -> bool
+        ensures { result ≡ nat_lt 0 (length (rules self.now)) };
+
+    fn has_watches(&self) -> bool
+        ensures { result ≡ nat_lt 0 (length (tallies self.now)) };
+
+    /// The name of the first veto that refuses the event.
+    fn first(&self, outline: &Outline) -> Result<Option<HookName>, AllocError>
+        ensures { IfOk result (λ name. name ≡ first_refusing (rules self.now) outline.now) };
 
     /// Tells each watch of the event.
     fn tell(&mut self, outline: &Outline)
@@ -38,8 +45,16 @@ impl Guard for NoHooks {
 
     ghost tallies = { λ _. [] };
 
-    fn first(&self, _outline: &Outline) -> Option<usize> {
-        None
+    fn has_vetoes(&self) -> bool {
+        false
+    }
+
+    fn has_watches(&self) -> bool {
+        false
+    }
+
+    fn first(&self, _outline: &Outline) -> Result<Option<HookName>, AllocError> {
+        Ok(None)
     }
 
     fn tell(&mut self, _outline: &Outline) {}

@@ -4,7 +4,7 @@
 
 mod filter;
 mod guard;
-mod hooks;
+mod hook_name;
 mod kit;
 mod laws;
 mod limit;
@@ -16,7 +16,7 @@ mod written;
 
 pub use filter::{AskFacts, Filter};
 pub use guard::{Guard, NoHooks};
-pub use hooks::Hooks;
+pub use hook_name::HookName;
 pub use kit::Kit;
 pub use laws::measures_are_small;
 pub use limit::Limit;

@@ -1,5 +1,5 @@
 -- What is seen of the later changes, one by one.
-use Rattle.std.proofs.Common.{◌≡◌, ℕ, zero, suc, ◌+◌, ◌≤◌, ◌==◌, Bool, true, false, cond, inl, inr, List, [], ◌∷◌, ◌++◌, Option, Some, None, refl, subst, ap, ◌∙◌, arith}
+use Rattle.std.proofs.Common.{◌≡◌, ℕ, zero, suc, ◌+◌, ◌≤◌, ◌==◌, Bool, true, false, cond, inl, inr, List, [], ◌∷◌, ◌++◌, length, Option, Some, None, refl, subst, ap, ◌∙◌, arith}
 use Rattle.std.proofs.lemmas.Bool.{cases_lt}
 use Rattle.std.proofs.lemmas.List.Elements.{All-filter}
 use Rattle.std.proofs.lemmas.Option.{same_Some}
@@ -8,12 +8,14 @@ use Rattle.std.specs.Option.{option_map}
 use Rattle.keep_change.specs.Fold.{Numbered}
 use Rattle.keep_change.specs.Form.{IsWellFormed}
 use Rattle.keep_change.specs.Law.{HaveNoFacetTwice}
+use Rattle.keep_change.specs.Limits.{facet_limit}
+use Rattle.keep_change.specs.Touch.{facets}
 use Rattle.keep_change.specs.declared.change.Change.{Change}
 use Rattle.keep_change.proofs.History.{once_of_well_formed}
 use Rattle.keep_journal.specs.History.{last_change, change_of, committed, IsNumbered}
 use Rattle.keep_journal.specs.Journal.{Journal}
 use Rattle.keep_journal.specs.Kept.{chosen, is_kept, kept_change, later}
-use Rattle.keep_journal.specs.Opening.{AreWellFormed}
+use Rattle.keep_journal.specs.Opening.{AreWellFormed, AreWithinLimit}
 use Rattle.keep_journal.proofs.Commits.{some_change}
 use Rattle.keep_journal.proofs.Kept.{later_below, later_next}
 
@@ -33,6 +35,10 @@ found_change P p (n ∷ ns) c all e =
 -- a change of a history whose changes are well formed is well formed
 pub well_formed_change : (j : Journal) (n : ℕ) (c : Change) → AreWellFormed j → change_of j n ≡ Some c → IsWellFormed c
 well_formed_change j n c formed is_c = found_change IsWellFormed (λ m. m.number == n) (committed j) c formed is_c
+
+-- and one of a history whose changes are within the limit is within it
+pub within_change : (j : Journal) (n : ℕ) (c : Change) → AreWithinLimit j → change_of j n ≡ Some c → length (facets c) ≤ facet_limit
+within_change j n c within is_c = found_change (λ d. length (facets d) ≤ facet_limit) (λ m. m.number == n) (committed j) c within is_c
 
 -- no chosen change has a facet twice
 pub no_facet_twice : (test : ℕ → Bool) (j : Journal) → AreWellFormed j → HaveNoFacetTwice (chosen test j)

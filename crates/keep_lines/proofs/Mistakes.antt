@@ -72,7 +72,8 @@ number_first front rest (inr (inr (inr e))) = inr (inr (inr (ap (λ f. first_wor
 name_first : (front rest : List ℕ) → AsksName front → AsksName (first_word (front ++ 32 ∷ rest))
 unfolding first_word
 name_first front rest (inl e) = inl (ap (λ f. first_word (f ++ 32 ∷ rest)) e)
-name_first front rest (inr e) = inr (ap (λ f. first_word (f ++ 32 ∷ rest)) e)
+name_first front rest (inr (inl e)) = inr (inl (ap (λ f. first_word (f ++ 32 ∷ rest)) e))
+name_first front rest (inr (inr e)) = inr (inr (ap (λ f. first_word (f ++ 32 ∷ rest)) e))
 
 kind_first : (front rest : List ℕ) → AsksKind front → AsksKind (first_word (front ++ 32 ∷ rest))
 unfolding first_word
@@ -115,13 +116,14 @@ none_of_other text r x h e other = λ front rest asks split.
     other (subst IsVerb (sym (first_cut text r x h e ∙ ap first_word split)) (verb_first front rest asks))
 
 -- a kind is asked for, and no word follows the next one
-AsksOne-letter : (verb : List ℕ) → AsksOne verb → (get_or verb 0 0 ≢ 97) × (get_or verb 0 0 ≢ 100)
+AsksOne-letter : (verb : List ℕ) → AsksOne verb → (get_or verb 1 0 ≢ 100) × (get_or verb 0 0 ≢ 100)
 AsksOne-letter verb (inl (inl e)) = rw e (λ h. omega (arith, h), λ h. omega (arith, h))
 AsksOne-letter verb (inl (inr (inl e))) = rw e (λ h. omega (arith, h), λ h. omega (arith, h))
 AsksOne-letter verb (inl (inr (inr (inl e)))) = rw e (λ h. omega (arith, h), λ h. omega (arith, h))
 AsksOne-letter verb (inl (inr (inr (inr e)))) = rw e (λ h. omega (arith, h), λ h. omega (arith, h))
 AsksOne-letter verb (inr (inl (inl e))) = rw e (λ h. omega (arith, h), λ h. omega (arith, h))
-AsksOne-letter verb (inr (inl (inr e))) = rw e (λ h. omega (arith, h), λ h. omega (arith, h))
+AsksOne-letter verb (inr (inl (inr (inl e)))) = rw e (λ h. omega (arith, h), λ h. omega (arith, h))
+AsksOne-letter verb (inr (inl (inr (inr e)))) = rw e (λ h. omega (arith, h), λ h. omega (arith, h))
 AsksOne-letter verb (inr (inr (inl (inl e)))) = rw e (λ h. omega (arith, h), λ h. omega (arith, h))
 AsksOne-letter verb (inr (inr (inl (inr (inl e))))) = rw e (λ h. omega (arith, h), λ h. omega (arith, h))
 AsksOne-letter verb (inr (inr (inl (inr (inr (inl e)))))) = rw e (λ h. omega (arith, h), λ h. omega (arith, h))
@@ -129,7 +131,7 @@ AsksOne-letter verb (inr (inr (inl (inr (inr (inr e)))))) = rw e (λ h. omega (a
 AsksOne-letter verb (inr (inr (inr e))) = rw e (λ h. omega (arith, h), λ h. omega (arith, h))
 
 two_words : (verb : List ℕ) → AsksKind verb → AsksOne verb → ⊥
-two_words verb (inl e) one = (AsksOne-letter verb one).0 (ap (λ l. get_or l 0 0) e)
+two_words verb (inl e) one = (AsksOne-letter verb one).0 (ap (λ l. get_or l 1 0) e)
 two_words verb (inr e) one = (AsksOne-letter verb one).1 (ap (λ l. get_or l 0 0) e)
 
 kind_words : (verb rest : List ℕ) → AsksKind verb → (first_word (verb ++ 32 ∷ rest) ≡ verb) × (other_words (verb ++ 32 ∷ rest) ≡ rest)

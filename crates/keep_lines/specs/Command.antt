@@ -7,11 +7,15 @@ use Rattle.keep_lines.specs.RawFile.{IsRawFile, raw_file_text}
 use Rattle.keep_lines.specs.Revision.{IsRevision, revision_text}
 use Rattle.keep_lines.specs.Word.{IsName}
 use Rattle.keep_lines.specs.declared.command.Command.{Command}
-use Rattle.keep_lines.specs.declared.command.Command.TheVariants.{Job, Note, Question, RawFile, Revision}
+use Rattle.keep_lines.specs.declared.command.Command.TheVariants.{Arm, Job, Note, Question, RawFile, Revision}
 
 -- `note NAME`
 abbrev pub note_text : List ℕ → List ℕ
 note_text name = codes "note " ++ name
+
+-- `arm NAME`
+abbrev pub arm_text : List ℕ → List ℕ
+arm_text name = codes "arm " ++ name
 
 -- the line that asks for a command: its words, with single spaces between
 abbrev pub command_text : Command → List ℕ
@@ -20,6 +24,7 @@ command_text (RawFile file) = raw_file_text file
 command_text (Revision revision) = revision_text revision
 command_text (Question question) = question_text question
 command_text (Note name) = note_text name.now
+command_text (Arm name) = arm_text name.now
 
 -- a command whose numbers, bytes and names are in range
 abbrev pub IsCommand : Command → Type 0
@@ -28,6 +33,7 @@ IsCommand (RawFile file) = IsRawFile file
 IsCommand (Revision revision) = IsRevision revision
 IsCommand (Question question) = IsQuestion question
 IsCommand (Note name) = IsName name.now
+IsCommand (Arm name) = IsName name.now
 
 -- the line asks for this command
 abbrev pub Asks : List ℕ → Command → Type 0

@@ -13,7 +13,7 @@ use Rattle.keep_lines.specs.RewriteLine.{IsRewrite, rewrite_text}
 use Rattle.keep_lines.specs.TagLine.{IsTag, tag_text}
 use Rattle.keep_lines.specs.Word.{AreBytes, IsKind, IsName, IsNumber, IsTarget, hex_word, target_text}
 use Rattle.keep_lines.specs.declared.mistake.Mistake.{Mistake}
-use Rattle.keep_lines.specs.declared.mistake.Mistake.TheVariants.{TooLong, NotText, NoCommand, NotKind, NotHex, NotNumber, NotName, NotTarget, NotBackup, NotTag, NotForget, NotRewrite, NoFilter, NoFile, NoNote}
+use Rattle.keep_lines.specs.declared.mistake.Mistake.TheVariants.{TooLong, NotText, NoCommand, NotKind, NotHex, NotNumber, NotName, NotTarget, NotBackup, NotTag, NotForget, NotRewrite, NoFilter, NoFile, NoNote, NoHook}
 
 -- what an operator is told
 abbrev pub mistake_text : Mistake → List ℕ
@@ -32,6 +32,7 @@ mistake_text NotRewrite = codes "not FILTER PATTERN .. or FILTER forget PATTERN 
 mistake_text NoFilter = codes "no such FILTER"
 mistake_text NoFile = codes "@N names nothing"
 mistake_text NoNote = codes "no note of this NAME"
+mistake_text NoHook = codes "no veto or watch of this NAME"
 
 -- behind these words a number is asked for
 abbrev pub AsksNumber : List ℕ → Type 0
@@ -40,7 +41,7 @@ AsksNumber verb =
 
 -- behind these, a name
 abbrev pub AsksName : List ℕ → Type 0
-AsksName verb = (verb ≡ codes "note") ⊎ (verb ≡ codes "same")
+AsksName verb = (verb ≡ codes "note") ⊎ ((verb ≡ codes "same") ⊎ (verb ≡ codes "arm"))
 
 -- behind these, a kind and one word more
 abbrev pub AsksKind : List ℕ → Type 0
@@ -112,6 +113,7 @@ Explains text NotRewrite = EndsInNo AsksRewrite IsRewrite rewrite_text text
 Explains text NoFilter = ⊥
 Explains text NoFile = ⊥
 Explains text NoNote = ⊥
+Explains text NoHook = ⊥
 
 -- a line isn't one of the language, for this cause: it is too long, or no text, or no command's for what is said
 abbrev pub IsMistake : List ℕ → Mistake → Type 0

@@ -65,3 +65,11 @@ found_text finding = finding_text finding ++ number_text (finding_number finding
 -- how many findings there are: `audit F`
 abbrev pub found_count : ℕ → List ℕ
 found_count count = codes "audit " ++ decimal count
+
+-- a veto or a watch that was armed: `armed NAME`
+abbrev pub armed_text : List ℕ → List ℕ
+armed_text name = codes "armed " ++ name
+
+-- a watch and its total: `NAME TOTAL`
+abbrev pub total_text : List ℕ → ℕ → List ℕ
+total_text name total = name ++ (codes " " ++ decimal total)

@@ -1,5 +1,5 @@
 ghost use Rattle.std.specs.Prelude.{◌≡◌, Err, IfOk, IfSome, None, Ok, OnOk};
-ghost use Rattle.keep_lines.specs.Command.{Asks, IsCommand, command_text, note_text};
+ghost use Rattle.keep_lines.specs.Command.{Asks, IsCommand, arm_text, command_text, note_text};
 ghost use Rattle.keep_lines.specs.Line.{IsPassedOver, IsText};
 ghost use Rattle.keep_lines.specs.Mistake.{IsMistake};
 ghost use Rattle.keep_lines.specs.Prints.{Parses};
@@ -26,6 +26,8 @@ pub enum Command<'a> {
     Question(Question<'a>),
     /// To note the repository under this name.
     Note(&'a str),
+    /// To arm the veto or the watch of this name.
+    Arm(&'a str),
 }
 
 /// Why a line isn't parsed.
@@ -78,6 +80,9 @@ fn parse_command(alloc: Global, text: &str) -> Result<Option<Command<'_>>, Alloc
     if let Some(name) = parse_note(text) {
         return Ok(Some(Command::Note(name)));
     }
+    if let Some(name) = parse_arm(text) {
+        return Ok(Some(Command::Arm(name)));
+    }
     if let Some(file) = parse_raw_file(alloc, text)? {
         return Ok(Some(Command::RawFile(file)));
     }
@@ -93,6 +98,16 @@ fn parse_note(text: &str) -> Option<&str>
 {
     match text.split_once(' ')? {
         ("note", name) if is_name(name) => Some(name),
+        _ => None,
+    }
+}
+
+/// The name of the veto or the watch that the line asks to arm.
+fn parse_arm(text: &str) -> Option<&str>
+    ensures { Parses (λ name. IsName name.now) (λ name. arm_text name.now) text.now result }
+{
+    match text.split_once(' ')? {
+        ("arm", name) if is_name(name) => Some(name),
         _ => None,
     }
 }

@@ -24,6 +24,7 @@ pub use raw_file::RawFile;
 pub use reply::{Accepted, BadLine, Committed, Refused, Sizes};
 pub use revision::Revision;
 pub use telling::{
-    Compared, Counts, EventLine, FileLine, Found, FoundCount, Noted, RestoredCounts, RestoredFile,
+    Armed, Compared, Counts, EventLine, FileLine, Found, FoundCount, Noted, RestoredCounts,
+    RestoredFile, TotalLine,
 };
 pub use word::{Target, print_hex};

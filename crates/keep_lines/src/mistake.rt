@@ -20,7 +20,7 @@ pub enum Mistake {
     NotHex,
     /// Its last word isn't a number.
     NotNumber,
-    /// Its last word can't name a note.
+    /// Its last word can't be a name.
     NotName,
     /// Its last word is neither an id nor `@N`.
     NotTarget,
@@ -38,6 +38,8 @@ pub enum Mistake {
     NoFile,
     /// No note was taken under the name.
     NoNote,
+    /// No veto or watch that could be armed has the name.
+    NoHook,
 }
 
 impl fmt::Display for Mistake {
@@ -63,6 +65,7 @@ impl fmt::Display for Mistake {
             Mistake::NoFilter => "no such FILTER",
             Mistake::NoFile => "@N names nothing",
             Mistake::NoNote => "no note of this NAME",
+            Mistake::NoHook => "no veto or watch of this NAME",
         };
         f.write_str(text)
     }
@@ -78,7 +81,7 @@ pub(crate) fn mistake_of(text: &str) -> Mistake
     };
     match verb {
         "undo" | "redo" | "empty" | "sweep" => Mistake::NotNumber,
-        "note" | "same" => Mistake::NotName,
+        "note" | "same" | "arm" => Mistake::NotName,
         "restore" => Mistake::NotTarget,
         "backup" => Mistake::NotBackup,
         "tag" => Mistake::NotTag,

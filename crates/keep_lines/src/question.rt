@@ -14,6 +14,7 @@ pub enum Question<'a> {
     Same(&'a str),
     Restore(Target),
     Audit,
+    Totals,
 }
 
 /// The question that the line asks.
@@ -33,13 +34,14 @@ fn bare_question(word: &str) -> Option<Question<'_>>
     ensures value { IfSome result (λ question. IsQuestion question × (question_text question ≡ word.now)) }
     ensures none { IfNone result
         ((word.now ≢ codes "list") × (word.now ≢ codes "count") × (word.now ≢ codes "history")
-        × (word.now ≢ codes "audit")) }
+        × (word.now ≢ codes "audit") × (word.now ≢ codes "totals")) }
 {
     match word {
         "list" => Some(Question::List),
         "count" => Some(Question::Count),
         "history" => Some(Question::History),
         "audit" => Some(Question::Audit),
+        "totals" => Some(Question::Totals),
         _ => None,
     }
 }

@@ -188,3 +188,37 @@ impl fmt::Display for FoundCount {
         write!(f, "audit {}", self.0)
     }
 }
+
+/// A veto or a watch that was armed.
+#[derive(Clone, Copy, Debug)]
+pub struct Armed<'a>(pub &'a str);
+
+impl fmt::Display for Armed<'_> {
+    ghost use Rattle.std.specs.Prelude.{Some};
+    ghost use Rattle.keep_lines.specs.Telling.{armed_text};
+
+    ghost output = { λ armed. Some (armed_text armed.0.now) };
+
+    fn fmt<W: fmt::Write>(&self, f: &mut fmt::Formatter<W>) -> fmt::Result {
+        write!(f, "armed {}", self.0)
+    }
+}
+
+/// A watch, and the sum of what it counted.
+#[derive(Clone, Copy, Debug)]
+pub struct TotalLine<'a> {
+    pub name: &'a str,
+    pub total: u64,
+}
+
+impl fmt::Display for TotalLine<'_> {
+    ghost use Rattle.std.specs.Prelude.{Some};
+    ghost use Rattle.keep_lines.specs.Telling.{total_text};
+
+    ghost output = { λ line. Some (total_text line.name.now line.total) };
+
+    fn fmt<W: fmt::Write>(&self, f: &mut fmt::Formatter<W>) -> fmt::Result {
+        let TotalLine { name, total } = self;
+        write!(f, "{name} {total}")
+    }
+}

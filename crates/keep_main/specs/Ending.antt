@@ -27,7 +27,7 @@ ending_of Memory = ending.Ran NoMemory
 
 -- how the program is called
 abbrev pub usage : List ℕ
-usage = codes "usage: keepd [--cut N] [--now TIME] [--host H] [--tagged T] < SCRIPT"
+usage = codes "usage: keepd [--cut N] [--now TIME] [--host H] [--tagged T] [--drops N] < SCRIPT"
 
 -- the line on standard error
 abbrev pub ending_text : Ending → List ℕ

@@ -23,8 +23,8 @@ program = on_top (λ top. record top { no_binary_name = true }) (new_app (codes 
 -- the program's command: its options
 abbrev pub command : App
 command =
-    with_rule (with_rule (with_rule (with_rule program (option (codes "cut"))) (option (codes "now")))
-    (option (codes "host"))) (option (codes "tagged"))
+    with_rule (with_rule (with_rule (with_rule (with_rule program (option (codes "cut"))) (option (codes "now")))
+    (option (codes "host"))) (option (codes "tagged"))) (option (codes "drops"))
 
 -- the number that a word writes, if it is one from `least` to `most`: decimal digits, a plus in front or not
 abbrev pub number_in : ℕ → ℕ → List ℕ → Option ℕ
@@ -39,27 +39,37 @@ number_or least most usual word = option_map_or (number_in least most) word (Som
 abbrev pub moment_or_first : Option (List ℕ) → Option ℤ
 moment_or_first word = option_map_or moment_in word (Some (pos 0))
 
--- after how many bytes backups cut files, the moment for marks and sweeps, the host of the filter `host`, and the tag of the filter `tagged`
+-- after how many bytes backups cut files, the moment for marks and sweeps, the host of the filter `host`, the tag of the
+-- filter `tagged`, and how many snapshots the veto `few-drops` lets go
 pub record OptionsData : Type 0 where
   pub cut : ℕ
   pub now : ℤ
   pub host : List ℕ
   pub tagged : List ℕ
+  pub drops : ℕ
 
 -- the same without where the texts lie in memory
 abbrev pub options_view : Options → OptionsData
-options_view options = record { cut = options.cut; now = options.now; host = options.host.now; tagged = options.tagged.now }
+options_view options = record {
+  cut = options.cut;
+  now = options.now;
+  host = options.host.now;
+  tagged = options.tagged.now;
+  drops = options.drops;
+}
 
 -- what the command's matches say: each option's value, and its default where the words don't give it
 abbrev pub options_in : List Row → Option OptionsData
 options_in rows = do
   cut ← number_or 1 8388608 1048576 (first_of (codes "cut") rows)
   now ← moment_or_first (first_of (codes "now") rows)
+  drops ← number_or 0 1048576 0 (first_of (codes "drops") rows)
   Some (record {
     cut = cut;
     now = now;
     host = unwrap_or (first_of (codes "host") rows) (codes "web");
     tagged = unwrap_or (first_of (codes "tagged") rows) (codes "keep");
+    drops = drops;
   })
 
 -- the words are options, and `--`, which clap takes where no word follows, isn't among them

@@ -5,7 +5,8 @@ use crate::options::BadOptions;
 use keep_script::Status;
 use std::fmt;
 
-const USAGE: &str = "usage: keepd [--cut N] [--now TIME] [--host H] [--tagged T] < SCRIPT";
+const USAGE: &str =
+    "usage: keepd [--cut N] [--now TIME] [--host H] [--tagged T] [--drops N] < SCRIPT";
 
 /// How the program ended. It prints as the line on standard error that says why.
 #[derive(Clone, Copy, Debug, PartialEq, Eq)]

@@ -23,6 +23,8 @@ pub(crate) struct Options<'a> {
     pub host: &'a str,
     /// The tag whose snapshots the filter `tagged` takes.
     pub tagged: &'a str,
+    /// How many snapshots a change may drop that the veto `few-drops` lets pass: 0 to 1,048,576.
+    pub drops: u32,
 }
 
 /// Why no options are read.
@@ -111,6 +113,7 @@ fn command<'a>(alloc: Global) -> Result<Command<'a>, AllocError>
     let command = with_option(alloc, command, "now")?;
     let command = with_option(alloc, command, "host")?;
     let command = with_option(alloc, command, "tagged")?;
+    let command = with_option(alloc, command, "drops")?;
     Ok(command)
 }
 
@@ -133,6 +136,7 @@ fn options_in<'a>(matches: &ArgMatches<'a>) -> Result<Options<'a>, BadOptions>
 {
     let cut = CUTS.read(matches.get_str("cut"))?;
     let now = read_moment(matches.get_str("now"))?;
+    let drops = DROPS.read(matches.get_str("drops"))?;
     let host = matches.get_str("host").unwrap_or("web");
     let tagged = matches.get_str("tagged").unwrap_or("keep");
     Ok(Options {
@@ -140,6 +144,7 @@ fn options_in<'a>(matches: &ArgMatches<'a>) -> Result<Options<'a>, BadOptions>
         now,
         host,
         tagged,
+        drops,
     })
 }
 
@@ -165,6 +170,12 @@ const CUTS: Numbers = Numbers {
     least: 1,
     most: 8_388_608,
     usual: 1_048_576,
+};
+
+const DROPS: Numbers = Numbers {
+    least: 0,
+    most: 1_048_576,
+    usual: 0,
 };
 
 impl Numbers {

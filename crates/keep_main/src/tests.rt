@@ -2,68 +2,13 @@ use crate::ending::Ending;
 use crate::options::{BadOptions, read_options};
 use crate::program::keepd;
 use std::alloc::Global;
-use std::io::{self, ErrorKind, Read, Write};
+use std::io::Read;
 use std::process::Abort;
 use std::test::Fail;
+use streams::{Broken, Endless, Full};
 
-/// Gives some bytes, and then fails.
-#[derive(Drop)]
-struct Broken<'a> {
-    bytes: &'a [u8],
-}
-
-impl Read for Broken<'_> {
-    fn read(&mut self, buf: &mut [u8]) -> io::Result<usize> {
-        if self.bytes.is_empty() {
-            return Err(io::Error::from(ErrorKind::Other));
-        }
-        let count = self.bytes.len().min(buf.len());
-        let (given, rest) = self.bytes.split_at(count);
-        buf[..count].copy_from_slice(given);
-        self.bytes = rest;
-        Ok(count)
-    }
-}
-
-/// Gives empty lines without end.
-#[derive(Drop)]
-struct Endless;
-
-impl Read for Endless {
-    fn read(&mut self, buf: &mut [u8]) -> io::Result<usize> {
-        for byte in buf.iter_mut() {
-            *byte = b'\n';
-        }
-        Ok(buf.len())
-    }
-}
-
-/// Takes so many bytes, and lets so many flushes pass.
-#[derive(Drop)]
-struct Full {
-    held: Vec<u8>,
-    room: usize,
-    flushes: usize,
-}
-
-impl Write for Full {
-    fn write(&mut self, buf: &[u8]) -> io::Result<usize> {
-        if self.room < buf.len() {
-            return Err(io::Error::from(ErrorKind::Other));
-        }
-        self.held.extend_from_slice(buf)?;
-        self.room -= buf.len();
-        Ok(buf.len())
-    }
-
-    fn flush(&mut self) -> io::Result<()> {
-        if self.flushes == 0 {
-            return Err(io::Error::from(ErrorKind::Other));
-        }
-        self.flushes -= 1;
-        Ok(())
-    }
-}
+mod guarded;
+mod streams;
 
 /// What the program is to answer, what it says of its end, and its exit status.
 type Wanted<'a> = (&'a str, &'a str, u8);
@@ -170,6 +115,20 @@ fn words_give_the_moment(rt: HostRuntime) {
 }
 
 #[test]
+fn words_give_how_many_snapshots_may_go(rt: HostRuntime) {
+    let alloc = rt.alloc();
+    for (words, drops) in [
+        ([].as_slice(), 0),
+        (&["--drops", "1"], 1),
+        (&["--drops=1048576"], 1_048_576),
+        (&["--drops=0", "--cut=1"], 0),
+    ] {
+        let options = read_options(alloc, words).expect(&rt, "options");
+        assert_eq!(rt; options.drops, drops);
+    }
+}
+
+#[test]
 fn marks_wait_by_the_option(rt: HostRuntime) {
     let script = "backup web 2024-01-01T10:00:00Z /a=61\n\
                   drop snapshot @1\n\
@@ -240,6 +199,8 @@ fn other_words_are_bad_options(rt: HostRuntime) {
             &["--now=9999-12-31T00:00:00Z"],
             "--now=9999-12-31T00:00:00Z",
         ),
+        (&["--drops", "1048577"], "--drops"),
+        (&["--drops=-1"], "--drops=-1"),
         (&["--host"], "--host"),
         (&["--host", "-x"], "--host"),
         (&["--tagged", "a", "--tagged=b"], "--tagged=b"),
@@ -257,7 +218,7 @@ fn other_words_are_bad_options(rt: HostRuntime) {
     ] {
         let mut script = b"count".as_slice();
         let said = format!(in alloc;
-            "keepd: bad option: {bad}; usage: keepd [--cut N] [--now TIME] [--host H] [--tagged T] < SCRIPT"
+            "keepd: bad option: {bad}; usage: keepd [--cut N] [--now TIME] [--host H] [--tagged T] [--drops N] < SCRIPT"
         ).expect(&rt, "memory");
         expect(
             &rt,
@@ -308,7 +269,7 @@ fn unread_options_give_their_status(rt: HostRuntime) -> Result<(), Fail> {
         (BadOptions::Memory, "keepd: no memory", 1),
         (
             BadOptions::Refused,
-            "keepd: bad options; usage: keepd [--cut N] [--now TIME] [--host H] [--tagged T] < SCRIPT",
+            "keepd: bad options; usage: keepd [--cut N] [--now TIME] [--host H] [--tagged T] [--drops N] < SCRIPT",
             2,
         ),
     ] {

@@ -2,9 +2,9 @@ use keep_book::{Refusal, Told};
 use keep_change::{Change, What};
 use keep_jobs::{Job, Rewrite, Rule, TagWord};
 use keep_lines::{
-    Accepted, BadLine, Command, Committed, Compared, Counts, EventLine, FileLine, Found,
+    Accepted, Armed, BadLine, Command, Committed, Compared, Counts, EventLine, FileLine, Found,
     FoundCount, LineError, Mistake, Noted, Question, RawFile, Refused, RestoredCounts,
-    RestoredFile, Revision, Sizes, Target, parse, print_hex,
+    RestoredFile, Revision, Sizes, Target, TotalLine, parse, print_hex,
 };
 use keep_names::{FileName, Id};
 use keep_read::Finding;
@@ -67,6 +67,12 @@ fn listed_files_are_told(rt: HostRuntime) -> Result<(), Fail> {
 fn notes_and_events_are_told(rt: HostRuntime) -> Result<(), Fail> {
     let alloc = rt.alloc();
     expect_text(&rt, alloc, &Noted("a-1"), "noted a-1")?;
+    expect_text(&rt, alloc, &Armed("a-1"), "armed a-1")?;
+    let total = TotalLine {
+        name: "a-1",
+        total: 18_446_744_073_709_551_615,
+    };
+    expect_text(&rt, alloc, &total, "a-1 18446744073709551615")?;
     let same = Compared {
         name: "a",
         same: false,
@@ -159,8 +165,11 @@ fn in_a_word(command: &Command<'_>) -> &'static str {
         Command::Revision(Revision::Undo(2)) => "undo of 2",
         Command::Revision(_) => "revision",
         Command::Question(Question::Same("a")) => "same a",
+        Command::Question(Question::Totals) => "totals",
         Command::Question(_) => "question",
         Command::Note(_) => "note",
+        Command::Arm("no-empty") => "arming of no-empty",
+        Command::Arm(_) => "arming",
     }
 }
 
@@ -217,6 +226,8 @@ fn lines_are_read(rt: HostRuntime) {
         ("same a", "same a"),
         ("audit", "question"),
         ("note A-9", "note"),
+        ("arm no-empty", "arming of no-empty"),
+        ("totals", "totals"),
     ] {
         assert_eq!(rt; asked(rt.alloc(), line), Ok(what), "at {line}");
     }
@@ -251,6 +262,9 @@ fn bad_lines_are_explained(rt: HostRuntime) {
         ("restore @-1", Mistake::NotTarget),
         ("note ", Mistake::NotName),
         ("same a.b", Mistake::NotName),
+        ("arm", Mistake::NoCommand),
+        ("arm no_empty", Mistake::NotName),
+        ("totals ", Mistake::NoCommand),
         ("backup web", Mistake::NotBackup),
         ("backup  t /a=61", Mistake::NotBackup),
         ("backup web t /a", Mistake::NotBackup),

@@ -41,7 +41,7 @@ fn nothing_stored(alloc: Global) -> Kit {
 fn expect<R: Read>(
     rt: &impl Abort,
     alloc: Global,
-    kit: &Kit,
+    kit: &mut Kit,
     reader: &mut R,
     answers: &str,
     status: Status,
@@ -53,7 +53,7 @@ fn expect<R: Read>(
 }
 
 /// The answers are the same where the script comes byte by byte.
-fn expect_row(rt: &impl Abort, alloc: Global, kit: &Kit, row: Row) {
+fn expect_row(rt: &impl Abort, alloc: Global, kit: &mut Kit, row: Row) {
     let (script, answers, status) = row;
     expect(rt, alloc, kit, &mut script.as_bytes(), answers, status);
     let mut slow = Slow {
@@ -64,7 +64,7 @@ fn expect_row(rt: &impl Abort, alloc: Global, kit: &Kit, row: Row) {
     expect(rt, alloc, kit, &mut slow, answers, status);
 }
 
-fn expect_rows(rt: &impl Abort, alloc: Global, kit: &Kit, rows: &[Row]) {
+fn expect_rows(rt: &impl Abort, alloc: Global, kit: &mut Kit, rows: &[Row]) {
     for row in rows {
         expect_row(rt, alloc, kit, *row);
     }
@@ -73,9 +73,9 @@ fn expect_rows(rt: &impl Abort, alloc: Global, kit: &Kit, rows: &[Row]) {
 #[test]
 fn scripts_are_answered(rt: HostRuntime) {
     let alloc = rt.alloc();
-    let kit = nothing_stored(alloc);
-    expect_rows(&rt, alloc, &kit, ROWS.as_slice());
-    expect_rows(&rt, alloc, &kit, BACKUPS.as_slice());
+    let mut kit = nothing_stored(alloc);
+    expect_rows(&rt, alloc, &mut kit, ROWS.as_slice());
+    expect_rows(&rt, alloc, &mut kit, BACKUPS.as_slice());
 }
 
 /// A kit of these filters.
@@ -95,11 +95,11 @@ fn lines_with_filters_are_answered(rt: HostRuntime) -> Result<(), Fail> {
     let ask: AskFacts = Box::new(alloc, |facts: &SnapFacts| has_tag(facts, "keep"))?;
     let rule = Pick::Tagged(String::from_str(alloc, "keep")?);
     let tagged = Filter::new(String::from_str(alloc, "tagged")?, rule, ask);
-    let kit = two_filters(alloc, all, tagged)?;
-    expect_rows(&rt, alloc, &kit, EXAMPLES.as_slice());
-    expect_rows(&rt, alloc, &kit, LABELS.as_slice());
-    expect_rows(&rt, alloc, &kit, REWRITES.as_slice());
-    expect_rows(&rt, alloc, &kit, UPKEEP.as_slice());
+    let mut kit = two_filters(alloc, all, tagged)?;
+    expect_rows(&rt, alloc, &mut kit, EXAMPLES.as_slice());
+    expect_rows(&rt, alloc, &mut kit, LABELS.as_slice());
+    expect_rows(&rt, alloc, &mut kit, REWRITES.as_slice());
+    expect_rows(&rt, alloc, &mut kit, UPKEEP.as_slice());
     Ok(())
 }
 
@@ -112,7 +112,7 @@ fn files_are_cut_for_a_backup(rt: HostRuntime) {
         alloc,
         &mut script.as_bytes(),
         &mut written,
-        &nothing_stored(alloc),
+        &mut nothing_stored(alloc),
         4,
         NOW,
     );
@@ -140,7 +140,7 @@ fn bad_lines_end_the_run(rt: HostRuntime) -> Result<(), Fail> {
             alloc,
             &mut script.as_slice(),
             &mut written,
-            &nothing_stored(alloc),
+            &mut nothing_stored(alloc),
             CUT,
             NOW,
         );
@@ -153,7 +153,7 @@ fn bad_lines_end_the_run(rt: HostRuntime) -> Result<(), Fail> {
 #[test]
 fn what_isnt_there_is_told(rt: HostRuntime) -> Result<(), Fail> {
     let alloc = rt.alloc();
-    let kit = nothing_stored(alloc);
+    let mut kit = nothing_stored(alloc);
     let answers = "ok 1 at 1 +1 -0 *0 ~0\nbad line 2\n";
     for (line, why) in [
         ("drop index @2", Mistake::NoFile),
@@ -162,10 +162,18 @@ fn what_isnt_there_is_told(rt: HostRuntime) -> Result<(), Fail> {
         ("same n", Mistake::NoNote),
         ("tag all +x", Mistake::NoFilter),
         ("forget all last=1", Mistake::NoFilter),
+        ("arm all", Mistake::NoHook),
     ] {
         let script = script_with(alloc, line.as_bytes())?;
         let status = Status::BadLine(2, why);
-        expect(&rt, alloc, &kit, &mut script.as_slice(), answers, status);
+        expect(
+            &rt,
+            alloc,
+            &mut kit,
+            &mut script.as_slice(),
+            answers,
+            status,
+        );
     }
     Ok(())
 }
@@ -173,32 +181,39 @@ fn what_isnt_there_is_told(rt: HostRuntime) -> Result<(), Fail> {
 #[test]
 fn limits_are_kept(rt: HostRuntime) -> Result<(), Fail> {
     let alloc = rt.alloc();
-    let kit = nothing_stored(alloc);
+    let mut kit = nothing_stored(alloc);
     let mut line = vec![in alloc; b'#'; 1_048_576]?;
     let longest = script_with(alloc, line.as_slice())?;
     let answers = "ok 1 at 1 +1 -0 *0 ~0\nfiles 1 marks 0\n";
     let mut reader = longest.as_slice();
-    expect(&rt, alloc, &kit, &mut reader, answers, Status::Done);
+    expect(&rt, alloc, &mut kit, &mut reader, answers, Status::Done);
     line.push(b'#')?;
     let longer = script_with(alloc, line.as_slice())?;
     let refused = "ok 1 at 1 +1 -0 *0 ~0\nbad line 2\n";
     let status = Status::BadLine(2, Mistake::TooLong);
-    expect(&rt, alloc, &kit, &mut longer.as_slice(), refused, status);
+    expect(
+        &rt,
+        alloc,
+        &mut kit,
+        &mut longer.as_slice(),
+        refused,
+        status,
+    );
     Ok(())
 }
 
 #[test]
 fn endless_scripts_are_given_up(rt: HostRuntime) {
     let alloc = rt.alloc();
-    let kit = nothing_stored(alloc);
+    let mut kit = nothing_stored(alloc);
     let status = Status::ScriptTooLong;
-    expect(&rt, alloc, &kit, &mut Endless, "", status);
+    expect(&rt, alloc, &mut kit, &mut Endless, "", status);
 }
 
 #[test]
 fn single_bytes_are_read_on(rt: HostRuntime) -> Result<(), Fail> {
     let alloc = rt.alloc();
-    let kit = nothing_stored(alloc);
+    let mut kit = nothing_stored(alloc);
     let comment = vec![in alloc; b'#'; 120_000]?;
     let script = script_with(alloc, comment.as_slice())?;
     let mut slow = Slow {
@@ -207,7 +222,7 @@ fn single_bytes_are_read_on(rt: HostRuntime) -> Result<(), Fail> {
         fails: false,
     };
     let answers = "ok 1 at 1 +1 -0 *0 ~0\nfiles 1 marks 0\n";
-    expect(&rt, alloc, &kit, &mut slow, answers, Status::Done);
+    expect(&rt, alloc, &mut kit, &mut slow, answers, Status::Done);
     Ok(())
 }
 
@@ -219,25 +234,39 @@ const TWO_ADDED: &str = "ok 1 at 1 +1 -0 *0 ~0\nok 2 at 2 +1 -0 *0 ~0\n";
 #[test]
 fn a_failed_read_ends_the_run(rt: HostRuntime) {
     let alloc = rt.alloc();
-    let kit = nothing_stored(alloc);
+    let mut kit = nothing_stored(alloc);
     let mut failing = Slow {
         bytes: TWO_ADDS.as_bytes(),
         interrupted: false,
         fails: true,
     };
     let answers = "ok 1 at 1 +1 -0 *0 ~0\n";
-    expect(&rt, alloc, &kit, &mut failing, answers, Status::ReadFailed);
+    expect(
+        &rt,
+        alloc,
+        &mut kit,
+        &mut failing,
+        answers,
+        Status::ReadFailed,
+    );
 }
 
 #[test]
 fn a_failed_write_ends_the_run(rt: HostRuntime) {
     let alloc = rt.alloc();
-    let kit = nothing_stored(alloc);
+    let mut kit = nothing_stored(alloc);
     let answered = TWO_ADDED.as_bytes();
     for room in [0, 1, 30, 43, 44, 99] {
         let held = Vec::new(alloc);
         let mut writer = Narrow { held, room };
-        let ended = run(alloc, &mut TWO_ADDS.as_bytes(), &mut writer, &kit, CUT, NOW);
+        let ended = run(
+            alloc,
+            &mut TWO_ADDS.as_bytes(),
+            &mut writer,
+            &mut kit,
+            CUT,
+            NOW,
+        );
         let fits = answered.len() <= room;
         let status = if fits {
             Status::Done

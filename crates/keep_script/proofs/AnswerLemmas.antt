@@ -2,12 +2,17 @@
 use Rattle.std.proofs.Common.{◌≡◌, ◌≢◌, ℕ, List, [], Result, Ok, Err, Option, IfOk, IfErr, inl, inr, ap, refl, subst}
 use Rattle.std.proofs.KnownBytes.{Appends-kept, Appends-nil}
 use Rattle.std.specs.Io.KnownBytes.{Keeps}
-use Rattle.keep_book.specs.BookState.{BookState}
-use Rattle.keep_book.specs.Reply.{Replies, state_after}
+use Rattle.keep_book.specs.Armed.{tallies_in}
+use Rattle.keep_book.specs.Guarding.{tallies_told}
+use Rattle.keep_book.specs.Reply.{state_after}
+use Rattle.keep_book.specs.Request.{Request}
+use Rattle.keep_book.specs.declared.book.Book.{Book}
+use Rattle.keep_book.specs.declared.hooks.Hooks.{Hooks}
 use Rattle.keep_book.specs.declared.reply.Refusal.{Refusal}
 use Rattle.keep_book.specs.declared.reply.Told.{Told}
 use Rattle.keep_change.specs.declared.change.Change.{Change}
-use Rattle.keep_jobs.specs.Job.{SettingsData, job_change, no_memory}
+use Rattle.keep_hooks.specs.Kits.{KitData}
+use Rattle.keep_jobs.specs.Job.{job_change, no_memory, settings_view}
 use Rattle.keep_jobs.specs.declared.error.JobError.{JobError}
 use Rattle.keep_jobs.specs.declared.error.JobError.TheVariants.{NoFilter, Refused}
 use Rattle.keep_jobs.specs.declared.job.Job.{Job}
@@ -24,10 +29,11 @@ use Rattle.keep_lines.specs.declared.mistake.Mistake.TheVariants.{NoFilter as No
 use Rattle.keep_lines.specs.declared.reply.Sizes.{Sizes}
 use Rattle.keep_plan.specs.declared.plan_error.PlanError.{PlanError}
 use Rattle.keep_plan.specs.declared.plan_error.PlanError.TheVariants as plan_error
-use Rattle.keep_repo.specs.Repository.{Repository}
 use Rattle.keep_script.specs.Answer.{AnswersTo, Committed, Done, Shows, commit_of, shown_by}
+use Rattle.keep_script.specs.Asking.{AsksBook}
 use Rattle.keep_script.specs.Known.{Puts, Writes}
-use Rattle.keep_script.specs.State.{State}
+use Rattle.keep_script.specs.State.{State, state_of}
+use Rattle.keep_script.specs.declared.session.Session.{Session}
 use Rattle.keep_script.specs.Status.{stop_of}
 use Rattle.keep_script.specs.Step.{AnswersCommand, AnswersLine}
 use Rattle.keep_script.specs.Outcome.{AnswersJob}
@@ -71,24 +77,29 @@ AnswersLine-unread a state line Memory stop r e bad same = rw (same, e) ([], App
 
 -- ---- commits
 
+-- what the book is asked decides on it and on its totals
+pub left_by : {I F g J E h : _} (kit : KitData) (session : Session) (book book' : Book (Hooks I F g J E h)) (request : Request) (reply : Result Told Refusal)
+    → AsksBook book request reply book'
+    → state_of kit session book' ≡ record (state_of kit session book) { book = state_after book.ledger request reply; watches = tallies_told book.ledger.events request reply (tallies_in book) }
+left_by kit session book book' request reply asks = rw (asks.ledger, asks.rules, asks.tallies) refl
+
 -- the change that was made ready is committed
-pub Committed-by : (settings : SettingsData) (book book' : BookState) (notes : List ℕ → Option Repository) (change : Change) (sizes : Sizes) (reply : Result Told Refusal)
-    → Replies book (commit_of book change) reply → book' ≡ state_after book (commit_of book change) reply → sizes ≡ sizes_of change
-    → Committed (record { settings = settings; book = book; notes = notes }) change (reply_answer (commit_text sizes) reply) (record { settings = settings; book = book'; notes = notes })
-Committed-by settings book book' notes change sizes reply replies left counted = record {
+pub Committed-by : {I F g J E h : _} (kit : KitData) (session : Session) (book book' : Book (Hooks I F g J E h)) (change : Change) (sizes : Sizes) (reply : Result Told Refusal)
+    → AsksBook book (commit_of book.ledger change) reply book' → sizes ≡ sizes_of change
+    → Committed (state_of kit session book) change (reply_answer (commit_text sizes) reply) (state_of kit session book')
+Committed-by kit session book book' change sizes reply asks counted = record {
   reply = reply;
-  replies = replies;
+  replies = asks.replies;
   text = ap (λ s. reply_answer (commit_text s) reply) counted;
-  left = ap (λ b. record { settings = settings; book = b; notes = notes }) left;
+  left = left_by kit session book book' (commit_of book.ledger change) reply asks;
 }
 
 -- what came of a job was answered: it was committed as it was to be planned, it was refused as it was to be, or memory ran out
-Job-made : (settings : SettingsData) (book book' : BookState) (notes : List ℕ → Option Repository) (job : Job) (made : Result Told Refusal × Sizes) (change : Change)
-    → job_change (shown_by book) settings job ≡ Ok change → Replies book (commit_of book change) made.0
-    → book' ≡ state_after book (commit_of book change) made.0 → made.1 ≡ sizes_of change
-    → AnswersTo (record { settings = settings; book = book; notes = notes }) (the_command.Job job) (reply_answer (commit_text made.1) made.0) (record { settings = settings; book = book'; notes = notes })
-Job-made settings book book' notes job made change due replies left counted =
-    rw due (inl (Committed-by settings book book' notes change made.1 made.0 replies left counted))
+Job-made : {I F g J E h : _} (kit : KitData) (session : Session) (book book' : Book (Hooks I F g J E h)) (job : Job) (made : Result Told Refusal × Sizes) (change : Change)
+    → job_change (shown_by book.ledger) (settings_view session.settings kit.filters) job ≡ Ok change → AsksBook book (commit_of book.ledger change) made.0 book' → made.1 ≡ sizes_of change
+    → AnswersTo (state_of kit session book) (the_command.Job job) (reply_answer (commit_text made.1) made.0) (state_of kit session book')
+Job-made kit session book book' job made change due asks counted =
+    rw due (inl (Committed-by kit session book book' change made.1 made.0 asks counted))
 
 Job-refused : (state after : State) (job : Job) (refusal : PlanError)
     → (Refused refusal ≢ no_memory → job_change (shown_by state.book) state.settings job ≡ Err (Refused refusal))
@@ -112,16 +123,14 @@ Job-unnamed : (a b : Option (List ℕ)) (state after : State) (job : Job) (r : R
     → Writes a b (λ t. AnswersCommand state (the_command.Job job) t r after)
 Job-unnamed a b state after job r due same bad kept = rw bad ([], Appends-kept a a b [] (Appends-nil a) kept, ((due, refl), record { text = refl; same = same }))
 
-pub Job-answer : (a b : Option (List ℕ)) (settings : SettingsData) (book book' : BookState) (notes : List ℕ → Option Repository) (job : Job) (outcome : Result (Result Told Refusal × Sizes) JobError) (r : Result (Unit {0}) Stop)
-    → IfOk outcome (λ made. (change : Change) × (job_change (shown_by book) settings job ≡ Ok change) × Replies book (commit_of book change) made.0 × (book' ≡ state_after book (commit_of book change) made.0) × (made.1 ≡ sizes_of change))
-    → IfErr outcome (λ refusal. refusal ≢ no_memory → job_change (shown_by book) settings job ≡ Err refusal) → IfErr outcome (λ refusal. book' ≡ book) → AnswersJob a b outcome r
-    → Writes a b (λ t. AnswersCommand (record { settings = settings; book = book; notes = notes }) (the_command.Job job) t r (record { settings = settings; book = book'; notes = notes }))
-Job-answer a b settings book book' notes job (Ok made) r h refused same puts =
-    AnswersCommand-puts a b _ _ (the_command.Job job) _ r puts (Job-made settings book book' notes job made h.0 h.1 h.2 h.3 h.4)
-Job-answer a b settings book book' notes job (Err (Refused refusal)) r made due same puts =
+pub Job-answer : {I F g J E h : _} (a b : Option (List ℕ)) (kit : KitData) (session : Session) (book book' : Book (Hooks I F g J E h)) (job : Job) (outcome : Result (Result Told Refusal × Sizes) JobError) (r : Result (Unit {0}) Stop)
+    → IfOk outcome (λ made. (change : Change) × (job_change (shown_by book.ledger) (settings_view session.settings kit.filters) job ≡ Ok change) × AsksBook book (commit_of book.ledger change) made.0 book' × (made.1 ≡ sizes_of change))
+    → IfErr outcome (λ refusal. refusal ≢ no_memory → job_change (shown_by book.ledger) (settings_view session.settings kit.filters) job ≡ Err refusal) → IfErr outcome (λ refusal. book' ≡ book) → AnswersJob a b outcome r
+    → Writes a b (λ t. AnswersCommand (state_of kit session book) (the_command.Job job) t r (state_of kit session book'))
+Job-answer a b kit session book book' job (Ok made) r h refused same puts =
+    AnswersCommand-puts a b _ _ (the_command.Job job) _ r puts (Job-made kit session book book' job made h.0 h.1 h.2 h.3)
+Job-answer a b kit session book book' job (Err (Refused refusal)) r made due same puts =
     AnswersCommand-puts a b _ _ (the_command.Job job) _ r puts
-    (Job-refused (record { settings = settings; book = book; notes = notes }) (record { settings = settings; book = book'; notes = notes }) job refusal due
-    (ap (λ (b : BookState). record { settings = settings; book = b; notes = notes }) same))
-Job-answer a b settings book book' notes job (Err NoFilter) r made due same (bad, kept) =
-    Job-unnamed a b (record { settings = settings; book = book; notes = notes }) (record { settings = settings; book = book'; notes = notes }) job r (due (λ e. cc e))
-    (ap (λ (b : BookState). record { settings = settings; book = b; notes = notes }) same) bad kept
+    (Job-refused (state_of kit session book) (state_of kit session book') job refusal due (ap (state_of kit session) same))
+Job-answer a b kit session book book' job (Err NoFilter) r made due same (bad, kept) =
+    Job-unnamed a b (state_of kit session book) (state_of kit session book') job r (due (λ e. cc e)) (ap (state_of kit session) same) bad kept

@@ -1,4 +1,5 @@
 pub mod AnswerLemmas
+pub mod ArmingLemmas
 pub mod CountLemmas
 pub mod FirstLine
 pub mod KnownLemmas

@@ -1,5 +1,5 @@
 -- What loops over lists write: the line of each item in turn.
-use Rattle.std.proofs.Common.{◌≡◌, ℕ, ◌+◌, ◌<◌, ◌≤◌, List, [], ◌∷◌, ◌++◌, ◌∙◌, get_or, take, drop, length, Option, Result, Err, sym, ap, subst, append_assoc, append-nil, take_all, take-append-drop}
+use Rattle.std.proofs.Common.{◌≡◌, ℕ, ◌+◌, ◌<◌, ◌≤◌, List, [], ◌∷◌, ◌++◌, ◌∙◌, get_or, map, take, drop, length, Option, Result, Err, refl, sym, ap, subst, append_assoc, append-nil, take_all, take-append-drop}
 use Rattle.std.proofs.KnownBytes.{Appends-trans}
 use Rattle.std.proofs.lemmas.Grind.{flat_map-append}
 use Rattle.std.proofs.lemmas.List.{drop_more, take_more}
@@ -8,6 +8,11 @@ use Rattle.std.specs.List.{flat_map}
 use Rattle.keep_script.proofs.KnownLemmas.{Puts-failed, Puts-last}
 use Rattle.keep_script.specs.Known.{Puts}
 use Rattle.keep_script.specs.declared.status.Stop.{Stop}
+
+-- the lines of what a function makes of items
+pub flat_map-map : {A B C : Type 0} (f : B → List C) (g : A → B) (xs : List A) → flat_map f (map g xs) ≡ flat_map (λ x. f (g x)) xs
+flat_map-map f g [] = refl
+flat_map-map f g (x ∷ xs) = ap (λ l. f (g x) ++ l) (flat_map-map f g xs)
 
 module _ {A : Type 0} (print : A → List ℕ) (xs : List A) where
   -- the lines of the items before place i were written

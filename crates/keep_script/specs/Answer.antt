@@ -6,7 +6,9 @@ use Rattle.keep_names.specs.declared.file_name.Kind.TheVariants.{Snapshot}
 use Rattle.keep_change.specs.declared.change.Change.{Change}
 use Rattle.keep_journal.specs.History.{length_of}
 use Rattle.keep_view.specs.Shown.{Shown, shown_of}
+use Rattle.keep_book.specs.Armed.{is_armed}
 use Rattle.keep_book.specs.BookState.{BookState}
+use Rattle.keep_book.specs.Guarding.{tallies_told}
 use Rattle.keep_book.specs.Reply.{Replies, state_after}
 use Rattle.keep_book.specs.declared.reply.Refusal.{Refusal}
 use Rattle.keep_book.specs.Request.{Request}
@@ -22,16 +24,17 @@ use Rattle.keep_lines.specs.Line.{IsLine, IsPassedOver}
 use Rattle.keep_lines.specs.Mistake.{IsMistake}
 use Rattle.keep_lines.specs.Reply.{sizes_of, told_text}
 use Rattle.keep_lines.specs.declared.command.Command.{Command}
-use Rattle.keep_lines.specs.declared.command.Command.TheVariants.{Job, RawFile, Revision, Question, Note}
+use Rattle.keep_lines.specs.declared.command.Command.TheVariants.{Arm, Job, RawFile, Revision, Question, Note}
 use Rattle.keep_lines.specs.declared.mistake.Mistake.{Mistake}
-use Rattle.keep_lines.specs.declared.mistake.Mistake.TheVariants.{NoFile, NoFilter, NoNote}
+use Rattle.keep_lines.specs.declared.mistake.Mistake.TheVariants.{NoFile, NoFilter, NoHook, NoNote}
 use Rattle.keep_lines.specs.declared.question.Question as the_question
-use Rattle.keep_lines.specs.declared.question.Question.TheVariants.{List as ListFiles, Count, History, Same, Restore, Audit}
+use Rattle.keep_lines.specs.declared.question.Question.TheVariants.{List as ListFiles, Count, History, Same, Restore, Audit, Totals}
 use Rattle.keep_lines.specs.declared.revision.Revision as the_revision
 use Rattle.keep_lines.specs.declared.revision.Revision.TheVariants.{Undo, Redo, Empty}
+use Rattle.keep_script.specs.Arming.{ArmsOne, IsNowhere, IsSpare}
 use Rattle.keep_script.specs.RawFile.{file_change, file_meant}
 use Rattle.keep_script.specs.State.{State, noted_under}
-use Rattle.keep_script.specs.Text.{commit_text, count_answer, found_answer, history_answer, list_answer, no_memory_answer, note_answer, reply_answer, restore_answer, same_answer, unplanned_answer}
+use Rattle.keep_script.specs.Text.{armed_answer, commit_text, count_answer, double_name_answer, found_answer, history_answer, list_answer, no_memory_answer, note_answer, reply_answer, restore_answer, same_answer, totals_answer, unplanned_answer}
 
 -- what the book shows
 abbrev pub shown_by : BookState → Shown
@@ -52,13 +55,16 @@ pub record Shows (state : State) (shown written : List ℕ) (after : State) : Ty
   pub text : written ≡ shown
   pub same : after ≡ state
 
--- the book's reply to the request is written, and alone decides on the book afterwards
+-- the book's reply to the request is written, and alone decides on the book and the totals afterwards
 pub record Asked (state : State) (request : Request) (accepted : Told → List ℕ)
     (written : List ℕ) (after : State) : Type 0 where
   pub reply : Result Told Refusal
-  pub replies : Replies state.book request reply
+  pub replies : Replies state.book state.vetoes request reply
   pub text : written ≡ reply_answer accepted reply
-  pub left : after ≡ record state { book = state_after state.book request reply }
+  pub left : after ≡ record state {
+    book = state_after state.book request reply;
+    watches = tallies_told state.book.events request reply state.watches;
+  }
 
 -- the change is planned on the present state, and its commit follows at once
 abbrev pub Committed : State → Change → List ℕ → State → Type 0
@@ -82,9 +88,19 @@ Tells state (Same name) text =
 Tells state (Restore target) text =
     (name : FileName) × (file_meant state.book.events Snapshot target ≡ Some name)
     × ((text ≡ restore_answer (restored state.book.live name.id)) ⊎ (text ≡ no_memory_answer))
+Tells state Totals text = text ≡ totals_answer state.watches
 Tells state Audit text = (text ≡ found_answer (findings_in state.book.live)) ⊎ (text ≡ no_memory_answer)
 
--- the answer to a command, and the state that it leaves: a job is planned and committed, a file by itself committed, a revision asked of the book; a question changes nothing; a note is kept
+-- what `arm` does: nothing where the name is armed or where memory runs out; else what has it is armed, behind the
+-- others
+abbrev pub Arms : State → List ℕ → List ℕ → State → Type 0
+Arms state name text after =
+    (IsTrue (is_armed name state.vetoes state.watches) × Shows state double_name_answer text after)
+    ⊎ (IsSpare state name × Shows state no_memory_answer text after)
+    ⊎ ((armed : State) × ArmsOne state name armed × Shows armed (armed_answer name) text after)
+
+-- the answer to a command, and the state that it leaves: a job is planned and committed, a file by itself committed, a
+-- revision asked of the book; a question changes nothing; a note is kept; what is named is armed
 abbrev pub AnswersTo : State → Command → List ℕ → State → Type 0
 AnswersTo state (Job job) text after =
     CommittedOrRefused state (job_change (shown_by state.book) state.settings job) text after
@@ -93,6 +109,7 @@ AnswersTo state (RawFile file) text after =
     (change : Change) × (file_change state.book file ≡ Some change) × Committed state change text after
 AnswersTo state (Revision revision) text after = Asked state (request_of revision) told_text text after
 AnswersTo state (Question question) text after = Tells state question text × (after ≡ state)
+AnswersTo state (Arm name) text after = Arms state name.now text after
 AnswersTo state (Note name) text after =
     Shows (record state { notes = noted_under name.now state.book.live state.notes }) (note_answer name.now) text after
 
@@ -104,6 +121,7 @@ FindsNothing state History why = ⊥
 FindsNothing state (Same name) why = (state.notes name.now ≡ None) × (why ≡ NoNote)
 FindsNothing state (Restore target) why = (file_meant state.book.events Snapshot target ≡ None) × (why ≡ NoFile)
 FindsNothing state Audit why = ⊥
+FindsNothing state Totals why = ⊥
 
 -- a command names what isn't there: so does a job by a filter, a question, or a drop of what a change added
 abbrev pub NamesNothing : State → Command → Mistake → Type 0
@@ -113,6 +131,7 @@ NamesNothing state (RawFile file) why = (file_change state.book file ≡ None) �
 NamesNothing state (Revision revision) why = ⊥
 NamesNothing state (Question question) why = FindsNothing state question why
 NamesNothing state (Note name) why = ⊥
+NamesNothing state (Arm name) why = IsNowhere state name.now × (why ≡ NoHook)
 
 -- the answer to a line: none where it is passed over, and else that to its command
 pub data Answered (state : State) (line text : List ℕ) (after : State) : Type 0 where

@@ -1,4 +1,6 @@
 pub mod Answer
+pub mod Arming
+pub mod Asking
 pub mod Input
 pub mod Known
 pub mod Line

@@ -1,18 +1,27 @@
 -- What the lines of a run work on.
-use Rattle.std.specs.Prelude.{ℕ, ℤ, List, Option, Some, None, if◌then◌else◌}
+use Rattle.std.specs.Prelude.{ℕ, ℤ, List, [], Option, Some, None, if◌then◌else◌}
 use Rattle.std.specs.BTreeMap.{get_by_text}
 use Rattle.std.specs.Str.{bytes_eq}
 use Rattle.keep_repo.specs.Repository.{Repository, empty_repository}
+use Rattle.keep_book.specs.Armed.{rules_in, tallies_in}
 use Rattle.keep_book.specs.BookState.{BookState, new_book}
-use Rattle.keep_hooks.specs.Kits.{NamedRule}
+use Rattle.keep_book.specs.declared.book.Book.{Book}
+use Rattle.keep_book.specs.declared.hooks.Hooks.{Hooks}
+use Rattle.keep_hooks.specs.Guards.{Rule, Tally}
+use Rattle.keep_hooks.specs.Kits.{KitData, NamedRule}
 use Rattle.keep_jobs.specs.Job.{SettingsData, settings_view}
 use Rattle.keep_script.specs.declared.notes.Notes.{Notes}
 use Rattle.keep_script.specs.declared.session.Session.{Session}
 
--- what jobs go by, a book, and under each name the repository that was noted last
+-- what jobs go by; a book, its vetoes and its watches; the vetoes and watches that can still be armed; and under each
+-- name the repository that was noted last
 pub record State : Type 0 where
   pub settings : SettingsData
   pub book : BookState
+  pub vetoes : List Rule
+  pub watches : List Tally
+  pub spare_vetoes : List Rule
+  pub spare_watches : List Tally
   pub notes : List ℕ → Option Repository
 
 -- no notes
@@ -23,13 +32,29 @@ no_notes name = None
 abbrev pub settled : ℕ → ℤ → List NamedRule → SettingsData
 settled cut now filters = record { cut = cut; now = now; filters = filters }
 
--- a book, and no notes
-abbrev pub begun_over : SettingsData → BookState → State
-begun_over settings book = record { settings = settings; book = book; notes = no_notes }
+-- a book over a repository without files and marks, nothing armed, and no notes
+abbrev pub begun : ℕ → ℤ → KitData → State
+begun cut now kit = record {
+  settings = settled cut now kit.filters;
+  book = new_book empty_repository;
+  vetoes = [];
+  watches = [];
+  spare_vetoes = kit.vetoes;
+  spare_watches = kit.watches;
+  notes = no_notes;
+}
 
--- a book over a repository without files and marks, and no notes
-abbrev pub begun : SettingsData → State
-begun settings = begun_over settings (new_book empty_repository)
+-- this book, what the kit has beside, and no notes
+abbrev pub begun_over : {I F g J E h : _} → SettingsData → KitData → Book (Hooks I F g J E h) → State
+begun_over settings kit book = record {
+  settings = settings;
+  book = book.ledger;
+  vetoes = rules_in book;
+  watches = tallies_in book;
+  spare_vetoes = kit.vetoes;
+  spare_watches = kit.watches;
+  notes = no_notes;
+}
 
 -- the notes with one more, in the place of an older one of the name
 abbrev pub noted_under : List ℕ → Repository → (List ℕ → Option Repository) → List ℕ → Option Repository
@@ -39,7 +64,14 @@ noted_under name repository notes other = if bytes_eq name other then Some repos
 abbrev pub notes_of : Notes → List ℕ → Option Repository
 notes_of notes name = get_by_text notes.held name
 
--- the state that these are, where these filters are stored
-abbrev pub state_of : List NamedRule → Session → BookState → State
-state_of filters session book =
-    record { settings = settings_view session.settings filters; book = book; notes = notes_of session.notes }
+-- the state that these are, with what the kit still has
+abbrev pub state_of : {I F g J E h : _} → KitData → Session → Book (Hooks I F g J E h) → State
+state_of kit session book = record {
+  settings = settings_view session.settings kit.filters;
+  book = book.ledger;
+  vetoes = rules_in book;
+  watches = tallies_in book;
+  spare_vetoes = kit.vetoes;
+  spare_watches = kit.watches;
+  notes = notes_of session.notes;
+}

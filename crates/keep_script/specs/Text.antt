@@ -1,5 +1,5 @@
 -- The texts of whole answers, which are made of lines.
-use Rattle.std.specs.Prelude.{ℕ, ◌&&◌, Bool, true, false, List, ◌++◌, length, is_some, Result, Ok, Err}
+use Rattle.std.specs.Prelude.{ℕ, ◌&&◌, Bool, true, false, List, ◌++◌, length, codes, is_some, Result, Ok, Err}
 use Rattle.std.specs.FinMap as map
 use Rattle.std.specs.List.{flat_map}
 use Rattle.keep_names.specs.declared.file_name.FileName.{FileName}
@@ -13,6 +13,7 @@ use Rattle.keep_book.specs.Refusal.{refusal_text}
 use Rattle.keep_book.specs.declared.reply.Refusal.{Refusal}
 use Rattle.keep_book.specs.declared.reply.Refusal.TheVariants.{Memory}
 use Rattle.keep_book.specs.declared.reply.Told.{Told}
+use Rattle.keep_hooks.specs.Guards.{Tally}
 use Rattle.keep_plan.specs.Refusal.{plan_text}
 use Rattle.keep_plan.specs.declared.plan_error.PlanError.{PlanError}
 use Rattle.keep_read.specs.Refusals.{restore_text}
@@ -20,7 +21,7 @@ use Rattle.keep_read.specs.Restored.{RestoredData}
 use Rattle.keep_read.specs.declared.finding.Finding.{Finding}
 use Rattle.keep_read.specs.declared.restore_error.RestoreError.{RestoreError}
 use Rattle.keep_lines.specs.Reply.{bad_line_text, committed_text, no_text}
-use Rattle.keep_lines.specs.Telling.{counts_text, event_text, file_text, found_count, found_text, noted_text, restored_counts, restored_text, same_text}
+use Rattle.keep_lines.specs.Telling.{armed_text, counts_text, event_text, file_text, found_count, found_text, noted_text, restored_counts, restored_text, same_text, total_text}
 use Rattle.keep_lines.specs.Word.{hex_text}
 use Rattle.keep_lines.specs.declared.reply.Sizes.{Sizes}
 use Rattle.keep_script.specs.Line.{line}
@@ -116,3 +117,17 @@ audit_answer (Err no_memory) = no_memory_answer
 -- what is written for a line that isn't of the language
 abbrev pub bad_line_answer : ℕ → List ℕ
 bad_line_answer number = line (bad_line_text number)
+
+-- the answers to `arm`: it is armed, or its name is
+abbrev pub armed_answer : List ℕ → List ℕ
+armed_answer name = line (armed_text name)
+
+abbrev pub double_name_answer : List ℕ
+double_name_answer = line (no_text (codes "DoubleName"))
+
+-- the answer to `totals`: a line for each watch, in the order in which they were armed
+abbrev pub total_line : Tally → List ℕ
+total_line watch = line (total_text watch.name watch.total)
+
+abbrev pub totals_answer : List Tally → List ℕ
+totals_answer watches = flat_map total_line watches

@@ -2,6 +2,7 @@
 #![tactic(auto)]
 
 mod answering;
+mod arming;
 mod input;
 mod listing;
 mod notes;

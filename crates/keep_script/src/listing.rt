@@ -1,5 +1,6 @@
 ghost use Rattle.std.specs.Prelude.{◌≡◌, ◌≢◌, Err, length};
 ghost use Rattle.std.specs.FinMap as map;
+ghost use Rattle.keep_hooks.specs.Rules.{tallies_of, tally_of};
 ghost use Rattle.keep_read.specs.Restored.{restored_view};
 ghost use Rattle.keep_script.specs.Known.{Puts, WritesLines};
 ghost use Rattle.keep_script.specs.RawFile.{bytes_in};
@@ -7,9 +8,11 @@ ghost use Rattle.keep_script.specs.Text as texts;
 
 use crate::output::put_line;
 use crate::status::Stop;
+use keep_hooks::Watch;
 use keep_journal::{Entry, History};
 use keep_lines::{
-    Counts, EventLine, FileLine, Found, FoundCount, RestoredCounts, RestoredFile, print_hex,
+    Counts, EventLine, FileLine, Found, FoundCount, RestoredCounts, RestoredFile, TotalLine,
+    print_hex,
 };
 use keep_names::{FileName, Kind};
 use keep_read::{Finding, Restored};
@@ -108,6 +111,33 @@ fn write_entry<W: Write>(alloc: Global, entry: &Entry, writer: &mut W) -> Result
         change: entry.event.number(),
     };
     put_line(alloc, &event, writer)
+}
+
+/// Writes the answer to `totals`: each watch with its total.
+pub(crate) fn write_totals<W: Write>(
+    alloc: Global,
+    watches: &[Watch],
+    writer: &mut W,
+) -> Result<(), Stop>
+    ensures puts { Puts (W.contents writer.old) (W.contents writer.new)
+        (texts.totals_answer (tallies_of watches.now)) result }
+    ensures whole { result ≢ Err Stop.WriteFailed → WritesLines (W.contents writer.old) (W.contents writer.new) }
+{
+    for watch in watches {
+        write_total(alloc, watch, writer)?;
+    }
+    Ok(())
+}
+
+fn write_total<W: Write>(alloc: Global, watch: &Watch, writer: &mut W) -> Result<(), Stop>
+    ensures puts { Puts (W.contents writer.old) (W.contents writer.new) (texts.total_line (tally_of watch.now)) result }
+    ensures whole { result ≢ Err Stop.WriteFailed → WritesLines (W.contents writer.old) (W.contents writer.new) }
+{
+    let total = TotalLine {
+        name: watch.name.as_str(),
+        total: watch.total,
+    };
+    put_line(alloc, &total, writer)
 }
 
 /// Writes what a restore gives: each file by path, and then the counts.

@@ -1,7 +1,7 @@
 ghost use Rattle.std.specs.Prelude.{◌≡◌, [], ◌∷◌, IfOk};
 ghost use Rattle.keep_script.specs.RawFile.{added_file, added_in, bytes_in, dropped_file, file_change, file_meant, least, names_among};
 
-use keep_book::Book;
+use keep_book::Ledger;
 use keep_change::{Change, Listed, StoredFile};
 use keep_journal::History;
 use keep_lines::{RawFile, Target};
@@ -12,7 +12,7 @@ use std::alloc::{AllocError, Global};
 /// The change of a line that adds or drops a file by itself; none where the file that it means isn't one.
 pub(crate) fn change_of_file(
     alloc: Global,
-    book: &Book,
+    book: &Ledger,
     file: RawFile,
 ) -> Result<Option<Change>, AllocError>
     ensures { IfOk result (λ found. found ≡ file_change book.now file) }

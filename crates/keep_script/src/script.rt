@@ -1,17 +1,18 @@
 ghost use Rattle.std.specs.Prelude.{◌≡◌, ◌≢◌, ◌≤◌, ◌<◌, ◌⊎◌, IfSome, length};
 ghost use Rattle.std.specs.Io.KnownBytes.{Keeps};
-ghost use Rattle.keep_hooks.specs.Kits.{filters_of};
+ghost use Rattle.keep_book.specs.Armed.{IsCounted};
+ghost use Rattle.keep_hooks.specs.Kits.{filters_of, kit_view};
 ghost use Rattle.keep_jobs.specs.Job.{settings_view};
 ghost use Rattle.keep_script.specs.Known.{Writes, WritesLines};
 ghost use Rattle.keep_script.specs.Line.{longest_script};
 ghost use Rattle.keep_script.specs.Run.{Ends};
-ghost use Rattle.keep_script.specs.State.{State, begun, begun_over, settled};
+ghost use Rattle.keep_script.specs.State.{State, begun, begun_over};
 
 use crate::output::flush;
 use crate::session::Session;
 use crate::status::Status;
 use keep_backup::Cut;
-use keep_book::Book;
+use keep_book::{Book, Hooks};
 use keep_hooks::Kit;
 use keep_jobs::Settings;
 use keep_repo::Repo;
@@ -27,20 +28,21 @@ use std::io::{Read, Write};
 /// `restore` and `audit` are written line by line. Where one finds no memory midway, its first
 /// lines are written already, and the run ends as `NoMemory`.
 ///
-/// Lines name the filters of the kit. Files are cut for a backup after every `cut` bytes, 1 to 8,388,608. For marks
-/// and sweeps it is `now`, in whole seconds since 1970-01-01T00:00:00Z, from the first line to the last.
+/// Lines name the filters of the kit, and arm its vetoes and watches, which are moved out of it. Files are cut for a
+/// backup after every `cut` bytes, 1 to 8,388,608. For marks and sweeps it is `now`, in whole seconds since
+/// 1970-01-01T00:00:00Z, from the first line to the last.
 pub fn run<R: Read, W: Write>(
     alloc: Global,
     reader: &mut R,
     writer: &mut W,
-    kit: &Kit,
+    kit: &mut Kit,
     cut: u32,
     now: i64,
 ) -> Status
     requires some { 0 < cut }
     requires most { cut ≤ 8_388_608 }
     ensures answers { Writes (W.contents writer.old) (W.contents writer.new) (λ text. (after : State)
-        × Ends (begun (settled cut now (filters_of kit.now))) (R.remaining reader.old) (R.remaining reader.new) text result after) }
+        × Ends (begun cut now (kit_view kit.old)) (R.remaining reader.old) (R.remaining reader.new) text result after) }
     ensures whole { result ≢ Status.WriteFailed → WritesLines (W.contents writer.old) (W.contents writer.new) }
     ensures limit { result ≡ Status.Done →
         IfSome (R.remaining reader.old) (λ script. length script < longest_script) }
@@ -59,15 +61,16 @@ pub fn run<R: Read, W: Write>(
 fn run_over<R: Read, W: Write>(
     alloc: Global,
     settings: Settings,
-    kit: &Kit,
-    book: &mut Book,
+    kit: &mut Kit,
+    book: &mut Book<Hooks>,
     reader: &mut R,
     writer: &mut W,
 ) -> Status
+    requires { IsCounted book.old }
     ensures answers { Writes (W.contents writer.old) (W.contents writer.new) (λ text. (after : State)
-        × (after.book ≡ book.new)
-        × Ends (begun_over (settings_view settings (filters_of kit.now)) book.old) (R.remaining reader.old)
-        (R.remaining reader.new) text result after) }
+        × (after.book ≡ book.new.ledger)
+        × Ends (begun_over (settings_view settings (filters_of kit.old)) (kit_view kit.old) book.old)
+        (R.remaining reader.old) (R.remaining reader.new) text result after) }
     ensures whole { result ≢ Status.WriteFailed → WritesLines (W.contents writer.old) (W.contents writer.new) }
     ensures limit { result ≡ Status.Done →
         IfSome (R.remaining reader.old) (λ script. length script < longest_script) }

@@ -1,5 +1,6 @@
 ghost use Rattle.std.specs.Prelude.{◌≡◌, ◌≢◌, ◌≤◌, ◌<◌, Err, IfOk, IfSome, Ok, OnOk, [], length, true, false};
-ghost use Rattle.keep_hooks.specs.Kits.{filters_of};
+ghost use Rattle.keep_book.specs.Armed.{IsCounted};
+ghost use Rattle.keep_hooks.specs.Kits.{kit_view};
 ghost use Rattle.keep_script.specs.Input.{Counted, ahead_of, left_of, unread_of};
 ghost use Rattle.keep_script.specs.Known.{Writes, WritesLines};
 ghost use Rattle.keep_script.specs.Line.{longest_script};
@@ -11,7 +12,7 @@ use crate::input::{Input, Piece};
 use crate::notes::Notes;
 use crate::reply::write_bad_line;
 use crate::status::{Status, Stop};
-use keep_book::Book;
+use keep_book::{Book, Hooks};
 use keep_hooks::Kit;
 use keep_jobs::Settings;
 use keep_lines::Mistake;
@@ -48,15 +49,16 @@ impl Session {
     /// Answers all lines over this book, which is left as the last line left it.
     pub fn answer_all<R: Read, W: Write>(
         &mut self,
-        kit: &Kit,
-        book: &mut Book,
+        kit: &mut Kit,
+        book: &mut Book<Hooks>,
         reader: &mut R,
         writer: &mut W,
     ) -> Status
         requires ahead { ahead_of self.old.input ≡ longest_script }
+        requires counted { IsCounted book.old }
         ensures answers { Writes (W.contents writer.old) (W.contents writer.new) (λ text.
-            Ends (state_of (filters_of kit.now) self.old book.old) (left_of self.old.input (R.remaining reader.old))
-            (R.remaining reader.new) text result (state_of (filters_of kit.now) self.new book.new)) }
+            Ends (state_of (kit_view kit.old) self.old book.old) (left_of self.old.input (R.remaining reader.old))
+            (R.remaining reader.new) text result (state_of (kit_view kit.new) self.new book.new)) }
         ensures whole { result ≢ Status.WriteFailed → WritesLines (W.contents writer.old) (W.contents writer.new) }
         ensures limit { result ≡ Status.Done →
             IfSome (left_of self.old.input (R.remaining reader.old)) (λ script. length script < longest_script) }
@@ -76,22 +78,24 @@ impl Session {
     /// Answers the next line, and says whether it had an end.
     fn answer_next<R: Read, W: Write>(
         &mut self,
-        kit: &Kit,
-        book: &mut Book,
+        kit: &mut Kit,
+        book: &mut Book<Hooks>,
         reader: &mut R,
         writer: &mut W,
     ) -> Result<bool, Stop>
+        requires { IsCounted book.old }
         ensures answers { Writes (W.contents writer.old) (W.contents writer.new) (λ text.
-            AnswersNext (state_of (filters_of kit.now) self.old book.old)
+            AnswersNext (state_of (kit_view kit.old) self.old book.old)
             (left_of self.old.input (R.remaining reader.old))
             (left_of self.new.input (R.remaining reader.new)) (R.remaining reader.new) text result
-            (state_of (filters_of kit.now) self.new book.new)) }
+            (state_of (kit_view kit.new) self.new book.new)) }
         ensures whole { result ≢ Err Stop.WriteFailed → WritesLines (W.contents writer.old) (W.contents writer.new) }
         ensures spent { result ≡ Ok true → ahead_of self.new.input < ahead_of self.old.input }
         ensures counted { OnOk result (Counted
             (left_of self.old.input (R.remaining reader.old)) (ahead_of self.old.input)
             (left_of self.new.input (R.remaining reader.new)) (ahead_of self.new.input)) }
         ensures more { result ≡ Ok false → 0 < ahead_of self.new.input }
+        ensures still { IsCounted book.new }
         ensures past_limit { result ≡ Err Stop.ScriptTooLong →
             IfSome (left_of self.old.input (R.remaining reader.old)) (λ bytes. ahead_of self.old.input ≤ length bytes) }
     {

@@ -1,10 +1,12 @@
-use keep_book::{Book, Refusal, Told};
+use keep_book::{Ledger, Refusal, Told};
 use keep_change::{Change, Listed, PackMark, Planned, StoredFile};
+use keep_hooks::NoHooks;
 use keep_names::{FileName, Id, Kind};
 use keep_repo::{Facet, Mark, Repo};
 use std::alloc::{AllocError, Global};
 use std::test::Fail;
 
+mod guarded;
 mod model;
 mod view;
 
@@ -60,47 +62,50 @@ fn told(number: u64, at: u64) -> Result<Told, Refusal> {
 #[test]
 fn a_mark_is_set_once_and_taken_back(rt: HostRuntime) -> Result<(), Fail> {
     let alloc = rt.alloc();
-    let mut book = Book::new(alloc, Repo::new(alloc));
-    assert_eq!(rt; book.commit(marking(alloc, 5)?), told(1, 1));
-    let again = book.commit(marking(alloc, 5)?);
+    let mut ledger = Ledger::new(alloc, Repo::new(alloc));
+    let mut none = NoHooks {};
+    assert_eq!(rt; ledger.commit(&mut none, marking(alloc, 5)?), told(1, 1));
+    let again = ledger.commit(&mut none, marking(alloc, 5)?);
     assert_eq!(rt; again, Err(Refusal::Unmet(Facet::Mark(A))));
-    assert_eq!(rt; book.undo(1), told(1, 2));
-    assert_eq!(rt; book.live().mark_count(), 0);
-    assert_eq!(rt; book.redo(1), told(1, 3));
-    assert_eq!(rt; book.empty(1), told(1, 4));
-    assert_eq!(rt; book.undo(1), Err(Refusal::Final));
-    assert_eq!(rt; book.repo()?.mark_of(A), Some(5));
+    assert_eq!(rt; ledger.undo(&mut none, 1), told(1, 2));
+    assert_eq!(rt; ledger.live().mark_count(), 0);
+    assert_eq!(rt; ledger.redo(&mut none, 1), told(1, 3));
+    assert_eq!(rt; ledger.empty(&mut none, 1), told(1, 4));
+    assert_eq!(rt; ledger.undo(&mut none, 1), Err(Refusal::Final));
+    assert_eq!(rt; ledger.repo()?.mark_of(A), Some(5));
     Ok(())
 }
 
 #[test]
 fn marks_differ_by_their_moments(rt: HostRuntime) -> Result<(), Fail> {
     let alloc = rt.alloc();
-    let mut book = Book::new(alloc, Repo::new(alloc));
-    assert_eq!(rt; book.commit(marking(alloc, 5)?), told(1, 1));
-    let other = book.commit(clearing(alloc, 6)?);
+    let mut ledger = Ledger::new(alloc, Repo::new(alloc));
+    let mut none = NoHooks {};
+    assert_eq!(rt; ledger.commit(&mut none, marking(alloc, 5)?), told(1, 1));
+    let other = ledger.commit(&mut none, clearing(alloc, 6)?);
     assert_eq!(rt; other, Err(Refusal::Unmet(Facet::Mark(A))));
-    assert_eq!(rt; book.undo(1), told(1, 2));
-    assert_eq!(rt; book.commit(marking(alloc, 7)?), told(2, 3));
-    assert_eq!(rt; book.redo(1), Err(Refusal::Blocked(2)));
-    assert_eq!(rt; book.commit(clearing(alloc, 7)?), told(3, 4));
-    assert_eq!(rt; book.undo(3), told(3, 5));
-    assert_eq!(rt; book.live().mark_of(A), Some(7));
+    assert_eq!(rt; ledger.undo(&mut none, 1), told(1, 2));
+    assert_eq!(rt; ledger.commit(&mut none, marking(alloc, 7)?), told(2, 3));
+    assert_eq!(rt; ledger.redo(&mut none, 1), Err(Refusal::Blocked(2)));
+    assert_eq!(rt; ledger.commit(&mut none, clearing(alloc, 7)?), told(3, 4));
+    assert_eq!(rt; ledger.undo(&mut none, 3), told(3, 5));
+    assert_eq!(rt; ledger.live().mark_of(A), Some(7));
     Ok(())
 }
 
 #[test]
 fn a_strict_change_is_refused_late(rt: HostRuntime) -> Result<(), Fail> {
     let alloc = rt.alloc();
-    let mut book = Book::new(alloc, Repo::new(alloc));
+    let mut ledger = Ledger::new(alloc, Repo::new(alloc));
+    let mut none = NoHooks {};
     for byte in 0..5u8 {
         let number = u64::from(byte) + 1;
-        let reply = book.commit(planned(addition(alloc, &[byte])?, 0));
+        let reply = ledger.commit(&mut none, planned(addition(alloc, &[byte])?, 0));
         assert_eq!(rt; reply, told(number, number));
     }
     let mut strict = addition(alloc, b"late")?;
     strict.strict = true;
-    let reply = book.commit(planned(strict, 4));
+    let reply = ledger.commit(&mut none, planned(strict, 4));
     assert_eq!(rt; reply, Err(Refusal::Stale(5)));
     Ok(())
 }
@@ -125,10 +130,12 @@ fn with_absent(alloc: Global, count: u32) -> Result<Planned, AllocError> {
 #[test]
 fn a_change_has_at_most_65536_facets(rt: HostRuntime) -> Result<(), Fail> {
     let alloc = rt.alloc();
-    let mut book = Book::new(alloc, Repo::new(alloc));
-    let reply = book.commit(with_absent(alloc, 65_536)?);
+    let mut ledger = Ledger::new(alloc, Repo::new(alloc));
+    let mut none = NoHooks {};
+    let reply = ledger.commit(&mut none, with_absent(alloc, 65_536)?);
     assert_eq!(rt; reply, Err(Refusal::Full));
-    assert_eq!(rt; book.history().length(), 0);
-    assert_eq!(rt; book.commit(with_absent(alloc, 65_535)?), told(1, 1));
+    assert_eq!(rt; ledger.history().length(), 0);
+    let reply = ledger.commit(&mut none, with_absent(alloc, 65_535)?);
+    assert_eq!(rt; reply, told(1, 1));
     Ok(())
 }

@@ -1,7 +1,8 @@
 use crate::files::{put, put_own};
-use keep_book::Book;
+use keep_book::Ledger;
 use keep_catalog::LiveRepo;
 use keep_change::{Change, Listed, Planned, StoredFile};
+use keep_hooks::NoHooks;
 use keep_journal::History;
 use keep_names::{FileName, Id, Kind, id_of};
 use keep_plan::{PlanError, Unreached};
@@ -205,12 +206,13 @@ fn the_known_snapshots_that_are_gone_are_told_in_order(rt: HostRuntime) -> Resul
     let (first, second, third) = (Id([1; 32]), Id([2; 32]), Id([3; 32]));
     let text = snapshot_text(alloc, tree_text(alloc, "a")?.as_str())?;
     let repo = with_snapshots(alloc, &[first, second, third], text.as_str())?;
-    let mut book = Book::new(alloc, repo);
+    let mut ledger = Ledger::new(alloc, repo);
+    let mut none = NoHooks {};
     for snapshot in [third, first] {
         let planned = dropping(alloc, FileName::snapshot(snapshot), text.as_str())?;
-        assert!(rt; book.commit(planned).is_ok());
+        assert!(rt; ledger.commit(&mut none, planned).is_ok());
     }
-    let planned = plan_mark(alloc, &book.view(), 0)?;
+    let planned = plan_mark(alloc, &ledger.view(), 0)?;
     let gone = [FileName::snapshot(first), FileName::snapshot(third)];
     assert_eq!(rt; planned.change.absent.as_slice(), gone.as_slice());
     Ok(())

@@ -1,8 +1,9 @@
 use super::{NOW, nothing_stored};
 use crate::jobs::backup_of;
 use keep_backup::Cut;
-use keep_book::{Book, Refusal};
+use keep_book::{Ledger, Refusal};
 use keep_change::{Change, Listed, Planned, StoredFile};
+use keep_hooks::NoHooks;
 use keep_jobs::{Job, JobError, Settings, plan};
 use keep_names::{Id, Kind};
 use keep_repo::{Facet, Repo};
@@ -20,19 +21,22 @@ fn backup_at(alloc: Global, time: &str) -> Result<Job, AllocError> {
     backup_of(alloc, b"a", time)
 }
 
-/// Plans the job on what the book shows.
-fn planned(alloc: Global, book: &Book, job: &Job) -> Result<Planned, JobError> {
+/// Plans the job on what the ledger shows.
+fn planned(alloc: Global, ledger: &Ledger, job: &Job) -> Result<Planned, JobError> {
     let settings = Settings {
         cut: Cut::after(1_000),
         now: NOW,
     };
-    plan(alloc, &book.view(), settings, &nothing_stored(alloc), job)
+    plan(alloc, &ledger.view(), settings, &nothing_stored(alloc), job)
 }
 
 /// Plans the job and commits it at once.
-fn commit(alloc: Global, book: &mut Book, job: &Job) -> Result<(), Fail> {
-    let planned = planned(alloc, book, job).ok().ok_or("a plan")?;
-    book.commit(planned).ok().ok_or("a commit")?;
+fn commit(alloc: Global, ledger: &mut Ledger, job: &Job) -> Result<(), Fail> {
+    let planned = planned(alloc, ledger, job).ok().ok_or("a plan")?;
+    ledger
+        .commit(&mut NoHooks {}, planned)
+        .ok()
+        .ok_or("a commit")?;
     Ok(())
 }
 
@@ -50,39 +54,57 @@ fn drop_of_snapshot(alloc: Global, repo: &Repo) -> Result<Change, Fail> {
     Ok(change)
 }
 
-/// A book whose one backup was made, and its snapshot dropped.
-fn begun(alloc: Global) -> Result<Book, Fail> {
-    let mut book = Book::new(alloc, Repo::new(alloc));
-    commit(alloc, &mut book, &backup_at(alloc, "2024-01-01T10:00:00Z")?)?;
-    let change = drop_of_snapshot(alloc, book.live())?;
-    let seen = book.history().length();
-    book.commit(Planned { change, seen }).ok().ok_or("a drop")?;
-    Ok(book)
+/// A ledger whose one backup was made, and its snapshot dropped.
+fn begun(alloc: Global) -> Result<Ledger, Fail> {
+    let mut ledger = Ledger::new(alloc, Repo::new(alloc));
+    commit(
+        alloc,
+        &mut ledger,
+        &backup_at(alloc, "2024-01-01T10:00:00Z")?,
+    )?;
+    let change = drop_of_snapshot(alloc, ledger.live())?;
+    let seen = ledger.history().length();
+    ledger
+        .commit(&mut NoHooks {}, Planned { change, seen })
+        .ok()
+        .ok_or("a drop")?;
+    Ok(ledger)
 }
 
 #[test]
 fn a_mark_is_stale_after_any_event(rt: HostRuntime) -> Result<(), Fail> {
     let alloc = rt.alloc();
-    let mut book = begun(alloc)?;
-    let mark = planned(alloc, &book, &Job::Mark).ok().ok_or("a mark")?;
-    commit(alloc, &mut book, &backup_at(alloc, "2024-01-01T11:00:00Z")?)?;
-    assert_eq!(rt; book.commit(mark), Err(Refusal::Stale(3)));
+    let mut ledger = begun(alloc)?;
+    let mark = planned(alloc, &ledger, &Job::Mark).ok().ok_or("a mark")?;
+    commit(
+        alloc,
+        &mut ledger,
+        &backup_at(alloc, "2024-01-01T11:00:00Z")?,
+    )?;
+    assert_eq!(rt;
+        ledger.commit(&mut NoHooks {}, mark),
+        Err(Refusal::Stale(3))
+    );
     Ok(())
 }
 
 #[test]
 fn a_sweep_is_unmet_after_a_rescue(rt: HostRuntime) -> Result<(), Fail> {
     let alloc = rt.alloc();
-    let mut book = begun(alloc)?;
-    commit(alloc, &mut book, &Job::Mark)?;
-    let sweep = planned(alloc, &book, &Job::Sweep(None))
+    let mut ledger = begun(alloc)?;
+    commit(alloc, &mut ledger, &Job::Mark)?;
+    let sweep = planned(alloc, &ledger, &Job::Sweep(None))
         .ok()
         .ok_or("a sweep")?;
-    commit(alloc, &mut book, &backup_at(alloc, "2024-01-01T11:00:00Z")?)?;
+    commit(
+        alloc,
+        &mut ledger,
+        &backup_at(alloc, "2024-01-01T11:00:00Z")?,
+    )?;
     assert_eq!(rt;
-        book.commit(sweep),
+        ledger.commit(&mut NoHooks {}, sweep),
         Err(Refusal::Unmet(Facet::Mark(LESSER)))
     );
-    assert_eq!(rt; book.live().mark_count(), 0);
+    assert_eq!(rt; ledger.live().mark_count(), 0);
     Ok(())
 }

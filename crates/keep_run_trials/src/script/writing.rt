@@ -13,7 +13,7 @@ fn lines_are_written_one_by_one(rt: HostRuntime) {
         alloc,
         &mut LISTING.as_bytes(),
         &mut writer,
-        &nothing_stored(alloc),
+        &mut nothing_stored(alloc),
         CUT,
         NOW,
     );
@@ -33,7 +33,7 @@ fn listings_may_break_off(rt: HostRuntime) {
             alloc,
             &mut LISTING.as_bytes(),
             &mut writer,
-            &nothing_stored(alloc),
+            &mut nothing_stored(alloc),
             CUT,
             NOW,
         );
@@ -68,7 +68,7 @@ fn each_answer_is_handed_on_before_the_next_read(rt: HostRuntime) {
             alloc,
             &mut reader,
             &mut writer,
-            &nothing_stored(alloc),
+            &mut nothing_stored(alloc),
             CUT,
             NOW,
         );

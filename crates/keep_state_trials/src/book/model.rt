@@ -1,6 +1,7 @@
 use super::{only, planned};
-use keep_book::{Book, Refusal, Told};
+use keep_book::{Ledger, Refusal, Told};
 use keep_change::{Change, Planned, StoredFile};
+use keep_hooks::NoHooks;
 use keep_names::{FileName, Kind, id_of};
 use keep_repo::{Facet, Repo};
 use std::alloc::{AllocError, Global};
@@ -157,7 +158,7 @@ impl Model {
     }
 }
 
-/// The step as a change of the book.
+/// The step as a change of the ledger.
 fn change_of(alloc: Global, step: Step) -> Result<Planned, AllocError> {
     let file = StoredFile::of(alloc, Kind::Index, vec![in alloc; step.letter]?)?;
     let file = only(alloc, file)?;
@@ -200,23 +201,30 @@ fn step_of(draw: u64) -> Step {
 /// downward.
 fn ask(
     alloc: Global,
-    book: &mut Book,
+    ledger: &mut Ledger,
     model: &mut Model,
     draw: u64,
 ) -> Result<(Reply, Reply), AllocError> {
     let above = model.steps.len() as u64 + 1;
     let n = above.saturating_sub(draw / 16 % 9);
+    let mut none = NoHooks {};
     Ok(match draw % 16 {
         0..=6 => {
             let step = step_of(draw / 16);
-            let reply = book.commit(change_of(alloc, step)?);
+            let reply = ledger.commit(&mut none, change_of(alloc, step)?);
             (reply, model.commit(alloc, step)?)
         }
-        7..=10 => (book.undo(n), model.turn(alloc, n as usize, false)?),
-        11..=14 => (book.redo(n), model.turn(alloc, n as usize, true)?),
+        7..=10 => (
+            ledger.undo(&mut none, n),
+            model.turn(alloc, n as usize, false)?,
+        ),
+        11..=14 => (
+            ledger.redo(&mut none, n),
+            model.turn(alloc, n as usize, true)?,
+        ),
         _ => {
             let n = n.saturating_sub(12);
-            (book.empty(n), model.empty(n as usize))
+            (ledger.empty(&mut none, n), model.empty(n as usize))
         }
     })
 }
@@ -225,7 +233,7 @@ fn ask(
 #[test]
 fn replies_and_files_are_those_of_the_fold(rt: HostRuntime) -> Result<(), Fail> {
     let alloc = rt.alloc();
-    let mut book = Book::new(alloc, Repo::new(alloc));
+    let mut ledger = Ledger::new(alloc, Repo::new(alloc));
     let steps = Vec::new(alloc);
     let mut model = Model {
         steps,
@@ -237,10 +245,10 @@ fn replies_and_files_are_those_of_the_fold(rt: HostRuntime) -> Result<(), Fail> 
         seed = seed
             .wrapping_mul(6_364_136_223_846_793_005)
             .wrapping_add(1_442_695_040_888_963_407);
-        let (reply, wanted) = ask(alloc, &mut book, &mut model, seed >> 33)?;
+        let (reply, wanted) = ask(alloc, &mut ledger, &mut model, seed >> 33)?;
         assert_eq!(rt; reply, wanted);
         let files = model.fold(alloc)?;
-        assert!(rt; matches!(&files, Ok(files) if is_same(book.live(), files)));
+        assert!(rt; matches!(&files, Ok(files) if is_same(ledger.live(), files)));
     }
     assert!(rt; model.steps.len() > 20 && model.last_final > 0);
     Ok(())

@@ -1,6 +1,7 @@
 use super::{only, planned};
-use keep_book::Book;
+use keep_book::Ledger;
 use keep_change::{Change, Planned, StoredFile};
+use keep_hooks::NoHooks;
 use keep_names::{Id, Kind, id_of};
 use keep_repo::Repo;
 use std::alloc::{AllocError, Global};
@@ -25,8 +26,8 @@ fn removal(alloc: Global) -> Result<Planned, AllocError> {
 
 /// How many snapshots the view knows, whether that one is among them, how many files are there, and
 /// the number of the last event.
-fn seen(alloc: Global, book: &Book) -> Result<(usize, bool, usize, u64), AllocError> {
-    let view = book.view();
+fn seen(alloc: Global, ledger: &Ledger) -> Result<(usize, bool, usize, u64), AllocError> {
+    let view = ledger.view();
     let known = view.known(alloc)?;
     let id: Id = id_of(b"a");
     Ok((
@@ -40,20 +41,21 @@ fn seen(alloc: Global, book: &Book) -> Result<(usize, bool, usize, u64), AllocEr
 #[test]
 fn a_snapshot_is_known_until_all_that_tells_of_it_is_final(rt: HostRuntime) -> Result<(), Fail> {
     let alloc = rt.alloc();
-    let mut book = Book::new(alloc, Repo::new(alloc));
-    assert_eq!(rt; seen(alloc, &book)?, (0, false, 0, 0));
-    assert!(rt; book.commit(addition(alloc)?).is_ok());
-    assert_eq!(rt; seen(alloc, &book)?, (1, true, 1, 1));
-    assert!(rt; book.undo(1).is_ok());
-    assert_eq!(rt; seen(alloc, &book)?, (1, true, 0, 2));
-    assert!(rt; book.redo(1).is_ok());
-    assert!(rt; book.empty(1).is_ok());
-    assert!(rt; book.commit(removal(alloc)?).is_ok());
-    assert_eq!(rt; seen(alloc, &book)?, (1, true, 0, 5));
-    assert!(rt; book.undo(2).is_ok());
-    assert_eq!(rt; seen(alloc, &book)?, (1, true, 1, 6));
-    assert!(rt; book.redo(2).is_ok());
-    assert!(rt; book.empty(2).is_ok());
-    assert_eq!(rt; seen(alloc, &book)?, (0, false, 0, 8));
+    let mut ledger = Ledger::new(alloc, Repo::new(alloc));
+    let mut none = NoHooks {};
+    assert_eq!(rt; seen(alloc, &ledger)?, (0, false, 0, 0));
+    assert!(rt; ledger.commit(&mut none, addition(alloc)?).is_ok());
+    assert_eq!(rt; seen(alloc, &ledger)?, (1, true, 1, 1));
+    assert!(rt; ledger.undo(&mut none, 1).is_ok());
+    assert_eq!(rt; seen(alloc, &ledger)?, (1, true, 0, 2));
+    assert!(rt; ledger.redo(&mut none, 1).is_ok());
+    assert!(rt; ledger.empty(&mut none, 1).is_ok());
+    assert!(rt; ledger.commit(&mut none, removal(alloc)?).is_ok());
+    assert_eq!(rt; seen(alloc, &ledger)?, (1, true, 0, 5));
+    assert!(rt; ledger.undo(&mut none, 2).is_ok());
+    assert_eq!(rt; seen(alloc, &ledger)?, (1, true, 1, 6));
+    assert!(rt; ledger.redo(&mut none, 2).is_ok());
+    assert!(rt; ledger.empty(&mut none, 2).is_ok());
+    assert_eq!(rt; seen(alloc, &ledger)?, (0, false, 0, 8));
     Ok(())
 }

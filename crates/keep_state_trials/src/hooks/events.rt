@@ -1,9 +1,10 @@
 ghost use Rattle.std.specs.Prelude.{◌≡◌, IfOk};
 ghost use Rattle.keep_hooks.specs.Written.{name_count};
 
+use keep_book::Hooks;
 use keep_change::{Listed, Outline, What};
 use keep_hooks::{
-    AskOutline, CountOutline, Guard, Hooks, Limit, Measure, NoHooks, Veto, Watch, files_written,
+    AskOutline, CountOutline, Guard, HookName, Limit, Measure, NoHooks, Veto, Watch, files_written,
     first_veto, makes_change, snapshots_dropped,
 };
 use keep_names::{FileName, id_of};
@@ -78,8 +79,9 @@ fn hooks_are_asked_and_told(rt: HostRuntime) -> Result<(), Fail> {
         watches: vec![in alloc; watch]?,
     };
     let emptying = Outline::of_empty(alloc, 1);
-    assert_eq!(rt; hooks.first(&emptying), Some(0));
-    assert_eq!(rt; NoHooks {}.first(&emptying), None);
+    let refusing = HookName::new(String::from_str(alloc, "nothing is emptied")?);
+    assert_eq!(rt; hooks.first(&emptying)?, Some(refusing));
+    assert_eq!(rt; NoHooks {}.first(&emptying)?, None);
     hooks.tell(&emptying);
     assert!(rt; hooks.watches.iter().all(|watch| watch.total == 1));
     Ok(())

@@ -1,13 +1,10 @@
 -- Each later change that is kept is taken back in turn, the last first.
-use Rattle.std.proofs.Common.{◌≡◌, ◌-◌, ◌+◌, ap, sym, ◌∙◌, arith, inl, inr, refl}
-use Rattle.std.proofs.lemmas.Bool.{cases_lt}
+use Rattle.std.proofs.Common.{◌-◌, ◌+◌, ap, sym, ◌∙◌, arith}
 use Rattle.std.specs.FinMap as finite
 use Rattle.std.specs.Prelude.{map}
 use Rattle.keep_change.specs.Marks.{pack_mark}
 use Rattle.keep_change.specs.Result.{put_marks, take_marks}
 use Rattle.keep_repo.specs.Repository.{Repository}
-use Rattle.keep_journal.specs.Kept.{later}
-use Rattle.keep_journal.specs.Opening.{unfold_of}
 use Rattle.keep_book.proofs.Marking.{same_end, unfold_none, unfold_with, unfold_without}
 use Rattle.keep_book.proofs.opening_marks.marks_under.Goals as goal
 use Rattle.keep_book.proofs.opening_marks.marks_under.Goals.{in-Some+in_ok-unapply_marks, in_default}

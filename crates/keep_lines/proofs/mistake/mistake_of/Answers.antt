@@ -8,7 +8,7 @@ use Rattle.keep_lines.specs.Mistake.{AsksBackup, AsksForget, AsksName, AsksNumbe
 use Rattle.keep_lines.specs.RewriteLine.{IsRewrite, rewrite_text}
 use Rattle.keep_lines.specs.TagLine.{IsTag, tag_text}
 use Rattle.keep_lines.specs.Word.{IsName, IsNumber, IsTarget, target_text}
-use Rattle.keep_lines.specs.declared.command.Command.TheVariants.{Job, Note, Question, Revision}
+use Rattle.keep_lines.specs.declared.command.Command.TheVariants.{Arm, Job, Note, Question, Revision}
 use Rattle.keep_lines.specs.declared.question.Question.TheVariants.{Restore, Same}
 use Rattle.keep_lines.specs.declared.revision.Revision.TheVariants.{Empty, Redo, Undo}
 use Rattle.keep_lines.proofs.mistake.mistake_of.Goals as goal
@@ -53,7 +53,14 @@ returns-in-note-2 c =
     let text = c.args.text.now in
     let cut = cut_first text c.split_once.result _ c.split_once.ensures.cases c.in-Some.is in
     let split : text ≡ codes "same" ++ 32 ∷ c.in-Some.rest.now = cut ∙ ap (λ (v : List ℕ). v ++ 32 ∷ c.in-Some.rest.now) c.in-note.is-same in
-    ends_in_no AsksName IsName (λ name. name) (λ name. Question (Same (record { ref_ptr = (0, 0); now = name }))) (codes "same") text c.in-Some.rest.now (inr refl) c.requires split (λ value is. is) (λ value. refl)
+    ends_in_no AsksName IsName (λ name. name) (λ name. Question (Same (record { ref_ptr = (0, 0); now = name }))) (codes "same") text c.in-Some.rest.now (inr (inl refl)) c.requires split (λ value is. is) (λ value. refl)
+
+pub returns-in-note-3 : goal.returns-in-note-3
+returns-in-note-3 c =
+    let text = c.args.text.now in
+    let cut = cut_first text c.split_once.result _ c.split_once.ensures.cases c.in-Some.is in
+    let split : text ≡ codes "arm" ++ 32 ∷ c.in-Some.rest.now = cut ∙ ap (λ (v : List ℕ). v ++ 32 ∷ c.in-Some.rest.now) c.in-note.is-arm in
+    ends_in_no AsksName IsName (λ name. name) (λ name. Arm (record { ref_ptr = (0, 0); now = name })) (codes "arm") text c.in-Some.rest.now (inr (inr refl)) c.requires split (λ value is. is) (λ value. refl)
 
 pub returns-in-restore : goal.returns-in-restore
 returns-in-restore c =

@@ -9,16 +9,20 @@ use Rattle.keep_main.specs.declared.options.BadOptions.TheVariants.{Refused}
 use Rattle.keep_main.proofs.OptionLemmas.{ends-there, goes-on}
 use Rattle.keep_main.proofs.options.options_in.Goals as goal
 
-abbrev with_both : List Row → ℕ → ℤ → Option OptionsData
-with_both rows cut now = Some (record {
+abbrev with_drops : List Row → ℕ → ℤ → ℕ → Option OptionsData
+with_drops rows cut now drops = Some (record {
   cut = cut;
   now = now;
   host = unwrap_or (first_of (codes "host") rows) (codes "web");
   tagged = unwrap_or (first_of (codes "tagged") rows) (codes "keep");
+  drops = drops;
 })
 
+abbrev with_now : List Row → ℕ → ℤ → Option OptionsData
+with_now rows cut now = option_and_then (with_drops rows cut now) (number_or 0 1048576 0 (first_of (codes "drops") rows))
+
 abbrev with_cut : List Row → ℕ → Option OptionsData
-with_cut rows cut = option_and_then (with_both rows cut) (moment_or_first (first_of (codes "now") rows))
+with_cut rows cut = option_and_then (with_now rows cut) (moment_or_first (first_of (codes "now") rows))
 
 abbrev cut_of : Option (List ℕ) → Option ℕ
 cut_of word = number_or 1 8388608 1048576 word
@@ -28,6 +32,12 @@ cut_in word = ok_or (cut_of word) Refused
 
 abbrev moment_read : Option (List ℕ) → Result ℤ BadOptions
 moment_read word = ok_or (moment_or_first word) Refused
+
+abbrev drops_of : Option (List ℕ) → Option ℕ
+drops_of word = number_or 0 1048576 0 word
+
+abbrev drops_in : Option (List ℕ) → Result ℕ BadOptions
+drops_in word = ok_or (drops_of word) Refused
 
 pub returns-in_err-cut-clause-said : goal.returns-in_err-cut-clause-said
 returns-in_err-cut-clause-said c =
@@ -44,8 +54,19 @@ returns-in_err-now-clause-said c =
     let read = c.in_ok-cut.ensures ∙ ap cut_in word in
     let given = goes-on (cut_of (first_of (codes "cut") rows)) (with_cut rows) c.in_ok-cut.cut read in
     let then = c.get_str-2.ensures ∙ first_value-rows (found_of c.args.matches.now) (codes "now") in
-    rw given (ends-there (moment_or_first (first_of (codes "now") rows)) (with_both rows c.in_ok-cut.cut) c.in_err-now.field-0.0
+    rw given (ends-there (moment_or_first (first_of (codes "now") rows)) (with_now rows c.in_ok-cut.cut) c.in_err-now.field-0.0
     c.from_residual-in_err-now.result (c.in_err-now.ensures ∙ ap moment_read then) c.from_residual-in_err-now.ensures.1)
+
+pub returns-in_err-drops-clause-said : goal.returns-in_err-drops-clause-said
+returns-in_err-drops-clause-said c =
+    let rows = rows_of (found_of c.args.matches.now) in
+    let word = c.get_str.ensures ∙ first_value-rows (found_of c.args.matches.now) (codes "cut") in
+    let given = goes-on (cut_of (first_of (codes "cut") rows)) (with_cut rows) c.in_ok-cut.cut (c.in_ok-cut.ensures ∙ ap cut_in word) in
+    let then = c.get_str-2.ensures ∙ first_value-rows (found_of c.args.matches.now) (codes "now") in
+    let moment = goes-on (moment_or_first (first_of (codes "now") rows)) (with_now rows c.in_ok-cut.cut) c.in_ok-now.now (c.in_ok-now.ensures ∙ ap moment_read then) in
+    let last = c.get_str-3.ensures ∙ first_value-rows (found_of c.args.matches.now) (codes "drops") in
+    rw (given ∙ moment) (ends-there (drops_of (first_of (codes "drops") rows)) (with_drops rows c.in_ok-cut.cut c.in_ok-now.now) c.in_err-drops.field-0.0
+    c.from_residual-in_err-drops.result (c.in_err-drops.ensures ∙ ap drops_in last) c.from_residual-in_err-drops.ensures.1)
 
 -- a text option is what the matches give, or what is usual
 text_or : (found : Option (Bor (List ℕ))) (usual read : Bor (List ℕ)) (given : Option (List ℕ)) → option_map (λ text. text.now) found ≡ given → read ≡ unwrap_or found usual → read.now ≡ unwrap_or given usual.now
@@ -56,13 +77,14 @@ pub returns-clause-said : goal.returns-clause-said
 returns-clause-said c =
     let rows = rows_of (found_of c.args.matches.now) in
     let word = c.get_str.ensures ∙ first_value-rows (found_of c.args.matches.now) (codes "cut") in
-    let read = c.in_ok-cut.ensures ∙ ap cut_in word in
-    let given = goes-on (cut_of (first_of (codes "cut") rows)) (with_cut rows) c.in_ok-cut.cut read in
+    let given = goes-on (cut_of (first_of (codes "cut") rows)) (with_cut rows) c.in_ok-cut.cut (c.in_ok-cut.ensures ∙ ap cut_in word) in
     let then = c.get_str-2.ensures ∙ first_value-rows (found_of c.args.matches.now) (codes "now") in
-    let moment = goes-on (moment_or_first (first_of (codes "now") rows)) (with_both rows c.in_ok-cut.cut) c.in_ok-now.now (c.in_ok-now.ensures ∙ ap moment_read then) in
-    let host = text_or c.get_str-3.result _ c.unwrap_or-host.result (first_of (codes "host") rows) (c.get_str-3.ensures ∙ first_value-rows (found_of c.args.matches.now) (codes "host")) c.unwrap_or-host.ensures in
-    let tagged = text_or c.get_str-4.result _ c.unwrap_or-tagged.result (first_of (codes "tagged") rows) (c.get_str-4.ensures ∙ first_value-rows (found_of c.args.matches.now) (codes "tagged")) c.unwrap_or-tagged.ensures in
+    let moment = goes-on (moment_or_first (first_of (codes "now") rows)) (with_now rows c.in_ok-cut.cut) c.in_ok-now.now (c.in_ok-now.ensures ∙ ap moment_read then) in
+    let last = c.get_str-3.ensures ∙ first_value-rows (found_of c.args.matches.now) (codes "drops") in
+    let drops = goes-on (drops_of (first_of (codes "drops") rows)) (with_drops rows c.in_ok-cut.cut c.in_ok-now.now) c.in_ok-drops.drops (c.in_ok-drops.ensures ∙ ap drops_in last) in
+    let host = text_or c.get_str-4.result _ c.unwrap_or-host.result (first_of (codes "host") rows) (c.get_str-4.ensures ∙ first_value-rows (found_of c.args.matches.now) (codes "host")) c.unwrap_or-host.ensures in
+    let tagged = text_or c.get_str-5.result _ c.unwrap_or-tagged.result (first_of (codes "tagged") rows) (c.get_str-5.ensures ∙ first_value-rows (found_of c.args.matches.now) (codes "tagged")) c.unwrap_or-tagged.ensures in
     let kept : to_z w64 (of_z w64 c.in_ok-now.now) ≡ c.in_ok-now.now = search rules in
-    let texts = ap₂ (λ (h t : List ℕ). Some (record { cut = c.in_ok-cut.cut; now = c.in_ok-now.now; host = h; tagged = t })) (sym host) (sym tagged) in
-    given ∙ moment ∙ texts
-    ∙ ap (λ (now : ℤ). Some (record { cut = c.in_ok-cut.cut; now = now; host = c.unwrap_or-host.result.now; tagged = c.unwrap_or-tagged.result.now })) (sym kept)
+    let texts = ap₂ (λ (h t : List ℕ). Some (record { cut = c.in_ok-cut.cut; now = c.in_ok-now.now; host = h; tagged = t; drops = c.in_ok-drops.drops })) (sym host) (sym tagged) in
+    given ∙ moment ∙ drops ∙ texts
+    ∙ ap (λ (now : ℤ). Some (record { cut = c.in_ok-cut.cut; now = now; host = c.unwrap_or-host.result.now; tagged = c.unwrap_or-tagged.result.now; drops = c.in_ok-drops.drops })) (sym kept)

@@ -1,5 +1,6 @@
 use Rattle.std.proofs.Common.{refl, sym, ap, ◌∙◌}
 use Rattle.std.specs.Option.{option_copied}
+use Rattle.keep_book.specs.BookState.{BookState}
 use Rattle.keep_lines.specs.declared.command.Command.TheVariants as the_command
 use Rattle.keep_script.proofs.AnswerLemmas.{AnswersCommand-puts}
 use Rattle.keep_script.proofs.RestoreLemmas.{Restored-tells}
@@ -7,8 +8,8 @@ use Rattle.keep_script.specs.State.{state_of}
 use Rattle.keep_script.proofs.session.Session.tell.Goals as goal
 
 pub returns-in_ok-noted-in-Same-clause-answers : goal.returns-in_ok-noted-in-Same-clause-answers
-returns-in_ok-noted-in-Same-clause-answers g c = λ filters.
-    let state = state_of filters c.args.self.now c.args.book.now in
+returns-in_ok-noted-in-Same-clause-answers g c = λ kit.
+    let state = state_of kit c.args.self.now c.args.book.now in
     let same = rw c.live-in-Same.ensures at c.same_as-same.ensures in
     AnswersCommand-puts _ _ state state (the_command.Question c.args.question) _ _ c.put_line.ensures.puts (rw c.in-Same.is (
       (
@@ -22,12 +23,12 @@ returns-in_ok-noted-in-Same-clause-answers g c = λ filters.
     ))
 
 pub returns-in_ok-name-in-Restore-clause-answers : goal.returns-in_ok-name-in-Restore-clause-answers
-returns-in_ok-name-in-Restore-clause-answers g c = λ filters.
-    let state = state_of filters c.args.self.now c.args.book.now in
-    let after = state_of filters c.args.self.now c.refresh.new.self in
+returns-in_ok-name-in-Restore-clause-answers g c = λ kit.
+    let state = state_of kit c.args.self.now c.args.book.now in
+    let after = state_of kit c.args.self.now (record c.args.book.now { ledger = c.refresh.new.self }) in
     let meant = rw c.history-in-Restore.ensures.events at c.find-found.ensures in
     let told = rw (c.view.ensures, c.refresh.ensures) at c.restore.ensures.restored in
     AnswersCommand-puts _ _ state after (the_command.Question c.args.question) _ _ c.write_restore.ensures.puts (rw c.in-Restore.is (
       Restored-tells state c.in-Restore.target c.in_ok-name-in-Restore.name c.restore.result (sym meant ∙ c.in_ok-name-in-Restore.ensures.ok_part) told,
-      ap (state_of filters c.args.self.now) c.refresh.ensures,
+      ap (λ (ledger : BookState). record state { book = ledger }) c.refresh.ensures,
     ))

@@ -1,0 +1,15 @@
+use Rattle.std.proofs.Common.{◌∙◌, Some, ap, sym}
+use Rattle.std.proofs.lemmas.Option.{slice_get-get_or}
+use Rattle.keep_book.specs.Armed.{rules_in}
+use Rattle.keep_hooks.specs.Rules.{rule_of}
+use Rattle.keep_script.proofs.ArmingLemmas.{moved}
+use Rattle.keep_script.proofs.arming.arm_veto.Goals as goal
+
+pub returns-in_default-clause-moves : goal.returns-in_default-clause-moves
+returns-in_default-clause-moves g c =
+    let place = c.in_ok-place.place in
+    let found = rw c.as_slice.ensures.value at c.in_ok-place.ensures.place in
+    let within = rw c.as_slice.ensures.value at c.in_ok-place.ensures.within in
+    let there = slice_get-get_or c.args.vetoes.now.items place c.remove-veto.result within ∙ ap Some (sym c.remove-veto.ensures.value) in
+    let behind = rw c.in_default.is at c.add_veto.ensures.armed in
+    rw (← found) (moved rule_of (λ rule. rule) c.args.vetoes.now.items c.remove-veto.new.self.items (rules_in c.args.book.now) (rules_in c.add_veto.new.self) place c.remove-veto.result there c.remove-veto.ensures.items behind)

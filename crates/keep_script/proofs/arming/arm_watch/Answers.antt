@@ -1,0 +1,15 @@
+use Rattle.std.proofs.Common.{◌∙◌, Some, ap, sym}
+use Rattle.std.proofs.lemmas.Option.{slice_get-get_or}
+use Rattle.keep_book.specs.Armed.{tallies_in, untold}
+use Rattle.keep_hooks.specs.Rules.{tally_of}
+use Rattle.keep_script.proofs.ArmingLemmas.{moved}
+use Rattle.keep_script.proofs.arming.arm_watch.Goals as goal
+
+pub returns-in_default-clause-moves : goal.returns-in_default-clause-moves
+returns-in_default-clause-moves g c =
+    let place = c.in_ok-place.place in
+    let found = rw c.as_slice.ensures.value at c.in_ok-place.ensures.place in
+    let within = rw c.as_slice.ensures.value at c.in_ok-place.ensures.within in
+    let there = slice_get-get_or c.args.watches.now.items place c.remove-watch.result within ∙ ap Some (sym c.remove-watch.ensures.value) in
+    let behind = rw c.in_default.is at c.add_watch.ensures.armed in
+    rw (← found) (moved tally_of untold c.args.watches.now.items c.remove-watch.new.self.items (tallies_in c.args.book.now) (tallies_in c.add_watch.new.self) place c.remove-watch.result there c.remove-watch.ensures.items behind)
