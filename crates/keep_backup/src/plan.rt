@@ -23,7 +23,8 @@ use keep_snap::parse_time;
 use keep_view::View;
 use std::alloc::{AllocError, Global};
 
-/// The change that backs up these files, given by the texts of their absolute paths and their bytes. What the repository has is reused.
+/// The change that backs up these files, given by the texts of their absolute paths and their bytes. What the repository
+/// has is reused.
 ///
 /// The refusals in their order: `BadPath`, `SamePathTwice`, `BadTime`, `Unread`, `TooDeep`, `Full`,
 /// `SnapshotThere`.

@@ -5,6 +5,7 @@ pub mod Redoing
 pub mod Replying
 pub mod Restoring
 pub mod Steps
+pub mod Sums
 pub mod Totals
 pub mod Undoing
 pub mod Walking

@@ -25,7 +25,8 @@ IsCounted book = AreCounted book.ledger.events (tallies_in book)
 -- one of the vetoes or watches has the name
 abbrev pub is_armed : List ℕ → List Rule → List Tally → Bool
 is_armed name rules tallies =
-    list_any (λ (rule : Rule). bytes_eq rule.name name) rules || list_any (λ (tally : Tally). bytes_eq tally.name name) tallies
+    list_any (λ (rule : Rule). bytes_eq rule.name name) rules
+    || list_any (λ (tally : Tally). bytes_eq tally.name name) tallies
 
 -- the veto or the watch that is handed back
 abbrev pub hook_of : {H : Type 0} → NotArmed H → H

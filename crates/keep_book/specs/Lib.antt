@@ -7,3 +7,4 @@ pub mod Limits
 pub mod Refusal
 pub mod Reply
 pub mod Request
+pub mod Sums

@@ -1,7 +1,7 @@
 ghost use Rattle.std.specs.Prelude.{◌≡◌, ◌++◌, ◌<◌, ◌∷◌, IfErr, IfOk, IsSome, IsTrue, OnOk, [], false, string_bytes};
 ghost use Rattle.std.specs.List.{list_any};
 ghost use Rattle.std.specs.Str.{bytes_eq};
-ghost use Rattle.keep_hooks.specs.Rules.{rule_of, tally_of};
+ghost use Rattle.keep_hooks.specs.Rules.{rule_of, tallies_of, tally_of};
 ghost use Rattle.keep_book.specs.Armed.{IsCounted, hook_of, is_armed, is_double, rules_in, tallies_in, untold};
 ghost use Rattle.keep_journal.specs.History.{change_of, length_of};
 ghost use Rattle.keep_journal.specs.Kept.{is_kept};
@@ -130,6 +130,13 @@ impl Book<Hooks> {
             Ok(()) => Ok(()),
             Err(failed) => Err(NotArmed::Memory(failed.value)),
         }
+    }
+
+    /// The watches, each with its total, in the order in which they were armed.
+    pub fn totals(&self) -> &[Watch]
+        ensures { tallies_of result.now ≡ tallies_in self.now }
+    {
+        self.hooks.watches.as_slice()
     }
 
     /// Makes a change, unless a veto refuses it, and tells the watches: `Ledger::commit`.

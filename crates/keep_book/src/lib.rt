@@ -6,6 +6,7 @@ mod checks;
 mod dependents;
 mod guarding;
 mod hooks;
+mod laws;
 mod ledger;
 mod making;
 mod opening_marks;
@@ -14,5 +15,6 @@ mod reply;
 
 pub use book::{Book, NotArmed};
 pub use hooks::Hooks;
+pub use laws::totals_are_sums;
 pub use ledger::Ledger;
 pub use reply::{Refusal, Told};

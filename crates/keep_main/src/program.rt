@@ -29,12 +29,14 @@ pub(crate) fn keepd<'a, R: Read, W: Write>(
 ) -> Ending<'a>
     ensures refused { let given = map (λ word. word.now) words.entry.now in options_of given ≡ None
         → (NamesBadWord given result ⊎ (result ≡ Ending.Ran Status.NoMemory))
-        × IsUntouched (R.remaining reader.old) (R.remaining reader.new) (W.contents writer.old) (W.contents writer.new) }
+        × IsUntouched (R.remaining reader.old) (R.remaining reader.new) (W.contents writer.old)
+        (W.contents writer.new) }
     ensures answers { IfSome (options_of (map (λ word. word.now) words.entry.now)) (λ options.
         (status : Status) × (result ≡ Ending.Ran status)
         × (Runs options (R.remaining reader.old) (R.remaining reader.new) (W.contents writer.old)
         (W.contents writer.new) status ⊎ ((status ≡ Status.NoMemory)
-        × IsUntouched (R.remaining reader.old) (R.remaining reader.new) (W.contents writer.old) (W.contents writer.new)))) }
+        × IsUntouched (R.remaining reader.old) (R.remaining reader.new) (W.contents writer.old)
+        (W.contents writer.new)))) }
     ensures whole { result ≢ Ending.Ran Status.WriteFailed →
         WritesLines (W.contents writer.old) (W.contents writer.new) }
     ensures past_limit { result ≡ Ending.Ran Status.ScriptTooLong →

@@ -54,7 +54,8 @@ AreFinished r patterns levels rests tree trees =
 
 -- What is remembered of a tree is right, wherever the tree stands and however many levels there are, if it isn't
 -- refused there.
-pub record IsKnown (r : Repository) (patterns : List PatternData) (walked : Walked) (asked : Asked) (left : Left) : Type 0 where
+pub record IsKnown (r : Repository) (patterns : List PatternData) (walked : Walked) (asked : Asked) (left : Left)
+    : Type 0 where
   pub left_so : (levels : ℕ) → refusal_at (named_by r) levels (tree_at asked.0) ≡ None
       → IsLeft r patterns levels asked.1 asked.0 left
   pub trees_so : (levels : ℕ) → refusal_at (named_by r) levels (tree_at asked.0) ≡ None

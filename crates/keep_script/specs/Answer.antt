@@ -75,7 +75,8 @@ Committed state change text after =
 abbrev pub CommittedOrRefused : State → Result Change JobError → List ℕ → State → Type 0
 CommittedOrRefused state (Ok change) text after = Committed state change text after
 CommittedOrRefused state (Err job_error.NoFilter) text after = ⊥
-CommittedOrRefused state (Err (job_error.Refused refusal)) text after = Shows state (unplanned_answer refusal) text after
+CommittedOrRefused state (Err (job_error.Refused refusal)) text after =
+    Shows state (unplanned_answer refusal) text after
 
 -- what a question is answered
 abbrev pub Tells : State → the_question.Question → List ℕ → Type 0

@@ -11,8 +11,8 @@ use Rattle.keep_book.specs.declared.reply.Told.{Told}
 
 -- the book replies by its value and its vetoes; an accepted request adds its event, of which the watches are told, and
 -- nothing else changes
-pub record AsksBook {I F g J E h : _} (before : Book (Hooks I F g J E h)) (request : Request) (reply : Result Told Refusal)
-    (after : Book (Hooks I F g J E h)) : Type 0 where
+pub record AsksBook {I F g J E h : _} (before : Book (Hooks I F g J E h)) (request : Request)
+    (reply : Result Told Refusal) (after : Book (Hooks I F g J E h)) : Type 0 where
   pub replies : Replies before.ledger (rules_in before) request reply
   pub ledger : after.ledger ≡ state_after before.ledger request reply
   pub rules : rules_in after ≡ rules_in before

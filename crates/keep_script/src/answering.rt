@@ -171,7 +171,7 @@ impl Session {
                 book.ledger.refresh();
                 write_restore(alloc, restore(alloc, &book.ledger.view(), name.id), writer)
             }
-            Question::Totals => write_totals(alloc, book.hooks.watches.as_slice(), writer),
+            Question::Totals => write_totals(alloc, book.totals(), writer),
             Question::Audit => {
                 book.ledger.refresh();
                 book.ledger.hash_all();

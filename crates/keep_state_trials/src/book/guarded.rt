@@ -45,8 +45,7 @@ fn vetoed(alloc: Global, name: &str) -> Result<Result<Told, Refusal>, AllocError
 
 /// The totals of the watches, in the order in which they were armed.
 fn totals(alloc: Global, book: &Book<Hooks>) -> Result<Vec<u64>, AllocError> {
-    let watches = book.hooks.watches.iter();
-    watches.map(|watch| watch.total).collect(alloc)
+    book.totals().iter().map(|watch| watch.total).collect(alloc)
 }
 
 #[test]

@@ -1,0 +1,166 @@
+-- Totals are sums over the events since a watch was armed.
+use Rattle.std.proofs.Common.{◌≡◌, ℕ, ◌+◌, ◌≤◌, ◌==◌, nat_lt, Bool, true, false, cond, List, [], ◌∷◌, ◌++◌, length, Option, Some, None, refl, ap, ◌∙◌, arith, length-append}
+use Rattle.std.proofs.lemmas.Bool.{le-ltb, lt-ltb, ne_eqb}
+use Rattle.std.proofs.lemmas.List.{append_assoc}
+use Rattle.std.proofs.lemmas.List.Elements.{filter-append, filter_map-append}
+use Rattle.std.proofs.lemmas.List.Folds.{find-append}
+use Rattle.std.proofs.lemmas.List.Sums.{sum_by-cons, sum_by_push}
+use Rattle.std.specs.List.{AllByRecursion, filter, filter_map, find, fold, sum_by}
+use Rattle.std.specs.Option.{option_map, option_or, unwrap_or}
+use Rattle.keep_change.specs.Fold.{Numbered}
+use Rattle.keep_change.specs.Marks.{marks_of}
+use Rattle.keep_change.specs.Outline.{empty_outline, outline_of}
+use Rattle.keep_change.specs.declared.outline.What.{What}
+use Rattle.keep_change.specs.declared.outline.What.TheVariants as what
+use Rattle.keep_hooks.specs.Measures.{measure_of}
+use Rattle.keep_journal.specs.Event.{commit_of, number_of}
+use Rattle.keep_journal.specs.History.{AscendFrom, ComeInTurn, Fits, change_of, committed, last_change, length_of}
+use Rattle.keep_journal.specs.Journal.{Journal, posted}
+use Rattle.keep_journal.specs.declared.event.Entry.{Entry}
+use Rattle.keep_journal.specs.declared.event.Event.{Event}
+use Rattle.keep_journal.specs.declared.event.Event.TheVariants as event
+use Rattle.keep_journal.proofs.Commits.{committed-Commit, committed-Empty, committed-Redo, committed-Undo, last_change-Commit, last_change-Empty, last_change-Redo, last_change-Undo, length_of-push}
+use Rattle.keep_book.specs.BookState.{BookState}
+use Rattle.keep_book.specs.Guarding.{event_outline, outline_at}
+use Rattle.keep_book.specs.Reply.{event_of, opening_after}
+use Rattle.keep_book.specs.Request.{Request, Commit, Undo, Redo, Empty}
+use Rattle.keep_book.specs.Sums.{TotalsBegin, TotalsGrow, outline_in}
+
+-- ---- the numbers that a legal history names
+
+-- the journal, with these entries behind
+abbrev joined : Journal → List Entry → Journal
+joined j es = record { base = j.base; entries = j.entries ++ es }
+
+last_change-joined : (j : Journal) (es : List Entry) → last_change j ≤ last_change (joined j es)
+last_change-joined j es =
+    let parts = ap length (filter_map-append (λ (e : Entry). commit_of e.event) j.entries es) in
+    let both = length-append (committed j) (filter_map (λ (e : Entry). commit_of e.event) es) in
+    omega (arith, parts, both)
+
+-- an event that can come next names a change that there is then
+names_one : (j : Journal) (k : ℕ) (e : Event) → Fits j e → number_of e ≤ last_change (posted j k e)
+names_one j k (event.Commit n c) fits = omega (arith, fits, last_change-Commit j k n c)
+names_one j k (event.Undo n) fits = omega (arith, fits.1, last_change-Undo j k n)
+names_one j k (event.Redo n) fits = omega (arith, fits.1, last_change-Redo j k n)
+names_one j k (event.Empty n marks) fits = omega (arith, fits.1, last_change-Empty j k n marks)
+
+-- so that no event names a change past the last
+all_known : (j : Journal) (es : List Entry) (last : ℕ) → ComeInTurn j es → last_change (joined j es) ≤ last
+    → AllByRecursion (λ e. number_of e.event ≤ last) es
+all_known j [] last turn most = tt
+all_known j (e ∷ es) last turn most =
+    let next = posted j e.at e.event in
+    let rest : last_change (joined next es) ≤ last = rw (append_assoc j.entries (e ∷ []) es) most in (
+      omega (arith, names_one j e.at e.event turn.0.fits, last_change-joined next es, rest),
+      all_known next es last turn.1 rest,
+    )
+
+-- ---- what is found stays
+
+or_none : (o : Option Numbered) → option_or o None ≡ o
+or_none None = refl
+or_none (Some n) = refl
+
+same_found : (j j' : Journal) (n : ℕ) → committed j' ≡ committed j → change_of j' n ≡ change_of j n
+same_found j j' n same = ap (λ ns. option_map (λ (c : Numbered). c.change) (find (λ c. c.number == n) ns)) same
+
+-- the changes so far are found by their numbers as before
+same_change : (b : BookState) (k : ℕ) (request : Request) (n : ℕ) → n ≤ last_change b.events
+    → change_of (posted b.events k (event_of b request)) n ≡ change_of b.events n
+same_change b k (Commit p) n low =
+    let it : Numbered = record { number = last_change b.events + 1; change = p.change } in
+    let more = committed-Commit b.events k (last_change b.events + 1) p.change in
+    let parts = find-append (λ (c : Numbered). c.number == n) (committed b.events) (it ∷ []) in
+    let other : (last_change b.events + 1 == n) ≡ false = ne_eqb (last_change b.events + 1) n (λ e. omega arith) in
+    ap (option_map (λ (c : Numbered). c.change))
+    (ap (find (λ c. c.number == n)) more ∙ parts ∙ rw other (or_none (find (λ c. c.number == n) (committed b.events))))
+same_change b k (Undo m) n low = same_found b.events (posted b.events k (event.Undo m)) n (committed-Undo b.events k m)
+same_change b k (Redo m) n low = same_found b.events (posted b.events k (event.Redo m)) n (committed-Redo b.events k m)
+same_change b k (Empty m) n low =
+    let marks = marks_of (opening_after b (Empty m)) in
+    same_found b.events (posted b.events k (event.Empty m marks)) n (committed-Empty b.events k m marks)
+
+at_same : (j j' : Journal) (kind : What) (n : ℕ) → change_of j' n ≡ change_of j n → outline_at j' kind n ≡ outline_at j kind n
+at_same j j' kind n same = ap (λ c. unwrap_or (option_map (outline_of kind n) c) (empty_outline n)) same
+
+-- so an event shows what it showed
+same_outline : (j j' : Journal) (e : Event) → change_of j' (number_of e) ≡ change_of j (number_of e) → outline_in j' e ≡ outline_in j e
+same_outline j j' (event.Commit n c) same = refl
+same_outline j j' (event.Undo n) same = at_same j j' what.Undo n same
+same_outline j j' (event.Redo n) same = at_same j j' what.Redo n same
+same_outline j j' (event.Empty n marks) same = refl
+
+-- and the event of a request shows what was asked and told of it
+new_outline : (b : BookState) (k : ℕ) (request : Request)
+    → outline_in (posted b.events k (event_of b request)) (event_of b request) ≡ event_outline b.events request
+new_outline b k (Commit p) = refl
+new_outline b k (Undo n) =
+    let j = posted b.events k (event.Undo n) in at_same b.events j what.Undo n (same_found b.events j n (committed-Undo b.events k n))
+new_outline b k (Redo n) =
+    let j = posted b.events k (event.Redo n) in at_same b.events j what.Redo n (same_found b.events j n (committed-Redo b.events k n))
+new_outline b k (Empty n) = refl
+
+-- ---- sums
+
+same_sum : (f g : Entry → ℕ) (p : Entry → Bool) (last : ℕ) (es : List Entry)
+    → ((e : Entry) → number_of e.event ≤ last → f e ≡ g e) → AllByRecursion (λ e. number_of e.event ≤ last) es
+    → sum_by f (filter p es) ≡ sum_by g (filter p es)
+same_sum f g p last [] same low = refl
+same_sum f g p last (e ∷ es) same low =
+    chosen_or_not (p e) (same e low.0) (same_sum f g p last es same low.1)
+  where
+    chosen_or_not : (b : Bool) → f e ≡ g e → sum_by f (filter p es) ≡ sum_by g (filter p es)
+        → sum_by f (cond b (e ∷ filter p es) (filter p es)) ≡ sum_by g (cond b (e ∷ filter p es) (filter p es))
+    chosen_or_not true one rest =
+        let left = sum_by-cons f e (filter p es) in
+        let right = sum_by-cons g e (filter p es) in
+        omega (arith, one, rest, left, right)
+    chosen_or_not false one rest = rest
+
+-- the last number is none below those before it
+last_at : (k : ℕ) (es : List Entry) → AscendFrom k es → k ≤ fold (λ before e. e.at) k es
+last_at k [] rise = omega arith
+last_at k (e ∷ es) rise = omega (arith, rise.0, last_at e.at es rise.1)
+
+-- no event comes after the last
+none_after : (k : ℕ) (es : List Entry) (last : ℕ) → AscendFrom k es → fold (λ before e. e.at) k es ≤ last
+    → filter (λ e. nat_lt last e.at) es ≡ []
+none_after k [] last rise most = refl
+none_after k (e ∷ es) last rise most =
+    let low = last_at e.at es rise.1 in
+    let out : nat_lt last e.at ≡ false = le-ltb last e.at (omega arith) in
+    rw out (none_after e.at es last rise.1 most)
+
+pub totals_begin : TotalsBegin
+totals_begin opening j live tally is = record {
+  so_far = omega arith;
+  total = rw (none_after 0 j.entries (length_of j) is.numbered.events (omega arith)) refl;
+}
+
+pub totals_grow : TotalsGrow
+totals_grow b request since tally is was =
+    let at = length_of b.events + 1 in
+    let e = event_of b request in
+    let j = posted b.events at e in
+    let f : Entry → ℕ = λ x. measure_of tally.measure (outline_in j x.event) in
+    let g : Entry → ℕ = λ x. measure_of tally.measure (outline_in b.events x.event) in
+    let later : Entry → Bool = λ x. nat_lt since x.at in
+    let new : Entry = record { at = at; event = e } in
+    let low = was.so_far in
+    let in_time : nat_lt since at ≡ true = lt-ltb since at (omega arith) in
+    let known = all_known (record { base = b.events.base; entries = [] }) b.events.entries (last_change b.events) is.legal (omega arith) in
+    let before : sum_by f (filter later b.events.entries) ≡ sum_by g (filter later b.events.entries) =
+    same_sum f g later (last_change b.events) b.events.entries
+    (λ x within. ap (measure_of tally.measure) (same_outline b.events j x.event (same_change b at request (number_of x.event) within))) known in
+    let one : filter later (new ∷ []) ≡ new ∷ [] = rw in_time refl in
+    let parts : filter later j.entries ≡ filter later b.events.entries ++ new ∷ [] =
+    filter-append later b.events.entries (new ∷ []) ∙ ap (λ xs. filter later b.events.entries ++ xs) one in
+    let whole : sum_by f (filter later j.entries) ≡ sum_by f (filter later b.events.entries) + f new =
+    ap (sum_by f) parts ∙ sum_by_push f (filter later b.events.entries) new in
+    let told : f new ≡ measure_of tally.measure (event_outline b.events request) = ap (measure_of tally.measure) (new_outline b at request) in
+    let so_long = length_of-push b.events at e in
+    record {
+      so_far = omega (arith, low, so_long);
+      total = omega (arith, was.total, before, whole, told);
+    }
