@@ -7,7 +7,6 @@ pub mod Gathered
 pub mod Growing
 pub mod Halfway
 pub mod Hashes
-pub mod Heights
 pub mod Ids
 pub mod Least
 pub mod Listings
@@ -15,12 +14,8 @@ pub mod Missing
 pub mod Naming
 pub mod Noted
 pub mod Ordered
-pub mod Reached
 pub mod Replaced
 pub mod SnapsKept
 pub mod Slices
-pub mod Sound
 pub mod SpotOrders
 pub mod Spots
-pub mod Used
-pub mod Walking

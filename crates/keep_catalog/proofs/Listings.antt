@@ -25,8 +25,8 @@ use Rattle.keep_catalog.specs.declared.spot.PackedBlob.{PackedBlob}
 use Rattle.keep_catalog.proofs.Growing.{map_taken}
 use Rattle.keep_catalog.proofs.Ids.{id_refl}
 use Rattle.keep_catalog.proofs.Least.{both_true}
+use Rattle.keep_catalog.proofs.Ordered.{same_test}
 use Rattle.keep_catalog.proofs.SpotOrders.{blob_eq_refl, blob_eq_same, listing_exact, listing_total, packed_blob_eq_same, packed_blob_total}
-use Rattle.keep_catalog.proofs.Used.{same_test}
 
 refuted : (b : Bool) → (b ≡ true → ⊥) → b ≡ false
 refuted true h = absurd (h refl)

@@ -18,6 +18,12 @@ pub second_of_both : (a b : Bool) → T (a && b) → T b
 second_of_both true b h = h
 second_of_both false b h = absurd h
 
+-- two tests that hold alike are one
+pub same_test : (a b : Bool) → (a ≡ true → b ≡ true) → (b ≡ true → a ≡ true) → a ≡ b
+same_test true b f g = sym (f refl)
+same_test false true f g = g refl
+same_test false false f g = refl
+
 pub less : (o : Ordering) → T (is_lt o) → o ≡ Less
 less Less h = refl
 less Equal h = absurd h

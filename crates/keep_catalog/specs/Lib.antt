@@ -5,11 +5,6 @@ pub mod Naming
 pub mod Ordered
 pub mod Orders
 pub mod Places
-pub mod Reach
-pub mod Snapshots
-pub mod Sound
 pub mod Source
-pub mod Used
-pub mod Walk
 pub mod Words
 pub mod Wrong

@@ -171,8 +171,9 @@ impl<'a> Catalog<'a> {
         first_open(self.repo, &tables.stored, blob, listings)
     }
 
-    // The chosen listing of the blob, and what it names there.
-    pub(crate) fn named(&self, alloc: Global, blob: BlobId) -> Result<Named, ReachError>
+    /// The chosen listing of the blob, and what it names there: a tree the trees and pieces of its nodes, a piece
+    /// nothing. Else why it can't be had.
+    pub fn named(&self, alloc: Global, blob: BlobId) -> Result<Named, ReachError>
         ensures names { Answers the_reach_error.Memory (λ named. named.names.items)
             (named_by self.now blob) result }
         ensures chosen { IfOk result (λ named.

@@ -1,22 +1,15 @@
-ghost use Rattle.std.specs.Prelude.{◌≡◌, ◌↔◌, [], Some, true, false};
+ghost use Rattle.std.specs.Prelude.{◌≡◌, ◌↔◌, Some, true, false};
 ghost use Rattle.std.specs.FinMap as finite;
-ghost use Rattle.std.specs.List.{All, IsDistinct};
-ghost use Rattle.std.specs.List.Sorted.{IsStrictlySortedBy};
 ghost use Rattle.std.specs.Option.{IsSome};
 ghost use Rattle.std.specs.declared.cmp.Ordering.TheVariants.{Less};
 ghost use Rattle.keep_names.specs.BlobId.{tree_at};
-ghost use Rattle.keep_names.specs.Orders.{blob_cmp};
 ghost use Rattle.keep_names.specs.declared.blob.BlobId as the_blob;
 ghost use Rattle.keep_names.specs.declared.id.Id as the_id;
 ghost use Rattle.keep_repo.specs.Repository.{Repository};
 ghost use Rattle.keep_catalog.specs.Chosen.{IsChosen, IsLeastIndex, IsListed, IsStored};
 ghost use Rattle.keep_catalog.specs.Naming.{blobs_named, missing, named_by, nodes_under};
-ghost use Rattle.keep_catalog.specs.Orders.{IsLessSpot, blob_eq, spot_cmp};
+ghost use Rattle.keep_catalog.specs.Orders.{IsLessSpot, spot_cmp};
 ghost use Rattle.keep_catalog.specs.Places.{chosen_listing, is_honest, spots_of};
-ghost use Rattle.keep_catalog.specs.Reach.{HasBlob};
-ghost use Rattle.keep_catalog.specs.Snapshots.{IsUsed, broken_in};
-ghost use Rattle.keep_catalog.specs.Sound.{IsOfTree, IsSound};
-ghost use Rattle.keep_catalog.specs.Used.{used_in};
 ghost use Rattle.keep_catalog.specs.declared.reach_error.ReachError.TheVariants.{MissingBlob, WrongHash};
 ghost use Rattle.keep_catalog.specs.declared.spot.Spot as the_spot;
 
@@ -65,21 +58,4 @@ pub fn spots_are_in_order()
 pub fn trees_name_what_their_nodes_name()
     ensures { (r : Repository) (tree : the_id.Id)
         → named_by r (tree_at tree) ≡ blobs_named (nodes_under r tree) }
-{}
-
-/// A repository in which no snapshot is broken is sound.
-pub fn the_unbroken_is_sound()
-    ensures { (r : Repository) → broken_in r ≡ [] → IsSound r }
-{}
-
-/// In a sound repository trees alone are refused: those that stand too deep, and those that aren't trees.
-pub fn the_sound_is_broken_by_trees_alone()
-    ensures { (r : Repository) → IsSound r → All (λ broken. IsOfTree broken.1) (broken_in r) }
-{}
-
-/// The list of used blobs has just the blobs that some snapshot reaches, each once, in their order.
-pub fn used_blobs_are_listed_once()
-    ensures used { (r : Repository) (blob : the_blob.BlobId) → HasBlob (used_in r) blob ↔ IsUsed r blob }
-    ensures once { (r : Repository) → IsDistinct blob_eq (used_in r) }
-    ensures ordered { (r : Repository) → IsStrictlySortedBy blob_cmp (used_in r) }
 {}

@@ -18,12 +18,13 @@ use keep_repo::Repo;
 use keep_tree::{Node, NodeKind, TreeError, read_tree};
 use std::alloc::{AllocError, Global};
 
-// A chosen listing of a blob, and what the blob names there.
+/// A chosen listing of a blob, and what the blob names there, in its order.
 #[derive(Drop)]
-pub(crate) struct Named {
-    pub(crate) spot: Spot,
-    pub(crate) index: Id,
-    pub(crate) names: Vec<BlobId>,
+pub struct Named {
+    pub spot: Spot,
+    /// The least-named index that lists the blob there.
+    pub index: Id,
+    pub names: Vec<BlobId>,
 }
 
 // What a blob of this type at the spot names.

@@ -11,9 +11,9 @@ use Rattle.keep_tree.specs.Tree.{KindData, dir, file, other, NodeData}
 use Rattle.keep_names.specs.BlobId.{piece_of, tree_at}
 use Rattle.keep_catalog.specs.Naming.{blobs_named, named_at, named_by, named_in, named_of, nodes_at_spot, nodes_chosen, nodes_under}
 use Rattle.keep_catalog.specs.Places.{chosen_listing}
-use Rattle.keep_catalog.specs.Reach.{HasBlob, Naming, Reaches, first_of, has_type_tree, own_or, refusal_at}
+use Rattle.keep_reach.specs.Reach.{HasBlob, Naming, Reaches, first_of, has_type_tree, own_or, refusal_at}
 use Rattle.keep_catalog.specs.declared.reach_error.ReachError.{ReachError}
-use Rattle.keep_catalog.specs.Walk.{Walked}
+use Rattle.keep_reach.specs.Walk.{Walked}
 use Rattle.keep_catalog.specs.declared.spot.Spot.{Spot}
 use Rattle.keep_read.specs.Contents.{ContentData, contents_at, contents_in, contents_of, nodes_in, under}
 use Rattle.keep_read.specs.Found.{AreFound, ArePlaced, IsFound, IsPlaced, spot_in}

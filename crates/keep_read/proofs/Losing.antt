@@ -6,8 +6,8 @@ use Rattle.keep_names.specs.declared.blob.BlobId.{BlobId}
 use Rattle.keep_names.specs.declared.id.Id.{Id}
 use Rattle.keep_repo.specs.Repository.{Repository}
 use Rattle.keep_catalog.specs.Files.{unread_in}
-use Rattle.keep_catalog.specs.Snapshots.{broken_in}
-use Rattle.keep_catalog.specs.Sound.{IsOfTree, IsSound}
+use Rattle.keep_reach.specs.Snapshots.{broken_in}
+use Rattle.keep_reach.specs.Sound.{IsOfTree, IsSound}
 use Rattle.keep_catalog.specs.Wrong.{wrong_blobs_in}
 use Rattle.keep_catalog.specs.declared.reach_error.ReachError.{ReachError}
 use Rattle.keep_read.specs.Findings.{findings_in, misnamed_in}

@@ -17,10 +17,10 @@ use Rattle.keep_catalog.specs.Files.{file_in, snap_in, snap_of, snapshot_in, unr
 use Rattle.keep_names.specs.BlobId.{tree_at}
 use Rattle.keep_catalog.specs.Naming.{named_by}
 use Rattle.keep_catalog.specs.Places.{chosen_listing}
-use Rattle.keep_catalog.specs.Reach.{Reaches, most_levels}
-use Rattle.keep_catalog.specs.Snapshots.{Owes, refusal_from, refusal_of, root_of}
-use Rattle.keep_catalog.specs.Walk.{AreChosen, Knows, Walked}
-use Rattle.keep_catalog.specs.declared.found.Found.{Found}
+use Rattle.keep_reach.specs.Reach.{Reaches, most_levels}
+use Rattle.keep_reach.specs.Snapshots.{Owes, refusal_from, refusal_of, root_of}
+use Rattle.keep_reach.specs.Walk.{AreChosen, Knows, Walked}
+use Rattle.keep_reach.specs.declared.found.Found.{Found}
 use Rattle.keep_catalog.specs.declared.reach_error.ReachError.{ReachError}
 use Rattle.keep_catalog.specs.declared.spot.Spot.{Spot}
 use Rattle.keep_catalog.specs.declared.unread.FileError.TheVariants.{Snap}

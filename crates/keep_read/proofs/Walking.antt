@@ -14,7 +14,7 @@ use Rattle.keep_tree.specs.Tree.{dir, NodeData, node_view}
 use Rattle.keep_tree.specs.declared.node.Node.{Node}
 use Rattle.keep_names.specs.BlobId.{tree_at}
 use Rattle.keep_catalog.specs.Naming.{named_by}
-use Rattle.keep_catalog.specs.Reach.{refusal_at}
+use Rattle.keep_reach.specs.Reach.{refusal_at}
 use Rattle.keep_catalog.proofs.Growing.{flat_map_taken}
 use Rattle.keep_read.specs.Contents.{ContentData, content_view, contents_at, contents_in, contents_of, nodes_in, under}
 use Rattle.keep_read.specs.Found.{AreBare}

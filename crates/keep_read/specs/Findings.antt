@@ -6,7 +6,7 @@ use Rattle.keep_names.specs.declared.file_name.FileName.{FileName}
 use Rattle.keep_repo.specs.Repository.{Repository}
 use Rattle.keep_catalog.specs.Files.{unread_in}
 use Rattle.keep_catalog.specs.Places.{has_id}
-use Rattle.keep_catalog.specs.Snapshots.{broken_in}
+use Rattle.keep_reach.specs.Snapshots.{broken_in}
 use Rattle.keep_catalog.specs.Wrong.{wrong_blobs_in}
 use Rattle.keep_read.specs.declared.finding.Finding.{Finding}
 use Rattle.keep_read.specs.declared.finding.Finding.TheVariants.{Broken, Unreadable, WrongBlob, WrongName}

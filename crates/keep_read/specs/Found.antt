@@ -9,8 +9,8 @@ use Rattle.keep_names.specs.declared.id.Id.{Id}
 use Rattle.keep_repo.specs.Repository.{Repository}
 use Rattle.keep_catalog.specs.Naming.{named_by}
 use Rattle.keep_catalog.specs.Places.{chosen_listing}
-use Rattle.keep_catalog.specs.Reach.{HasBlob, Reaches}
-use Rattle.keep_catalog.specs.Walk.{Walked}
+use Rattle.keep_reach.specs.Reach.{HasBlob, Reaches}
+use Rattle.keep_reach.specs.Walk.{Walked}
 use Rattle.keep_catalog.specs.declared.spot.Spot.{Spot}
 use Rattle.keep_read.specs.Contents.{contents_at}
 

@@ -1,7 +1,7 @@
 -- What no audit of a sound repository finds.
 use Rattle.std.specs.Prelude.{All}
 use Rattle.keep_repo.specs.Repository.{Repository}
-use Rattle.keep_catalog.specs.Sound.{IsOfTree, IsSound}
+use Rattle.keep_reach.specs.Sound.{IsOfTree, IsSound}
 use Rattle.keep_read.specs.Findings.{findings_in}
 use Rattle.keep_read.specs.declared.finding.Finding.{Finding}
 use Rattle.keep_read.specs.declared.finding.Finding.TheVariants.{Broken, Unreadable, WrongBlob, WrongName}

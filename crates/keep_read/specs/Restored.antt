@@ -14,8 +14,8 @@ use Rattle.keep_repo.specs.declared.facet.Facet.TheVariants.{File}
 use Rattle.keep_snap.specs.Snap.{SnapData}
 use Rattle.keep_snap.specs.declared.snap.SnapError.{SnapError}
 use Rattle.keep_catalog.specs.Files.{snapshot_in, unread}
-use Rattle.keep_catalog.specs.Reach.{most_levels}
-use Rattle.keep_catalog.specs.Snapshots.{refusal_from, root_of}
+use Rattle.keep_reach.specs.Reach.{most_levels}
+use Rattle.keep_reach.specs.Snapshots.{refusal_from, root_of}
 use Rattle.keep_catalog.specs.declared.reach_error.ReachError.{ReachError}
 use Rattle.keep_catalog.specs.declared.unread.FileError.TheVariants.{Snap}
 use Rattle.keep_read.specs.Contents.{ContentData, contents_at}

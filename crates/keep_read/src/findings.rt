@@ -6,6 +6,7 @@ ghost use Rattle.keep_read.specs.declared.finding.Finding.TheVariants.{Broken, U
 use crate::finding::Finding;
 use keep_catalog::{ReachError, Unread};
 use keep_names::{BlobId, FileName, Id, id_of};
+use keep_reach::broken;
 use keep_repo::Repo;
 use keep_view::View;
 use std::alloc::{AllocError, Global};
@@ -22,7 +23,7 @@ pub fn audit(alloc: Global, view: &View) -> Result<Vec<Finding>, AllocError>
     add_unread(&mut findings, &unread)?;
     let wrong = catalog.wrong_blobs(alloc)?;
     add_wrong(&mut findings, &wrong)?;
-    let broken = catalog.broken(alloc)?;
+    let broken = broken(alloc, &catalog)?;
     add_broken(&mut findings, &broken)?;
     Ok(findings)
 }

@@ -5,8 +5,9 @@ ghost use Rattle.keep_tree.specs.Tree.{node_view};
 ghost use Rattle.keep_read.specs.Contents as spec;
 ghost use Rattle.keep_read.specs.Found.{ArePlaced, IsPlaced};
 
-use keep_catalog::{Catalog, ReachError, Reached};
+use keep_catalog::{Catalog, ReachError};
 use keep_names::{BlobId, Id};
+use keep_reach::Reached;
 use keep_tree::Node;
 use std::alloc::{AllocError, Global};
 

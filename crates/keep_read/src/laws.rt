@@ -4,7 +4,7 @@ ghost use Rattle.keep_repo.specs.Repository.{Repository};
 ghost use Rattle.keep_read.specs.Contents.{contents_at};
 ghost use Rattle.keep_read.specs.Losses.{SoundLosesNoBlob};
 
-use keep_catalog::the_sound_is_broken_by_trees_alone;
+use keep_reach::the_sound_is_broken_by_trees_alone;
 
 /// No two of what stands below a tree have one path, so a restore loses no file to another.
 pub fn paths_are_apart()

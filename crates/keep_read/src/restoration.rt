@@ -14,6 +14,7 @@ use crate::walk::contents_of;
 use keep_catalog::{Catalog, FileError, ReachError, Unread};
 use keep_docs::DocError;
 use keep_names::{FileName, Id};
+use keep_reach::reach;
 use keep_repo::{Facet, Repo};
 use keep_snap::{SnapError, read_snap};
 use keep_view::View;
@@ -35,7 +36,7 @@ pub fn restore(alloc: Global, view: &View, snapshot: Id) -> Result<Restored, Res
     let Some(tree) = root_in(&catalog, snapshot) else {
         return Err(why_unread(alloc, repo, snapshot));
     };
-    let reached = catalog.reach(alloc, snapshot)?;
+    let reached = reach(alloc, &catalog, snapshot)?;
     let contents = contents_of(alloc, &catalog, &reached, tree)?;
     let restored = restored_of(alloc, contents)?;
     Ok(restored)

@@ -1,17 +1,18 @@
 ghost use Rattle.std.specs.Prelude.{◌≡◌, ◌++◌, [], ◌∷◌, None, map, string_bytes, codes, IfOk, OnOk};
 ghost use Rattle.keep_names.specs.BlobId.{tree_at};
 ghost use Rattle.keep_catalog.specs.Naming.{named_by, named_of};
-ghost use Rattle.keep_catalog.specs.Reach as spec;
-ghost use Rattle.keep_catalog.specs.Reach.{first_of, refusal_at};
-ghost use Rattle.keep_catalog.specs.Snapshots.{refusal_from};
+ghost use Rattle.keep_reach.specs.Reach as spec;
+ghost use Rattle.keep_reach.specs.Reach.{first_of, refusal_at};
+ghost use Rattle.keep_reach.specs.Snapshots.{refusal_from};
 ghost use Rattle.keep_tree.specs.Tree.{node_view};
 ghost use Rattle.keep_read.specs.Contents.{content_view, contents_at, contents_of, under};
 ghost use Rattle.keep_read.specs.Found.{AreBare, AreFound, IsFound};
 
 use crate::content::Content;
 use crate::found::{joined, nodes_in};
-use keep_catalog::{Catalog, Reached, levels};
+use keep_catalog::Catalog;
 use keep_names::Id;
+use keep_reach::{Reached, levels};
 use keep_tree::{Node, NodeKind};
 use std::alloc::{AllocError, Global};
 use std::collections::BTreeSet;

@@ -27,8 +27,8 @@ use Rattle.keep_change.specs.declared.change.Change.{Change}
 use Rattle.keep_catalog.specs.Files.{snap_read, file_in, snap_in, snap_of}
 use Rattle.keep_catalog.specs.Naming.{blobs_named, named_by, nodes_read, read_tree_of}
 use Rattle.keep_catalog.specs.Places.{chosen_listing}
-use Rattle.keep_catalog.specs.Reach.{HasBlob, Names, Reaches, most_levels}
-use Rattle.keep_catalog.specs.Snapshots.{Owes, root_of}
+use Rattle.keep_reach.specs.Reach.{HasBlob, Names, Reaches, most_levels}
+use Rattle.keep_reach.specs.Snapshots.{Owes, root_of}
 use Rattle.keep_catalog.specs.declared.reach_error.ReachError.{ReachError}
 use Rattle.keep_catalog.specs.declared.spot.Spot.{Spot}
 use Rattle.keep_sound.specs.Careful.{CarefulIsSafe, GivesPlace}

@@ -12,9 +12,9 @@ use Rattle.keep_repo.specs.Repository.{empty_repository}
 use Rattle.keep_snap.specs.Snap.{SnapData}
 use Rattle.keep_catalog.specs.Files.{snap_read, file_in}
 use Rattle.keep_catalog.specs.Naming.{named_by}
-use Rattle.keep_catalog.specs.Reach.{Reaches, most_levels}
-use Rattle.keep_catalog.specs.Snapshots.{Owes, root_of}
-use Rattle.keep_catalog.specs.Sound.{IsSound}
+use Rattle.keep_reach.specs.Reach.{Reaches, most_levels}
+use Rattle.keep_reach.specs.Snapshots.{Owes, root_of}
+use Rattle.keep_reach.specs.Sound.{IsSound}
 use Rattle.keep_sound.proofs.Parts.{snap_by}
 
 no_file : (kind : Kind) (id : Id) → file_in empty_repository kind id ≡ None

@@ -10,7 +10,7 @@ use Rattle.keep_repo.specs.declared.facet.Facet.TheVariants.{Mark}
 use Rattle.keep_change.specs.Filling.{FacetsFollow, FilesComeFrom, Follows, asks_empty, empties, fills, finds_filled}
 use Rattle.keep_change.specs.Result.{result_of}
 use Rattle.keep_change.specs.declared.change.Change.{Change}
-use Rattle.keep_catalog.specs.Snapshots.{Owes}
+use Rattle.keep_reach.specs.Snapshots.{Owes}
 use Rattle.keep_catalog.specs.declared.spot.Spot.{Spot}
 use Rattle.keep_sound.specs.Careful.{AreKnown, CarefulIsSafe, GivesPlace, IsCareful, ListedElsewhere, OwedByNeeded, SoundByNames}
 use Rattle.keep_sound.specs.Met.{AddsPart, IsIn, IsPartOf}

@@ -13,9 +13,9 @@ use Rattle.keep_catalog.specs.Chosen.{IsOpenPlace}
 use Rattle.keep_catalog.specs.Files.{snap_read, snap_in}
 use Rattle.keep_catalog.specs.Naming.{blobs_named, missing, named_at, named_by, names_at, nodes_read, read_tree_of}
 use Rattle.keep_catalog.specs.Places.{bytes_at, chosen, chosen_listing}
-use Rattle.keep_catalog.specs.Reach.{HasBlob, Names, Reaches, most_levels}
-use Rattle.keep_catalog.specs.Snapshots.{Owes, root_of}
-use Rattle.keep_catalog.specs.Sound.{IsSound}
+use Rattle.keep_reach.specs.Reach.{HasBlob, Names, Reaches, most_levels}
+use Rattle.keep_reach.specs.Snapshots.{Owes, root_of}
+use Rattle.keep_reach.specs.Sound.{IsSound}
 use Rattle.keep_catalog.specs.declared.reach_error.ReachError.{ReachError}
 use Rattle.keep_catalog.specs.declared.reach_error.ReachError.TheVariants.{BadTree}
 use Rattle.keep_catalog.specs.declared.spot.Spot.{Spot}

@@ -15,9 +15,9 @@ use Rattle.keep_change.specs.declared.change.Change.{Change}
 use Rattle.keep_catalog.specs.Files.{snap_in}
 use Rattle.keep_catalog.specs.Naming.{named_by}
 use Rattle.keep_catalog.specs.Places.{at, is_among, listed_in}
-use Rattle.keep_catalog.specs.Reach.{Reaches, most_levels}
-use Rattle.keep_catalog.specs.Snapshots.{Owes, broken_in, root_of}
-use Rattle.keep_catalog.specs.Sound.{IsSound}
+use Rattle.keep_reach.specs.Reach.{Reaches, most_levels}
+use Rattle.keep_reach.specs.Snapshots.{Owes, broken_in, root_of}
+use Rattle.keep_reach.specs.Sound.{IsSound}
 use Rattle.keep_sound.specs.Careful.{CarefulIsSafe, GivesPlace, ListedElsewhere, Relists}
 use Rattle.keep_sound.specs.Forms.{CoveringIsCareful, MarkingIsCareful, RelistingIsCareful}
 use Rattle.keep_sound.specs.Met.{AddsPart, IsIn}

@@ -6,8 +6,8 @@ use Rattle.keep_names.specs.declared.id.Id.{Id}
 use Rattle.keep_repo.specs.Repository.{Repository}
 use Rattle.keep_change.specs.declared.change.Change.{Change}
 use Rattle.keep_catalog.specs.Naming.{named_by}
-use Rattle.keep_catalog.specs.Reach.{Names, Reaches, most_levels}
-use Rattle.keep_catalog.specs.Snapshots.{Owes}
+use Rattle.keep_reach.specs.Reach.{Names, Reaches, most_levels}
+use Rattle.keep_reach.specs.Snapshots.{Owes}
 use Rattle.keep_sound.specs.Careful.{CarefulIsSafe, GivesPlace, OwedByNeeded}
 use Rattle.keep_sound.specs.Forms.{CoveringIsCareful}
 use Rattle.keep_sound.specs.Retreeing.{BuiltRetrees, KeptRetrees, RetreesOne, RewritingIsSafe}

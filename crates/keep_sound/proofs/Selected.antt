@@ -9,7 +9,7 @@ use Rattle.keep_change.specs.Filling.{FacetsFollow, FilesComeFrom, fills}
 use Rattle.keep_change.specs.Fold.{Numbered, first_break, fold_of}
 use Rattle.keep_change.specs.Form.{HasNoFacetTwice}
 use Rattle.keep_change.specs.Result.{result_of}
-use Rattle.keep_catalog.specs.Sound.{IsSound}
+use Rattle.keep_reach.specs.Sound.{IsSound}
 use Rattle.keep_sound.specs.Careful.{AreKnown, IsSafe}
 use Rattle.keep_sound.specs.Met.{AddsPart, IsPartOf}
 use Rattle.keep_sound.specs.Selection.{AreSafe, CommitsStaySound, EmptyingsStaySound, FiltersAreSelections, IsSelection, IsSoundHistory, SelectionsAreSound, has_snapshot, known_by, known_in, nothing, passed, taken, with_added}

@@ -10,8 +10,8 @@ use Rattle.keep_change.specs.Filling.{asks_empty, empties, fills, finds_filled, 
 use Rattle.keep_change.specs.Form.{HasNoFacetTwice}
 use Rattle.keep_change.specs.Result.{result_of}
 use Rattle.keep_change.specs.declared.change.Change.{Change}
-use Rattle.keep_catalog.specs.Snapshots.{Owes}
-use Rattle.keep_catalog.specs.Sound.{IsSound}
+use Rattle.keep_reach.specs.Snapshots.{Owes}
+use Rattle.keep_reach.specs.Sound.{IsSound}
 use Rattle.keep_catalog.specs.declared.spot.Spot.{Spot}
 use Rattle.keep_sound.specs.Met.{AddsPart, HasOneText, IsPartOf}
 use Rattle.keep_sound.specs.Standing.{IsSoundIn, Supports, file_facet}

@@ -8,7 +8,7 @@ use Rattle.keep_repo.specs.Repository.{Repository}
 use Rattle.keep_change.specs.Filling.{asks_empty}
 use Rattle.keep_change.specs.NamedBytes.{NamedBytes}
 use Rattle.keep_change.specs.declared.change.Change.{Change}
-use Rattle.keep_catalog.specs.Snapshots.{Owes}
+use Rattle.keep_reach.specs.Snapshots.{Owes}
 use Rattle.keep_sound.specs.Careful.{Covers, DropsMarked, GivesPlace, IsCareful, Relists}
 use Rattle.keep_sound.specs.Standing.{file_facet}
 

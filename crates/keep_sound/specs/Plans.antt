@@ -19,8 +19,8 @@ use Rattle.keep_change.specs.declared.change.Change.{Change}
 use Rattle.keep_catalog.specs.Files.{file_in, index_of, snap_in, snap_of}
 use Rattle.keep_catalog.specs.Naming.{named_of, read_tree_of}
 use Rattle.keep_catalog.specs.Places.{at, bytes_at, chosen_listing, is_among, is_honest, is_stored, listed_in, listed_of, packed_of, reuse_of}
-use Rattle.keep_catalog.specs.Reach.{HasBlob}
-use Rattle.keep_catalog.specs.Snapshots.{Owes, broken_in, root_of}
+use Rattle.keep_reach.specs.Reach.{HasBlob}
+use Rattle.keep_reach.specs.Snapshots.{Owes, broken_in, root_of}
 use Rattle.keep_catalog.specs.declared.spot.PackedBlob.{PackedBlob}
 use Rattle.keep_catalog.specs.declared.spot.Spot.{Spot}
 use Rattle.keep_tree.specs.Tree.{NodeData}

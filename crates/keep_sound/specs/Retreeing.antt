@@ -8,7 +8,7 @@ use Rattle.keep_change.specs.Filling.{fills, finds_filled}
 use Rattle.keep_change.specs.Form.{HasNoFacetTwice}
 use Rattle.keep_change.specs.declared.change.Change.{Change}
 use Rattle.keep_catalog.specs.Naming.{named_by}
-use Rattle.keep_catalog.specs.Reach.{Names, Reaches, most_levels}
+use Rattle.keep_reach.specs.Reach.{Names, Reaches, most_levels}
 use Rattle.keep_sound.specs.Careful.{GivesPlace, IsSafe}
 use Rattle.keep_sound.specs.Forms.{AreOf}
 use Rattle.keep_sound.specs.Met.{AddsPart, HasOneText}

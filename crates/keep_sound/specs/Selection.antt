@@ -6,7 +6,7 @@ use Rattle.keep_repo.specs.Repository.{Repository, is_filled}
 use Rattle.keep_change.specs.Filling.{fills}
 use Rattle.keep_change.specs.Fold.{Numbered, first_break, fold_of}
 use Rattle.keep_change.specs.Form.{HasNoFacetTwice}
-use Rattle.keep_catalog.specs.Sound.{IsSound}
+use Rattle.keep_reach.specs.Sound.{IsSound}
 use Rattle.keep_sound.specs.Careful.{IsSafe}
 use Rattle.keep_sound.specs.Met.{AddsPart, IsPartOf}
 use Rattle.keep_sound.specs.Standing.{file_facet}

@@ -10,7 +10,7 @@ use Rattle.keep_repo.specs.declared.facet.Facet.{Facet}
 use Rattle.keep_repo.specs.declared.facet.Facet.TheVariants.{File, Mark}
 use Rattle.keep_catalog.specs.Chosen.{IsListed, IsStored}
 use Rattle.keep_catalog.specs.Places.{is_honest}
-use Rattle.keep_catalog.specs.Snapshots.{Owes}
+use Rattle.keep_reach.specs.Snapshots.{Owes}
 use Rattle.keep_catalog.specs.declared.spot.Spot.{Spot}
 
 -- the facet of the file of this kind and id

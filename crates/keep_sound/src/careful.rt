@@ -1,5 +1,5 @@
 ghost use Rattle.keep_repo.specs.Repository.{empty_repository};
-ghost use Rattle.keep_catalog.specs.Sound.{IsSound};
+ghost use Rattle.keep_reach.specs.Sound.{IsSound};
 ghost use Rattle.keep_sound.specs.Careful.{CarefulIsSafe, SoundByNames};
 
 use keep_catalog::the_chosen_place_is_least;

@@ -4,8 +4,9 @@ use crate::careful::careful_changes_are_safe;
 use crate::forms::{
     covering_changes_are_careful, marking_changes_are_careful, relisting_changes_are_careful,
 };
-use keep_catalog::{the_chosen_place_is_least, the_unbroken_is_sound};
+use keep_catalog::the_chosen_place_is_least;
 use keep_names::orders_tell_apart;
+use keep_reach::the_unbroken_is_sound;
 
 /// A blob that has a chosen place in the repository on which a change was planned is given by the change, if what
 /// the use of that place rests on is recorded.

@@ -1,6 +1,6 @@
 use Rattle.std.proofs.Common.{◌≢◌, Option, map, sym, ap, ◌∙◌, rules}
 use Rattle.std.specs.Option.{option_map}
-use Rattle.keep_catalog.specs.declared.found.Found.{Found}
+use Rattle.keep_reach.specs.declared.found.Found.{Found}
 use Rattle.keep_catalog.specs.declared.reach_error.ReachError.TheVariants.{Memory}
 use Rattle.keep_catalog.specs.declared.spot.Spot.{Spot}
 use Rattle.keep_tree.specs.Tree.{node_view}

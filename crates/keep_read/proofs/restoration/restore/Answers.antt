@@ -4,8 +4,8 @@ use Rattle.std.specs.Option.{option_map}
 use Rattle.keep_repo.specs.Repository.{Repository}
 use Rattle.keep_snap.specs.Snap.{SnapData}
 use Rattle.keep_catalog.specs.Files.{snap_in}
-use Rattle.keep_catalog.specs.Reach.{most_levels}
-use Rattle.keep_catalog.specs.Snapshots.{refusal_of}
+use Rattle.keep_reach.specs.Reach.{most_levels}
+use Rattle.keep_reach.specs.Snapshots.{refusal_of}
 use Rattle.keep_read.specs.Contents.{contents_at}
 use Rattle.keep_read.specs.Restored.{restored_of}
 use Rattle.keep_read.specs.declared.restore_error.RestoreError.TheVariants.{Reach}

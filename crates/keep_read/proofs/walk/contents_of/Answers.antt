@@ -1,7 +1,7 @@
 use Rattle.std.proofs.Common.{◌≡◌, ℕ, [], ◌++◌, None, map, sym, ap, subst, ◌∙◌}
 use Rattle.keep_names.specs.BlobId.{tree_at}
 use Rattle.keep_catalog.specs.Naming.{named_by}
-use Rattle.keep_catalog.specs.Reach.{refusal_at}
+use Rattle.keep_reach.specs.Reach.{refusal_at}
 use Rattle.keep_read.specs.Contents.{content_view, contents_at, under}
 use Rattle.keep_read.specs.Found.{IsFound}
 use Rattle.keep_read.proofs.Walking.{none_bare, under-nothing}

@@ -5,7 +5,7 @@ use Rattle.std.proofs.lemmas.List.Folds.{flat_map-map}
 use Rattle.std.specs.List.{flat_map}
 use Rattle.keep_names.specs.BlobId.{piece_of}
 use Rattle.keep_catalog.specs.Naming.{named_by, named_in, named_of}
-use Rattle.keep_catalog.specs.Reach.{first_of, refusal_at}
+use Rattle.keep_reach.specs.Reach.{first_of, refusal_at}
 use Rattle.keep_names.specs.declared.blob.BlobId.{BlobId}
 use Rattle.keep_names.specs.declared.id.Id.{Id}
 use Rattle.keep_tree.specs.Tree.{kind_view, node_view}

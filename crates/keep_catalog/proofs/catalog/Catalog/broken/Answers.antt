@@ -1,9 +1,0 @@
-use Rattle.std.proofs.Common.{◌∙◌}
-use Rattle.std.proofs.lemmas.Result.{IfOk-weaker}
-use Rattle.keep_catalog.proofs.Reached.{kept_broken}
-use Rattle.keep_catalog.proofs.catalog.Catalog.broken.Goals as goal
-
-pub returns : goal.returns
-returns c =
-    IfOk-weaker c.broken_among.result _ _ (λ broken is.
-    is ∙ kept_broken c.args.self.now c.snaps.result.now c.snaps.ensures.ordered c.snaps.ensures.each c.snaps.ensures.all) c.broken_among.ensures
