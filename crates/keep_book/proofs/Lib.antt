@@ -1,5 +1,6 @@
 pub mod Looking
 pub mod Marking
+pub mod Naming
 pub mod Places
 pub mod Redoing
 pub mod Replying

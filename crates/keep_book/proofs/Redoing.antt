@@ -14,7 +14,7 @@ use Rattle.keep_journal.specs.History.{change_of, is_change, is_in_force, final_
 use Rattle.keep_journal.specs.Kept.{is_kept, kept_with, earlier, later}
 use Rattle.keep_journal.specs.Journal.{Journal, posted}
 use Rattle.keep_journal.specs.declared.event.Event.TheVariants.{Redo}
-use Rattle.keep_journal.proofs.Commits.{committed-Redo, some_change, IsLegal-push, IsNumbered-push}
+use Rattle.keep_journal.proofs.Commits.{committed-Redo, last_marks-push, some_change, IsLegal-push, IsNumbered-push}
 use Rattle.keep_journal.proofs.Numbers.{is_change_parts}
 use Rattle.keep_journal.proofs.Kept.{kept_around_undone, kept_with_around, kept-Redo}
 use Rattle.keep_book.specs.Dependents.{blocked_by}
@@ -116,5 +116,6 @@ redone opening j live n c is found none met =
             state = rw left (
                 ap (result_of c) (sym (whole opening j live is n c found can.out)) ∙ sym (law.made there)
                 ∙ ap (λ ns. fold_of ns opening) (sym around));
+            marks = rw (last_marks-push j k (Redo n)) is.marks;
           };
     }

@@ -8,6 +8,7 @@ use Rattle.keep_change.specs.Fold.{Numbered, fold_of, first_break}
 use Rattle.keep_change.specs.Form.{IsWellFormed}
 use Rattle.keep_change.specs.Law.{HaveNoFacetTwice}
 use Rattle.keep_change.specs.Limits.{facet_limit}
+use Rattle.keep_change.specs.Marks.{marks_of}
 use Rattle.keep_change.specs.Result.{result_of, reverse_of}
 use Rattle.keep_change.specs.Touch.{facets}
 use Rattle.keep_change.specs.declared.change.Change.{Change}
@@ -19,12 +20,12 @@ use Rattle.keep_journal.specs.History.{committed, final_number, last_change, len
 use Rattle.keep_journal.specs.Journal.{Journal, posted}
 use Rattle.keep_journal.specs.Kept.{kept, later, up_to}
 use Rattle.keep_journal.specs.declared.event.Event.TheVariants.{Commit, Empty}
-use Rattle.keep_journal.proofs.Commits.{committed-Commit, committed-Empty, IsLegal-push, IsNumbered-push}
+use Rattle.keep_journal.proofs.Commits.{committed-Commit, committed-Empty, last_marks-push, IsLegal-push, IsNumbered-push}
 use Rattle.keep_journal.proofs.Kept.{kept-Commit, kept-Empty, kept_split, fold_of-append}
 use Rattle.keep_journal.specs.Opening.{IsOpen, opening_under, unfold_of}
 use Rattle.keep_journal.proofs.Later.{no_facet_twice}
 use Rattle.keep_book.specs.BookState.{BookState}
-use Rattle.keep_book.specs.Reply.{book_of}
+use Rattle.keep_book.specs.Made.{book_of}
 
 -- ---- folds
 
@@ -83,15 +84,16 @@ open-Commit opening j live k n c is above next formed within met =
       within = rw (committed-Commit j k n c) (All-push (λ m. length (facets m.change) ≤ facet_limit) (committed j) it is.within within);
       unbroken = rw more (break_push (kept j) it opening is.unbroken met_there);
       state = rw more (ap (result_of c) is.state ∙ sym (fold_of-append (kept j) (it ∷ []) opening));
+      marks = rw (last_marks-push j k (Commit n c)) is.marks;
     }
 
 -- an emptying moves the opening, and leaves the live repository
 pub open-Empty : (opening : Repository) (j : Journal) (live : Repository) (k n : ℕ) (marks : List PackMark) → IsOpen opening j live → length_of j < k
-    → final_number j ≤ n → n ≤ last_change j → IsOpen (fold_of (up_to j n) opening) (posted j k (Empty n marks)) live
-open-Empty opening j live k n marks is above low high =
+    → final_number j < n → n ≤ last_change j → marks ≡ marks_of (fold_of (up_to j n) opening) → IsOpen (fold_of (up_to j n) opening) (posted j k (Empty n marks)) live
+open-Empty opening j live k n marks is above low high recorded =
     let parts = kept_split j n is.numbered in
     let whole : first_break (up_to j n ++ later j n) opening ≡ None = subst (λ ns. first_break ns opening ≡ None) parts is.unbroken in
-    let left = kept-Empty j k n marks low in
+    let left = kept-Empty j k n marks (omega arith) in
     record {
       numbered = IsNumbered-push j (record { at = k; event = Empty n marks }) is.numbered (record { above = above; fits = (low, high) });
       legal = IsLegal-push j (record { at = k; event = Empty n marks }) is.legal (record { above = above; fits = (low, high) });
@@ -99,6 +101,7 @@ open-Empty opening j live k n marks is above low high =
       within = rw (committed-Empty j k n marks) is.within;
       unbroken = rw left (break_rest (up_to j n) (later j n) opening whole);
       state = rw left (is.state ∙ ap (λ ns. fold_of ns opening) parts ∙ fold_of-append (up_to j n) (later j n) opening);
+      marks = rw (last_marks-push j k (Empty n marks)) recorded;
     }
 
 -- ---- what is written back

@@ -1,30 +1,34 @@
 -- Totals are sums over the events since a watch was armed.
-use Rattle.std.proofs.Common.{◌≡◌, ℕ, ◌+◌, ◌≤◌, ◌==◌, nat_lt, Bool, true, false, cond, List, [], ◌∷◌, ◌++◌, length, Option, Some, None, refl, ap, ◌∙◌, arith, length-append}
+use Rattle.std.proofs.Common.{◌≡◌, ℕ, zero, suc, ◌+◌, ◌≤◌, ◌==◌, nat_lt, Bool, true, false, cond, List, [], ◌∷◌, ◌++◌, length, Option, Some, None, refl, sym, ap, ◌∙◌, arith, length-append}
 use Rattle.std.proofs.lemmas.Bool.{le-ltb, lt-ltb, ne_eqb}
-use Rattle.std.proofs.lemmas.List.{append_assoc}
-use Rattle.std.proofs.lemmas.List.Elements.{filter-append, filter_map-append}
+use Rattle.std.proofs.lemmas.List.{append_assoc, map-append}
+use Rattle.std.proofs.lemmas.List.Elements.{All-push, filter-append, filter_map-append}
 use Rattle.std.proofs.lemmas.List.Folds.{find-append}
 use Rattle.std.proofs.lemmas.List.Sums.{sum_by-cons, sum_by_push}
-use Rattle.std.specs.List.{AllByRecursion, filter, filter_map, find, fold, sum_by}
+use Rattle.std.specs.List.{All, AllByRecursion, filter, filter_map, find, fold, sum_by}
 use Rattle.std.specs.Option.{option_map, option_or, unwrap_or}
 use Rattle.keep_change.specs.Fold.{Numbered}
 use Rattle.keep_change.specs.Marks.{marks_of}
 use Rattle.keep_change.specs.Outline.{empty_outline, outline_of}
 use Rattle.keep_change.specs.declared.outline.What.{What}
 use Rattle.keep_change.specs.declared.outline.What.TheVariants as what
+use Rattle.keep_hooks.specs.Guards.{ArmedData, Tally, WatchData, tallies_after, tally_after, untold}
 use Rattle.keep_hooks.specs.Measures.{measure_of}
+use Rattle.keep_hooks.specs.Rules.{armed_at}
+use Rattle.keep_hooks.specs.declared.measure.Measure.{Measure}
 use Rattle.keep_journal.specs.Event.{commit_of, number_of}
-use Rattle.keep_journal.specs.History.{AscendFrom, ComeInTurn, Fits, change_of, committed, last_change, length_of}
+use Rattle.keep_journal.specs.History.{AscendFrom, ComeInTurn, Fits, IsNumbered, change_of, committed, last_change, length_of}
 use Rattle.keep_journal.specs.Journal.{Journal, posted}
+use Rattle.keep_journal.specs.Opening.{IsOpen}
 use Rattle.keep_journal.specs.declared.event.Entry.{Entry}
 use Rattle.keep_journal.specs.declared.event.Event.{Event}
 use Rattle.keep_journal.specs.declared.event.Event.TheVariants as event
 use Rattle.keep_journal.proofs.Commits.{committed-Commit, committed-Empty, committed-Redo, committed-Undo, last_change-Commit, last_change-Empty, last_change-Redo, last_change-Undo, length_of-push}
 use Rattle.keep_book.specs.BookState.{BookState}
-use Rattle.keep_book.specs.Guarding.{event_outline, outline_at}
-use Rattle.keep_book.specs.Reply.{event_of, opening_after}
+use Rattle.keep_book.specs.Guarding.{event_outline, outline_at, outline_in}
+use Rattle.keep_book.specs.Made.{event_of, opening_after, with_event}
 use Rattle.keep_book.specs.Request.{Request, Commit, Undo, Redo, Empty}
-use Rattle.keep_book.specs.Sums.{TotalsBegin, TotalsGrow, outline_in}
+use Rattle.keep_book.specs.Sums.{AreSums, count_since, sum_of, sums_of}
 
 -- ---- the numbers that a legal history names
 
@@ -93,7 +97,7 @@ same_outline j j' (event.Empty n marks) same = refl
 
 -- and the event of a request shows what was asked and told of it
 new_outline : (b : BookState) (k : ℕ) (request : Request)
-    → outline_in (posted b.events k (event_of b request)) (event_of b request) ≡ event_outline b.events request
+    → outline_in (posted b.events k (event_of b request)) (event_of b request) ≡ event_outline b request
 new_outline b k (Commit p) = refl
 new_outline b k (Undo n) =
     let j = posted b.events k (event.Undo n) in at_same b.events j what.Undo n (same_found b.events j n (committed-Undo b.events k n))
@@ -132,35 +136,67 @@ none_after k (e ∷ es) last rise most =
     let out : nat_lt last e.at ≡ false = le-ltb last e.at (omega arith) in
     rw out (none_after e.at es last rise.1 most)
 
-pub totals_begin : TotalsBegin
-totals_begin opening j live tally is = record {
-  so_far = omega arith;
-  total = rw (none_after 0 j.entries (length_of j) is.numbered.events (omega arith)) refl;
-}
+abbrev the_tally : List ℕ → Measure → ℕ → Tally
+the_tally name measure total = record { name = name; measure = measure; total = total }
 
-pub totals_grow : TotalsGrow
-totals_grow b request since tally is was =
-    let at = length_of b.events + 1 in
-    let e = event_of b request in
-    let j = posted b.events at e in
-    let f : Entry → ℕ = λ x. measure_of tally.measure (outline_in j x.event) in
-    let g : Entry → ℕ = λ x. measure_of tally.measure (outline_in b.events x.event) in
-    let later : Entry → Bool = λ x. nat_lt since x.at in
-    let new : Entry = record { at = at; event = e } in
-    let low = was.so_far in
-    let in_time : nat_lt since at ≡ true = lt-ltb since at (omega arith) in
-    let known = all_known (record { base = b.events.base; entries = [] }) b.events.entries (last_change b.events) is.legal (omega arith) in
-    let before : sum_by f (filter later b.events.entries) ≡ sum_by g (filter later b.events.entries) =
-    same_sum f g later (last_change b.events) b.events.entries
-    (λ x within. ap (measure_of tally.measure) (same_outline b.events j x.event (same_change b at request (number_of x.event) within))) known in
-    let one : filter later (new ∷ []) ≡ new ∷ [] = rw in_time refl in
-    let parts : filter later j.entries ≡ filter later b.events.entries ++ new ∷ [] =
-    filter-append later b.events.entries (new ∷ []) ∙ ap (λ xs. filter later b.events.entries ++ xs) one in
-    let whole : sum_by f (filter later j.entries) ≡ sum_by f (filter later b.events.entries) + f new =
-    ap (sum_by f) parts ∙ sum_by_push f (filter later b.events.entries) new in
-    let told : f new ≡ measure_of tally.measure (event_outline b.events request) = ap (measure_of tally.measure) (new_outline b at request) in
-    let so_long = length_of-push b.events at e in
-    record {
-      so_far = omega (arith, low, so_long);
-      total = omega (arith, was.total, before, whole, told);
-    }
+-- a watch that is armed now, behind the others, has the sum of no events
+pub sums_armed : (j : Journal) (watches : List ArmedData) (tallies : List Tally) (watch : WatchData) → IsNumbered j → AreSums j watches tallies
+    → AreSums j (watches ++ armed_at (length_of j) watch ∷ []) (tallies ++ untold watch ∷ [])
+sums_armed j watches tallies watch numbered were =
+    let none : count_since j (length_of j) watch.measure ≡ 0 =
+    ap (sum_by (λ e. measure_of watch.measure (outline_in j e.event))) (none_after 0 j.entries (length_of j) numbered.events (omega arith)) in
+    let same : untold watch ≡ sum_of j (armed_at (length_of j) watch) =
+    ap (λ (n : ℕ). the_tally watch.name watch.measure n) (sym none) in (
+      All-push (λ (w : ArmedData). w.since ≤ length_of j) watches (armed_at (length_of j) watch) were.0 (omega arith),
+      ap (λ ts. ts ++ untold watch ∷ []) were.1
+      ∙ ap (λ t. sums_of j watches ++ t ∷ []) same
+      ∙ sym (map-append (sum_of j) watches (armed_at (length_of j) watch ∷ [])),
+    )
+
+-- one more event
+module _ (b : BookState) (request : Request) (is : IsOpen b.opening b.events b.live) where
+  abbrev after : Journal
+  after = posted b.events (length_of b.events + 1) (event_of b request)
+
+  longer : length_of after ≡ length_of b.events + 1
+  longer = length_of-push b.events (length_of b.events + 1) (event_of b request)
+
+  -- counts for what its outline tells
+  one_more : (since : ℕ) (measure : Measure) → since ≤ length_of b.events
+      → count_since after since measure ≡ count_since b.events since measure + measure_of measure (event_outline b request)
+  one_more since measure low =
+      let at = length_of b.events + 1 in
+      let f : Entry → ℕ = λ x. measure_of measure (outline_in after x.event) in
+      let g : Entry → ℕ = λ x. measure_of measure (outline_in b.events x.event) in
+      let later : Entry → Bool = λ x. nat_lt since x.at in
+      let new : Entry = record { at = at; event = event_of b request } in
+      let in_time : nat_lt since at ≡ true = lt-ltb since at (omega arith) in
+      let known = all_known (record { base = b.events.base; entries = [] }) b.events.entries (last_change b.events) is.legal (omega arith) in
+      let before : sum_by f (filter later b.events.entries) ≡ sum_by g (filter later b.events.entries) =
+      same_sum f g later (last_change b.events) b.events.entries
+      (λ x within. ap (measure_of measure) (same_outline b.events after x.event (same_change b at request (number_of x.event) within))) known in
+      let one : filter later (new ∷ []) ≡ new ∷ [] = rw in_time refl in
+      let parts : filter later after.entries ≡ filter later b.events.entries ++ new ∷ [] =
+      filter-append later b.events.entries (new ∷ []) ∙ ap (λ xs. filter later b.events.entries ++ xs) one in
+      let whole : sum_by f (filter later after.entries) ≡ sum_by f (filter later b.events.entries) + f new =
+      ap (sum_by f) parts ∙ sum_by_push f (filter later b.events.entries) new in
+      let told : f new ≡ measure_of measure (event_outline b request) = ap (measure_of measure) (new_outline b at request) in
+      omega (arith, before, whole, told)
+
+  all_more : (watches : List ArmedData) → All (λ (w : ArmedData). w.since ≤ length_of b.events) watches
+      → sums_of after watches ≡ tallies_after (event_outline b request) (sums_of b.events watches)
+  all_more [] low = refl
+  all_more (w ∷ ws) low =
+      let first : sum_of after w ≡ tally_after (event_outline b request) (sum_of b.events w) =
+      ap (λ (n : ℕ). the_tally w.name w.measure n) (one_more w.since w.measure (low zero w (omega arith))) in
+      let rest = all_more ws (λ k d within. low (suc k) d (omega arith)) in
+      rw (first, rest) refl
+
+  -- totals that are told of it stay the sums of the events since each watch was armed
+  pub sums_told : (now : BookState) (watches : List ArmedData) (tallies : List Tally) → AreSums b.events watches tallies → now ≡ with_event b request
+      → AreSums now.events watches (tallies_after (event_outline b request) tallies)
+  sums_told now watches tallies were made =
+      rw made (
+        λ i w within. let low = were.0 i w within in omega (arith, low, longer),
+        rw were.1 (sym (all_more watches were.0)),
+      )

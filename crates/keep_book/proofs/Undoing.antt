@@ -16,7 +16,7 @@ use Rattle.keep_journal.specs.History.{change_of, is_change, is_in_force, final_
 use Rattle.keep_journal.specs.Kept.{is_kept, others, earlier, later}
 use Rattle.keep_journal.specs.Journal.{Journal, posted}
 use Rattle.keep_journal.specs.declared.event.Event.TheVariants.{Undo}
-use Rattle.keep_journal.proofs.Commits.{committed-Undo, some_change, IsLegal-push, IsNumbered-push}
+use Rattle.keep_journal.proofs.Commits.{committed-Undo, last_marks-push, some_change, IsLegal-push, IsNumbered-push}
 use Rattle.keep_journal.proofs.Numbers.{is_change_parts}
 use Rattle.keep_journal.proofs.Kept.{kept_around, others_around, kept-Undo}
 use Rattle.keep_book.specs.Dependents.{leaned_on}
@@ -123,5 +123,6 @@ undone opening j live n c is found none =
             state = rw left (
                 ap (result_of (reverse_of c)) (sym whole) ∙ sym (law.made nobody)
                 ∙ ap (λ ns. fold_of ns opening) (sym (others_around j n c is.numbered found)));
+            marks = rw (last_marks-push j k (Undo n)) is.marks;
           };
     }

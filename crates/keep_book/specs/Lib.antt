@@ -4,6 +4,8 @@ pub mod Dependents
 pub mod Formed
 pub mod Guarding
 pub mod Limits
+pub mod Made
+pub mod Names
 pub mod Refusal
 pub mod Reply
 pub mod Request

@@ -8,7 +8,3 @@ event_limit = 16777216
 -- the greatest number that a change can have
 abbrev pub change_limit : ℕ
 change_limit = 1048576
-
--- the most that an event can count for: the facets of its change, and one
-abbrev pub count_limit : ℕ
-count_limit = 65537

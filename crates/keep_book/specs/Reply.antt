@@ -5,19 +5,17 @@ use Rattle.keep_repo.specs.Repository.{Repository, held}
 use Rattle.keep_change.specs.Fold.{first_break, fold_of}
 use Rattle.keep_change.specs.Form.{IsWellFormed, least_unmet}
 use Rattle.keep_change.specs.Limits.{facet_limit}
-use Rattle.keep_change.specs.Marks.{marks_of}
 use Rattle.keep_change.specs.Touch.{facets}
 use Rattle.keep_change.specs.declared.change.Planned.{Planned}
 use Rattle.keep_journal.specs.History.{final_number, is_change, is_in_force, last_change, length_of}
-use Rattle.keep_journal.specs.Journal.{Journal, posted}
-use Rattle.keep_journal.specs.Kept.{kept, others, kept_with, up_to}
-use Rattle.keep_journal.specs.declared.event.Event.{Event}
-use Rattle.keep_journal.specs.declared.event.Event.TheVariants as event
+use Rattle.keep_journal.specs.Journal.{Journal}
+use Rattle.keep_journal.specs.Kept.{kept_with, others}
 use Rattle.keep_change.specs.declared.outline.Outline.{Outline}
 use Rattle.keep_hooks.specs.Guards.{Rule, first_refusing}
 use Rattle.keep_book.specs.BookState.{BookState}
 use Rattle.keep_book.specs.Guarding.{event_outline}
 use Rattle.keep_book.specs.Limits.{change_limit, event_limit}
+use Rattle.keep_book.specs.Made.{with_event}
 use Rattle.keep_book.specs.declared.reply.Refusal.{Refusal}
 use Rattle.keep_book.specs.declared.reply.Refusal.TheVariants.{Malformed, Unknown, Final, NotInForce, InForce, Full, Stale, Vetoed, Unmet, LeanedOn, Blocked, Memory}
 use Rattle.keep_book.specs.Request.{Request, Commit, Undo, Redo, Empty}
@@ -89,7 +87,7 @@ abbrev pub Replies : BookState → List Rule → Request → Result Told Refusal
 Replies b rules (Commit p) reply =
     let unmet = least_unmet (held b.live) p.change in
     (IsWellFormed p.change →
-    Answers (commit_refusal b.events p) rules (event_outline b.events (Commit p)) (option_map Unmet unmet)
+    Answers (commit_refusal b.events p) rules (event_outline b (Commit p)) (option_map Unmet unmet)
     (told_of b.events (Commit p)) reply)
     × (¬ IsWellFormed p.change → reply ≡ Err Malformed)
 Replies b rules (Undo n) reply =
@@ -97,10 +95,10 @@ Replies b rules (Undo n) reply =
     RefusesOrTells (undo_refusal b.events n broken) (told_of b.events (Undo n)) reply
 Replies b rules (Redo n) reply =
     let broken = first_break (kept_with b.events n) b.opening in
-    Answers (redo_refusal b.events n) rules (event_outline b.events (Redo n)) (option_map Blocked broken)
+    Answers (redo_refusal b.events n) rules (event_outline b (Redo n)) (option_map Blocked broken)
     (told_of b.events (Redo n)) reply
 Replies b rules (Empty n) reply =
-    Answers (empty_refusal b.events n) rules (event_outline b.events (Empty n)) None (told_of b.events (Empty n)) reply
+    Answers (empty_refusal b.events n) rules (event_outline b (Empty n)) None (told_of b.events (Empty n)) reply
 
 -- change n is taken back where the others, in their order, can be made of the opening, and what they make of it is left, unless memory runs out; else the first that can't be made is named
 abbrev pub TakesBack : BookState → ℕ → Result Told Refusal → Repository → Type 0
@@ -113,29 +111,6 @@ TakesBack b n reply left =
 -- nothing leans on the change, and where it is taken back the repository is as it was
 abbrev pub Restores : Repository → Result Told Refusal → Repository → Type 0
 Restores was reply left = ((m : ℕ) → reply ≢ Err (LeanedOn m)) × OnOk reply (left ≡ was)
-
--- the opening after an accepted request: an emptying moves it over the changes that become final
-abbrev pub opening_after : BookState → Request → Repository
-opening_after b (Commit p) = b.opening
-opening_after b (Undo n) = b.opening
-opening_after b (Redo n) = b.opening
-opening_after b (Empty n) = fold_of (up_to b.events n) b.opening
-
--- the event of an accepted request: an emptying's has the marks of the opening after it
-abbrev pub event_of : BookState → Request → Event
-event_of b (Commit p) = event.Commit (last_change b.events + 1) p.change
-event_of b (Undo n) = event.Undo n
-event_of b (Redo n) = event.Redo n
-event_of b (Empty n) = event.Empty n (marks_of (opening_after b (Empty n)))
-
--- a book of these events over this opening: what its kept changes make of it is there
-abbrev pub book_of : Repository → Journal → BookState
-book_of opening j = record { opening = opening; events = j; live = fold_of (kept j) opening }
-
--- the book with the request's event
-abbrev pub with_event : BookState → Request → BookState
-with_event b request =
-    book_of (opening_after b request) (posted b.events (length_of b.events + 1) (event_of b request))
 
 -- an accepted request adds its event, and a refused one changes nothing
 abbrev pub state_after : BookState → Request → Result Told Refusal → BookState

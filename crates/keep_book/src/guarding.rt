@@ -21,7 +21,7 @@ pub(crate) fn outline_for<V: Guard>(
     change: &Change,
 ) -> Result<Option<Outline>, AllocError>
     ensures { let asked = outline_of what number change.now in
-        IfOk result (λ made. IsOutline (V.rules guard.now) (V.tallies guard.now) asked made) }
+        IfOk result (λ made. IsOutline (V.armed guard.now).vetoes (V.tallies guard.now) asked made) }
 {
     if guard.has_vetoes() || guard.has_watches() {
         return Ok(Some(Outline::of(alloc, what, number, change)?));
@@ -38,7 +38,7 @@ pub(crate) fn outline_at<V: Guard>(
     n: u64,
 ) -> Result<Option<Outline>, AllocError>
     ensures { let asked = outline_at history.now.journal what n in
-        IfOk result (λ made. IsOutline (V.rules guard.now) (V.tallies guard.now) asked made) }
+        IfOk result (λ made. IsOutline (V.armed guard.now).vetoes (V.tallies guard.now) asked made) }
 {
     match history.change(n) {
         Some(change) => outline_for(alloc, guard, what, n, change),
@@ -52,8 +52,8 @@ pub(crate) fn check_vetoes<V: Guard>(
     outline: &Result<Option<Outline>, AllocError>,
 ) -> Result<(), Refusal>
     ensures { (asked : Outline)
-        → IfOk outline.now (λ made. IsOutline (V.rules guard.now) (V.tallies guard.now) asked made)
-        → Vetoes (V.rules guard.now) asked result }
+        → IfOk outline.now (λ made. IsOutline (V.armed guard.now).vetoes (V.tallies guard.now) asked made)
+        → Vetoes (V.armed guard.now).vetoes asked result }
 {
     if !guard.has_vetoes() {
         return Ok(());
@@ -72,8 +72,8 @@ pub(crate) fn check_vetoes<V: Guard>(
 pub(crate) fn tell<V: Guard>(guard: &mut V, outline: Option<Outline>)
     requires small { All HasRoom (V.tallies guard.old) }
     requires few { IfSome outline (λ made. name_count made ≤ 2 ^ 20) }
-    ensures rules { V.rules guard.new ≡ V.rules guard.old }
-    ensures told { (asked : Outline) → IsOutline (V.rules guard.old) (V.tallies guard.old) asked outline
+    ensures armed { V.armed guard.new ≡ V.armed guard.old }
+    ensures told { (asked : Outline) → IsOutline (V.armed guard.old).vetoes (V.tallies guard.old) asked outline
         → V.tallies guard.new ≡ tallies_after asked (V.tallies guard.old) }
 {
     if let Some(outline) = outline {

@@ -5,10 +5,10 @@ ghost use Rattle.keep_journal.specs.Kept.{is_kept};
 ghost use Rattle.keep_journal.specs.Opening.{IsOpen};
 ghost use Rattle.keep_view.specs.Shown.{shown_of};
 ghost use Rattle.keep_book.specs.BookState.{BookState, JustCommitted, new_book};
-ghost use Rattle.keep_book.specs.Guarding.{AreCounted, tallies_told};
 ghost use Rattle.keep_book.specs.Limits.{event_limit};
 ghost use Rattle.keep_book.specs.Reply.{Replies, Restores, TakesBack, state_after};
 ghost use Rattle.keep_book.specs.Request as request;
+ghost use Rattle.keep_book.specs.Sums.{AreSums};
 
 use crate::checks::{check_blocked, check_commit, check_empty, check_met, check_redo, check_undo};
 use crate::guarding::{check_vetoes, outline_at, outline_for, tell};
@@ -23,7 +23,7 @@ use std::alloc::{AllocError, Global};
 use std::marker::Model;
 
 /// A repository under numbered changes. Each call that changes it is lent the vetoes that may refuse the event and
-/// the watches that are told of it.
+/// the watches that are told of it, whose totals are sums over the events since each was armed, and stay so.
 #[derive(Drop)]
 pub struct Ledger {
     pub(crate) alloc: Global,
@@ -52,7 +52,7 @@ impl Model for Ledger {
 }
 
 impl Ledger {
-    /// A book over this repository, without changes.
+    /// A ledger over this repository, without changes.
     pub fn new(alloc: Global, opening: Repo) -> Ledger
         ensures { result ≡ new_book opening }
     {
@@ -93,7 +93,7 @@ impl Ledger {
         self.live.hash_all();
     }
 
-    /// The live repository, the snapshots that the book knows, and the number of the last event. It
+    /// The live repository, the snapshots that it knows, and the number of the last event. It
     /// takes no memory.
     pub fn view(&self) -> View<'_>
         ensures { result ≡ shown_of self.now.opening self.now.events self.now.live }
@@ -114,14 +114,12 @@ impl Ledger {
     /// these that holds, and nothing is changed then. Where there is a veto, want of memory may be found before
     /// `Vetoed` and `Unmet` are.
     pub fn commit<V: Guard>(&mut self, guard: &mut V, planned: Planned) -> Result<Told, Refusal>
-        requires counted { AreCounted self.old.events (V.tallies guard.old) }
-        ensures reply { Replies self.old (V.rules guard.old) (request.Commit planned) result }
+        requires sums { AreSums self.old.events (V.armed guard.old).watches (V.tallies guard.old) }
+        ensures reply { Replies self.old (V.armed guard.old).vetoes (request.Commit planned) result }
         ensures after { self.new ≡ state_after self.old (request.Commit planned) result }
         ensures made { IfOk result (λ told. JustCommitted self.old told.number self.new) }
-        ensures rules { V.rules guard.new ≡ V.rules guard.old }
-        ensures told { V.tallies guard.new
-            ≡ tallies_told self.old.events (request.Commit planned) result (V.tallies guard.old) }
-        ensures counted { AreCounted self.new.events (V.tallies guard.new) }
+        ensures hooks { V.armed guard.new ≡ V.armed guard.old }
+        ensures sums { AreSums self.new.events (V.armed guard.new).watches (V.tallies guard.new) }
     {
         check_commit(self.history(), &planned)?;
         let number = self.history().last_change() + 1;
@@ -137,8 +135,8 @@ impl Ledger {
     /// Takes the change back. It is refused as `Unknown`, `Final`, `NotInForce`, `Full`,
     /// `LeanedOn` or `Memory`, the first of these that holds, and nothing is changed then. No veto is asked.
     pub fn undo<V: Guard>(&mut self, guard: &mut V, n: u64) -> Result<Told, Refusal>
-        requires counted { AreCounted self.old.events (V.tallies guard.old) }
-        ensures reply { Replies self.old (V.rules guard.old) (request.Undo n) result }
+        requires sums { AreSums self.old.events (V.armed guard.old).watches (V.tallies guard.old) }
+        ensures reply { Replies self.old (V.armed guard.old).vetoes (request.Undo n) result }
         ensures after { self.new ≡ state_after self.old (request.Undo n) result }
 
         // A change in force that isn't final is taken back where the others, in their order, can be
@@ -150,23 +148,19 @@ impl Ledger {
         ensures restores { (before : BookState) → JustCommitted before n self.old →
             Restores before.live result self.new.live }
 
-        ensures rules { V.rules guard.new ≡ V.rules guard.old }
-        ensures told { V.tallies guard.new
-            ≡ tallies_told self.old.events (request.Undo n) result (V.tallies guard.old) }
-        ensures counted { AreCounted self.new.events (V.tallies guard.new) }
+        ensures hooks { V.armed guard.new ≡ V.armed guard.old }
+        ensures sums { AreSums self.new.events (V.armed guard.new).watches (V.tallies guard.new) }
     {
         self.take_back(guard, n)
     }
 
     fn take_back<V: Guard>(&mut self, guard: &mut V, n: u64) -> Result<Told, Refusal>
-        requires counted { AreCounted self.old.events (V.tallies guard.old) }
-        ensures reply { Replies self.old (V.rules guard.old) (request.Undo n) result }
+        requires sums { AreSums self.old.events (V.armed guard.old).watches (V.tallies guard.old) }
+        ensures reply { Replies self.old (V.armed guard.old).vetoes (request.Undo n) result }
         ensures after { self.new ≡ state_after self.old (request.Undo n) result }
         ensures numbered { IsNumbered self.old.events }
-        ensures rules { V.rules guard.new ≡ V.rules guard.old }
-        ensures told { V.tallies guard.new
-            ≡ tallies_told self.old.events (request.Undo n) result (V.tallies guard.old) }
-        ensures counted { AreCounted self.new.events (V.tallies guard.new) }
+        ensures hooks { V.armed guard.new ≡ V.armed guard.old }
+        ensures sums { AreSums self.new.events (V.armed guard.new).watches (V.tallies guard.new) }
     {
         check_undo(self.history(), n)?;
         let outline = outline_at(self.alloc, guard, self.history(), What::Undo, n)?;
@@ -179,13 +173,11 @@ impl Ledger {
     /// `Blocked` or `Memory`, the first of these that holds, and nothing is changed then. Where there is a veto,
     /// want of memory may be found before `Vetoed` and `Blocked` are.
     pub fn redo<V: Guard>(&mut self, guard: &mut V, n: u64) -> Result<Told, Refusal>
-        requires counted { AreCounted self.old.events (V.tallies guard.old) }
-        ensures reply { Replies self.old (V.rules guard.old) (request.Redo n) result }
+        requires sums { AreSums self.old.events (V.armed guard.old).watches (V.tallies guard.old) }
+        ensures reply { Replies self.old (V.armed guard.old).vetoes (request.Redo n) result }
         ensures after { self.new ≡ state_after self.old (request.Redo n) result }
-        ensures rules { V.rules guard.new ≡ V.rules guard.old }
-        ensures told { V.tallies guard.new
-            ≡ tallies_told self.old.events (request.Redo n) result (V.tallies guard.old) }
-        ensures counted { AreCounted self.new.events (V.tallies guard.new) }
+        ensures hooks { V.armed guard.new ≡ V.armed guard.old }
+        ensures sums { AreSums self.new.events (V.armed guard.new).watches (V.tallies guard.new) }
     {
         check_redo(self.history(), n)?;
         let outline = outline_at(self.alloc, guard, self.history(), What::Redo, n);
@@ -201,14 +193,12 @@ impl Ledger {
     /// as `Unknown`, `Final`, `Full`, `Vetoed` or `Memory`, the first of these that holds, and nothing is
     /// changed then. Where there is a veto, want of memory may be found before `Vetoed` is.
     pub fn empty<V: Guard>(&mut self, guard: &mut V, n: u64) -> Result<Told, Refusal>
-        requires counted { AreCounted self.old.events (V.tallies guard.old) }
-        ensures reply { Replies self.old (V.rules guard.old) (request.Empty n) result }
+        requires sums { AreSums self.old.events (V.armed guard.old).watches (V.tallies guard.old) }
+        ensures reply { Replies self.old (V.armed guard.old).vetoes (request.Empty n) result }
         ensures after { self.new ≡ state_after self.old (request.Empty n) result }
         ensures live { self.new.live ≡ self.old.live }
-        ensures rules { V.rules guard.new ≡ V.rules guard.old }
-        ensures told { V.tallies guard.new
-            ≡ tallies_told self.old.events (request.Empty n) result (V.tallies guard.old) }
-        ensures counted { AreCounted self.new.events (V.tallies guard.new) }
+        ensures hooks { V.armed guard.new ≡ V.armed guard.old }
+        ensures sums { AreSums self.new.events (V.armed guard.new).watches (V.tallies guard.new) }
     {
         check_empty(self.history(), n)?;
         let outline = Ok(Some(Outline::of_empty(self.alloc, n)));

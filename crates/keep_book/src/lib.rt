@@ -6,15 +6,14 @@ mod checks;
 mod dependents;
 mod guarding;
 mod hooks;
-mod laws;
 mod ledger;
 mod making;
+mod not_armed;
 mod opening_marks;
 mod place;
 mod reply;
 
-pub use book::{Book, NotArmed};
-pub use hooks::Hooks;
-pub use laws::totals_are_sums;
+pub use book::Book;
 pub use ledger::Ledger;
+pub use not_armed::NotArmed;
 pub use reply::{Refusal, Told};

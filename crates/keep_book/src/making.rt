@@ -11,7 +11,8 @@ ghost use Rattle.keep_book.specs.Limits.{change_limit, event_limit};
 ghost use Rattle.keep_change.specs.Limits.{facet_limit};
 ghost use Rattle.keep_change.specs.Touch.{facets};
 ghost use Rattle.keep_book.specs.Dependents.{blocked_by, leaned_on};
-ghost use Rattle.keep_book.specs.Reply.{empty_refusal, redo_refusal, told_of, undo_refusal, with_event};
+ghost use Rattle.keep_book.specs.Made.{with_event};
+ghost use Rattle.keep_book.specs.Reply.{empty_refusal, redo_refusal, told_of, undo_refusal};
 ghost use Rattle.keep_book.specs.Request as request;
 
 use crate::ledger::Ledger;

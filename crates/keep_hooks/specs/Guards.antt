@@ -17,11 +17,31 @@ pub record Rule : Type 0 where
 abbrev pub first_refusing : List Rule → Outline → Option (List ℕ)
 first_refusing rules o = option_map (λ (rule : Rule). rule.name) (find (λ rule. refuses rule.limit o) rules)
 
--- a watch: its name, what it counts, and its total so far
+-- a watch: its name, and what it counts
+pub record WatchData : Type 0 where
+  pub name : List ℕ
+  pub measure : Measure
+
+-- a watch that is armed: its name, what it counts, and the length of the history at which it was armed
+pub record ArmedData : Type 0 where
+  pub name : List ℕ
+  pub measure : Measure
+  pub since : ℕ
+
+-- what is armed, without totals: vetoes and watches, each list in the order in which they were armed
+pub record HooksData : Type 0 where
+  pub vetoes : List Rule
+  pub watches : List ArmedData
+
+-- an armed watch's name, what it counts, and its total so far
 pub record Tally : Type 0 where
   pub name : List ℕ
   pub measure : Measure
   pub total : ℕ
+
+-- a watch's name and what it counts, and the total of no events
+abbrev pub untold : WatchData → Tally
+untold watch = record { name = watch.name; measure = watch.measure; total = 0 }
 
 -- the total has room for more events
 abbrev pub HasRoom : Tally → Type 0

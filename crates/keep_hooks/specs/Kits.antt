@@ -2,8 +2,8 @@
 use Rattle.std.specs.Prelude.{ℕ, List, Option, map, option_map, string_bytes}
 use Rattle.std.specs.List.{find}
 use Rattle.std.specs.Str.{bytes_eq}
-use Rattle.keep_hooks.specs.Guards.{Rule, Tally}
-use Rattle.keep_hooks.specs.Rules.{rules_of, tallies_of}
+use Rattle.keep_hooks.specs.Guards.{Rule, WatchData}
+use Rattle.keep_hooks.specs.Rules.{rules_of, watches_of}
 use Rattle.keep_hooks.specs.declared.filter.Filter.{Filter}
 use Rattle.keep_hooks.specs.declared.kit.Kit.{Kit}
 use Rattle.keep_hooks.specs.declared.pick.Pick.{Pick}
@@ -27,12 +27,12 @@ rule_named name filters = option_map (λ named. named.1) (find (λ named. bytes_
 pub record KitData : Type 0 where
   pub filters : List NamedRule
   pub vetoes : List Rule
-  pub watches : List Tally
+  pub watches : List WatchData
 
 -- the same without the questions that they are stored with
 abbrev pub kit_view : {I J K F G H f g h : _} → Kit I J K F G H f g h → KitData
 kit_view kit = record {
   filters = filters_of kit;
   vetoes = rules_of kit.vetoes.items;
-  watches = tallies_of kit.watches.items;
+  watches = watches_of kit.watches.items;
 }

@@ -9,30 +9,30 @@ use std::alloc::AllocError;
 
 /// What is asked before an event is made, and told of it after.
 pub trait Guard: Drop + Send {
-    ghost use Rattle.keep_hooks.specs.Guards.{Rule, Tally};
+    ghost use Rattle.keep_hooks.specs.Guards.{HooksData, Tally};
     ghost use Rattle.std.specs.Prelude.{List};
 
-    /// The names and limits of its vetoes, in order.
-    ghost rules: { Self → List Rule };
+    /// Its vetoes and watches, without totals.
+    ghost armed: { Self → HooksData };
 
     /// The names of its watches, what they count, and their totals, in order.
     ghost tallies: { Self → List Tally };
 
     fn has_vetoes(&self) -> bool
-        ensures { result ≡ nat_lt 0 (length (rules self.now)) };
+        ensures { result ≡ nat_lt 0 (length (armed self.now).vetoes) };
 
     fn has_watches(&self) -> bool
         ensures { result ≡ nat_lt 0 (length (tallies self.now)) };
 
     /// The name of the first veto that refuses the event.
     fn first(&self, outline: &Outline) -> Result<Option<HookName>, AllocError>
-        ensures { IfOk result (λ name. name ≡ first_refusing (rules self.now) outline.now) };
+        ensures { IfOk result (λ name. name ≡ first_refusing (armed self.now).vetoes outline.now) };
 
     /// Tells each watch of the event.
     fn tell(&mut self, outline: &Outline)
         requires small { All HasRoom (tallies self.old) }
         requires few { name_count outline.now ≤ 2 ^ 20 }
-        ensures rules { rules self.new ≡ rules self.old }
+        ensures armed { armed self.new ≡ armed self.old }
         ensures told { tallies self.new ≡ tallies_after outline.now (tallies self.old) };
 }
 
@@ -41,7 +41,7 @@ pub trait Guard: Drop + Send {
 pub struct NoHooks {}
 
 impl Guard for NoHooks {
-    ghost rules = { λ _. [] };
+    ghost armed = { λ _. record { vetoes = []; watches = [] } };
 
     ghost tallies = { λ _. [] };
 

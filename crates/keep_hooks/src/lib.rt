@@ -2,6 +2,7 @@
 //! vetoes, questions that refuse an event before it is made; watches, counts over the events that were made.
 #![tactic(auto)]
 
+mod armed_watch;
 mod filter;
 mod guard;
 mod hook_name;
@@ -14,6 +15,7 @@ mod veto;
 mod watch;
 mod written;
 
+pub use armed_watch::ArmedWatch;
 pub use filter::{AskFacts, Filter};
 pub use guard::{Guard, NoHooks};
 pub use hook_name::HookName;

@@ -14,6 +14,7 @@ use Rattle.keep_change.specs.declared.change.PackMark.{PackMark}
 use Rattle.keep_journal.specs.History.{committed, last_change, change_of, in_force_after, is_in_force, final_after, final_number, length_of, AscendFrom, ComeInTurn, ComesNext, CountsFrom, Fits, IsLegal, IsNumbered}
 use Rattle.keep_journal.specs.Event.{commit_of}
 use Rattle.keep_journal.specs.Journal.{Journal, posted}
+use Rattle.keep_journal.specs.Opening.{last_marks, marks_after}
 use Rattle.keep_journal.specs.declared.event.Entry.{Entry}
 use Rattle.keep_journal.specs.declared.event.Event.{Event}
 use Rattle.keep_journal.specs.declared.event.Event.TheVariants.{Commit, Undo, Redo, Empty}
@@ -50,6 +51,9 @@ last_change-Empty j k n marks = ap (λ ns. j.base + length ns) (committed-Empty 
 pub is_in_force-push : (j : Journal) (k : ℕ) (e : Event) (m : ℕ)
     → is_in_force (posted j k e) m ≡ in_force_after m (is_in_force j m) e
 is_in_force-push j k e m = fold-append (λ before x. in_force_after m before x.event) false j.entries (record { at = k; event = e } ∷ [])
+
+pub last_marks-push : (j : Journal) (k : ℕ) (e : Event) → last_marks (posted j k e) ≡ marks_after (last_marks j) e
+last_marks-push j k e = fold-append (λ before x. marks_after before x.event) None j.entries (record { at = k; event = e } ∷ [])
 
 pub final_number-push : (j : Journal) (k : ℕ) (e : Event) → final_number (posted j k e) ≡ final_after (final_number j) e
 final_number-push j k e = fold-append (λ before x. final_after before x.event) j.base j.entries (record { at = k; event = e } ∷ [])

@@ -64,7 +64,7 @@ abbrev pub Fits : Journal → Event → Type 0
 Fits j (Commit n c) = n ≡ last_change j + 1
 Fits j (Undo n) = (final_number j < n) × (n ≤ last_change j) × (is_in_force j n ≡ true)
 Fits j (Redo n) = (final_number j < n) × (n ≤ last_change j) × (is_in_force j n ≡ false)
-Fits j (Empty n marks) = (final_number j ≤ n) × (n ≤ last_change j)
+Fits j (Empty n marks) = (final_number j < n) × (n ≤ last_change j)
 
 -- the entry can come next: its number is above those before it, and its event fits
 pub record ComesNext (j : Journal) (e : Entry) : Type 0 where

@@ -1,14 +1,18 @@
 -- The repository under a history: what the changes that can still be undone were made of.
-use Rattle.std.specs.Prelude.{◌≡◌, ◌≤◌, List, [], ◌∷◌, length, None, All}
+use Rattle.std.specs.Prelude.{◌≡◌, ◌≤◌, List, [], ◌∷◌, length, fold, Option, Some, None, All, IfSome}
 use Rattle.keep_repo.specs.Repository.{Repository}
 use Rattle.keep_change.specs.Fold.{Numbered, first_break, fold_of}
 use Rattle.keep_change.specs.Form.{IsWellFormed}
 use Rattle.keep_change.specs.Limits.{facet_limit}
+use Rattle.keep_change.specs.Marks.{marks_of}
 use Rattle.keep_change.specs.Result.{result_of, reverse_of}
 use Rattle.keep_change.specs.Touch.{facets}
+use Rattle.keep_change.specs.declared.change.PackMark.{PackMark}
 use Rattle.keep_journal.specs.History.{committed, IsLegal, IsNumbered}
 use Rattle.keep_journal.specs.Journal.{Journal}
 use Rattle.keep_journal.specs.Kept.{kept}
+use Rattle.keep_journal.specs.declared.event.Event.{Event}
+use Rattle.keep_journal.specs.declared.event.Event.TheVariants.{Commit, Undo, Redo, Empty}
 
 -- the repository with these changes taken back, the last first
 abbrev pub unfold_of : List Numbered → Repository → Repository
@@ -27,7 +31,16 @@ AreWellFormed j = All (λ n. IsWellFormed n.change) (committed j)
 abbrev pub AreWithinLimit : Journal → Type 0
 AreWithinLimit j = All (λ n. length (facets n.change) ≤ facet_limit) (committed j)
 
--- the events are numbered and legal, and the kept changes can be made of the opening in turn, and make the live repository
+-- the marks of the last emptying after the event
+abbrev pub marks_after : Option (List PackMark) → Event → Option (List PackMark)
+marks_after before (Empty n marks) = Some marks
+marks_after before _ = before
+
+-- the marks that the last emptying has, none where there was no emptying
+abbrev pub last_marks : Journal → Option (List PackMark)
+last_marks j = fold (λ before e. marks_after before e.event) None j.entries
+
+-- the events are numbered and legal; the kept changes can be made of the opening in turn, and make the live repository; the opening's marks are those of the last emptying
 pub record IsOpen (opening : Repository) (j : Journal) (live : Repository) : Type 0 where
   pub numbered : IsNumbered j
   pub legal : IsLegal j
@@ -35,3 +48,4 @@ pub record IsOpen (opening : Repository) (j : Journal) (live : Repository) : Typ
   pub within : AreWithinLimit j
   pub unbroken : first_break (kept j) opening ≡ None
   pub state : live ≡ fold_of (kept j) opening
+  pub marks : IfSome (last_marks j) (λ marks. marks ≡ marks_of opening)

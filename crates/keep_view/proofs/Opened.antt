@@ -26,6 +26,7 @@ open_alone j r none =
       within = All-nil _;
       unbroken = refl;
       state = refl;
+      marks = tt;
     })
 
 -- and its snapshots are known

@@ -5,7 +5,8 @@ use Rattle.keep_change.specs.declared.outline.What.TheVariants.{Commit}
 use Rattle.keep_journal.specs.History.{last_change}
 use Rattle.keep_book.proofs.Replying.{accepted, answers_told, no_memory, refused_by_veto, refused_late}
 use Rattle.keep_book.specs.Request as request
-use Rattle.keep_book.proofs.Totals.{counted_after, few_names, names_of, one_more}
+use Rattle.keep_book.proofs.Sums.{sums_told}
+use Rattle.keep_book.proofs.Totals.{few_names, have_room, names_of}
 use Rattle.keep_book.proofs.ledger.Ledger.commit.Goals as goal
 
 pub returns-in_err-check_vetoes-clause-reply : goal.returns-in_err-check_vetoes-clause-reply
@@ -55,8 +56,12 @@ returns-clause-reply g c =
       λ malformed. absurd (malformed c.in_ok-check_commit.ensures.well_formed),
     )
 
-pub returns-clause-counted : goal.returns-clause-counted
-returns-clause-counted g c =
-    rw (c.tell.ensures.told _ (rw c.in_ok-outline.was at c.outline_for-outline.ensures))
-    (counted_after c.args.self.now.events c.make.new.self.events _ _ c.requires.counted
-    (omega (arith, names_of Commit (c.last_change-number.result + 1) c.args.planned.change, c.in_ok-check_commit.ensures.within)) (one_more c.args.self.now _ (request.Commit c.args.planned) c.in_ok-told.ensures.after))
+pub tell-requires-clause-small : goal.tell-requires-clause-small
+tell-requires-clause-small g c =
+    λ κs within. have_room _ _ _ _ _ c.history.ensures.open c.requires.sums (rw c.history.ensures.events at c.in_ok-check_commit.ensures.room)
+
+pub returns-clause-sums : goal.returns-clause-sums
+returns-clause-sums g c =
+    let next = ap (λ k. k + 1) (c.last_change-number.ensures.exact ∙ ap last_change c.history-2.ensures.events) in
+    rw (c.tell.ensures.armed, c.tell.ensures.told _ (rw (next, c.in_ok-outline.was) at c.outline_for-outline.ensures))
+    (sums_told c.args.self.now (request.Commit c.args.planned) c.history.ensures.open _ _ _ c.requires.sums c.in_ok-told.ensures.after)

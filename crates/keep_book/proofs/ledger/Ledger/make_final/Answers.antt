@@ -24,7 +24,7 @@ written : (c : goal.After-post) → WrittenBack (fold_of (up_to c.self.inside.hi
 written c =
     let can = can_empty c.self.inside.history.journal c.args.n (rw (← c.self.view_is) at c.requires.free) in
     written_back _ _ _ _
-    (open-Empty _ c.self.inside.history.journal c.self.inside.live _ c.args.n _ c.self.invariant (omega arith) (omega (arith, can.above)) (is_change_parts c.self.inside.history.journal c.args.n can.change).1)
+    (open-Empty _ c.self.inside.history.journal c.self.inside.live _ c.args.n _ c.self.invariant (omega arith) (omega (arith, can.above)) (is_change_parts c.self.inside.history.journal c.args.n can.change).1 refl)
     (c.post.ensures.events ∙ rw (c.in_ok-reserve.ensures.same, marks_are c) refl)
 
 pub invariant_of-self-2 : goal.invariant_of-self-2

@@ -3,7 +3,8 @@ use Rattle.std.proofs.lemmas.Result.{err_from_is_err_and}
 use Rattle.keep_change.specs.declared.outline.What.TheVariants.{Undo}
 use Rattle.keep_book.proofs.Replying.{accepted, refused, replies_memory, replies_told}
 use Rattle.keep_book.specs.Request as request
-use Rattle.keep_book.proofs.Totals.{counted_after, few_names, names_at, one_more}
+use Rattle.keep_book.proofs.Sums.{sums_told}
+use Rattle.keep_book.proofs.Totals.{few_names, have_room, names_at}
 use Rattle.keep_book.proofs.Undoing.{same_undo_refusal}
 use Rattle.keep_book.proofs.ledger.Ledger.take_back.Goals as goal
 
@@ -30,7 +31,11 @@ pub returns-clause-reply : goal.returns-clause-reply
 returns-clause-reply g c =
     rw (same_undo_refusal _ _ _ c.history.ensures.open c.args.n) (replies_told _ _ _ (accepted _ (rw c.history.ensures.events at c.in_ok-check_undo.ensures.refusal)) c.in_ok-told.ensures.told)
 
-pub returns-clause-counted : goal.returns-clause-counted
-returns-clause-counted g c =
-    rw (c.tell.ensures.told _ (rw c.history-2.ensures.events at c.in_ok-outline.ensures))
-    (counted_after c.args.self.now.events c.unmake.new.self.events _ _ c.requires.counted (names_at c.args.self.now.events Undo c.args.n c.history.ensures.open.within) (one_more c.args.self.now _ (request.Undo c.args.n) c.in_ok-told.ensures.after))
+pub tell-requires-clause-small : goal.tell-requires-clause-small
+tell-requires-clause-small g c =
+    λ κs within. have_room _ _ _ _ _ c.history.ensures.open c.requires.sums (rw c.history.ensures.events at c.in_ok-check_undo.ensures.room)
+
+pub returns-clause-sums : goal.returns-clause-sums
+returns-clause-sums g c =
+    rw (c.tell.ensures.armed, c.tell.ensures.told _ (rw c.history-2.ensures.events at c.in_ok-outline.ensures))
+    (sums_told c.args.self.now (request.Undo c.args.n) c.history.ensures.open _ _ _ c.requires.sums c.in_ok-told.ensures.after)
