@@ -2,7 +2,7 @@
 use Rattle.std.proofs.Common.{◌≡◌, ℕ, ◌-◌, Bool, true, false, ◌||◌, ltb, List, [], ◌∷◌, length, map, vec_len, refl, sym, ap, ap₂, true≢false, arith}
 use Rattle.std.proofs.lemmas.Bool.{ltb-false}
 use Rattle.std.specs.List.{list_any}
-use Rattle.keep_catalog.specs.Reach.{most_levels}
+use Rattle.keep_reach.specs.Reach.{most_levels}
 use Rattle.keep_backup.specs.Files.{file_view, paths_seen, seen}
 use Rattle.keep_backup.specs.Folders.{folder_at, root_folder}
 use Rattle.keep_backup.specs.Paths.{AreNamed, HaveNames, Path, is_too_deep}

@@ -1,5 +1,6 @@
 -- What a plan answers, by what was refused and what was stored.
-use Rattle.std.proofs.Common.{◌≡◌, ℕ, true, false, cond, List, [], map, Option, None, Some, Result, Ok, Err, is_none, option_map, slice_get, refl, sym, ap, subst, lit<, ◌∙◌}
+use Rattle.std.proofs.Common.{◌≡◌, ℕ, true, false, cond, List, [], ◌∷◌, String, length, map, Option, None, Some, Result, Ok, Err, is_none, option_map, slice_get, refl, sym, ap, subst, lit<, ◌∙◌}
+use Rattle.std.specs.Global.{Global, Vec}
 use Rattle.std.specs.List.{list_any}
 use Rattle.serde_json.specs.Written.{compact_text}
 use Rattle.keep_names.specs.declared.file_name.Kind.TheVariants.{Snapshot}
@@ -16,8 +17,9 @@ use Rattle.keep_catalog.specs.declared.catalog_error.CatalogError.TheVariants as
 use Rattle.keep_catalog.specs.declared.unread.Unread.{Unread}
 use Rattle.keep_backup.specs.Backup.{FactsData, backup_change, backup_of, change_of, planned, planned_of, snapshot_file, snapshot_of, stored_files_of}
 use Rattle.keep_backup.specs.Blobs.{is_full}
+use Rattle.keep_backup.specs.Files.{given_view}
 use Rattle.keep_backup.specs.Folders.{root_folder}
-use Rattle.keep_backup.specs.Paths.{FileData, files_in_order, is_too_deep, path_of}
+use Rattle.keep_backup.specs.Paths.{FileData, by_path, files_in_order, is_too_deep, path_of}
 use Rattle.keep_plan.specs.Refusal.{of_catalog}
 use Rattle.keep_plan.specs.Refusal.{unless, unread_first}
 use Rattle.keep_plan.specs.Settling.{is_there}
@@ -101,6 +103,13 @@ module _ (r : Repository) (facts : FactsData) (cut : ℕ) (given : List (List �
       change_made change absent change_is =
           with_snapshot ∙ ap (λ t. cond t (Err the_error.SnapshotThere) (Ok (change_of stored snapshot))) absent
           ∙ ap Ok (sym change_is)
+
+-- without files no path is refused before the time
+pub late_alone : (r : Repository) (facts : FactsData) (cut : ℕ) (files : List (String Global × Vec ℕ)) → length files ≡ 0 → is_none (time_in facts.time) ≡ true
+    → backup_change r facts cut (map given_view files) ≡ Err the_error.BadTime
+unfolding files_in_order
+late_alone r facts cut [] none bad = late r facts cut [] (by_path []) refl bad
+late_alone r facts cut (f ∷ fs) none bad = cc none
 
 -- ---- the snapshot
 

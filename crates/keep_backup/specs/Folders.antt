@@ -5,7 +5,7 @@ use Rattle.std.specs.List.{filter_map}
 use Rattle.std.specs.Ordering.{nat_cmp}
 use Rattle.std.specs.Str.{bytes_eq}
 use Rattle.keep_catalog.specs.Ordered.{in_order}
-use Rattle.keep_catalog.specs.Reach.{most_levels}
+use Rattle.keep_reach.specs.Reach.{most_levels}
 use Rattle.keep_backup.specs.Paths.{FileData, path_of}
 
 -- a folder: its nodes in order, each with its name, and a file with its bytes or a folder with what is in it

@@ -2,10 +2,8 @@ pub mod Backup
 pub mod Blobs
 pub mod Files
 pub mod Folders
-pub mod Kept
 pub mod Packs
 pub mod Paths
-pub mod Safe
 pub mod Stored
 pub mod Storing
 pub mod Walk

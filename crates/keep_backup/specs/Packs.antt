@@ -1,6 +1,6 @@
 -- How new blobs are cut into packs.
-use Rattle.std.specs.Prelude.{◌≡◌, ◌≢◌, ℕ, ◌-◌, ◌<◌, ◌≤◌, nat_le, List, [], ◌∷◌, length, take, All, if◌then◌else◌}
-use Rattle.std.specs.List.{flat_map, sum_by}
+use Rattle.std.specs.Prelude.{ℕ, ◌-◌, nat_le, List, [], ◌∷◌, length, if◌then◌else◌}
+use Rattle.std.specs.List.{sum_by}
 use Rattle.keep_backup.specs.Blobs.{BlobData}
 
 -- a pack with as many bytes of blobs gets no more
@@ -27,11 +27,3 @@ packs_from lacks (blob ∷ blobs) =
 -- the packs of these blobs, in order
 unfoldable pub packs_of : List BlobData → List (List BlobData)
 packs_of blobs = packs_from full_pack blobs
-
--- What the packs are: together the blobs in their order; each has some, and only with its last blob, if at
--- all, 16,777,216 bytes; and each but the last has them.
-pub record AreCut (blobs : List BlobData) (packs : List (List BlobData)) : Type 0 where
-  pub joined : flat_map (λ pack. pack) packs ≡ blobs
-  pub some : All (λ pack. pack ≢ []) packs
-  pub fronts : All (λ pack. (count : ℕ) → count < length pack → bytes_in (take count pack) < full_pack) packs
-  pub full : All (λ pack. full_pack ≤ bytes_in pack) (take (length packs - 1) packs)

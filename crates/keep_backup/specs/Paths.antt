@@ -8,7 +8,7 @@ use Rattle.std.specs.Str.{bytes_eq}
 use Rattle.std.specs.declared.cmp.Ordering.{Ordering}
 use Rattle.keep_docs.specs.Lists.{each}
 use Rattle.keep_tree.specs.Names.{is_name}
-use Rattle.keep_catalog.specs.Reach.{most_levels}
+use Rattle.keep_reach.specs.Reach.{most_levels}
 use Rattle.keep_plan.specs.declared.plan_error.PlanError.{PlanError}
 use Rattle.keep_plan.specs.declared.plan_error.PlanError.TheVariants.{BadPath, SamePathTwice}
 

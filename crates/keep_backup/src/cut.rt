@@ -1,7 +1,7 @@
 ghost use Rattle.std.specs.Prelude.{◌≡◌, ◌<◌, ◌≤◌};
 
 /// After how many bytes a file is cut into pieces: 1 to 8,388,608.
-#[derive(Clone, Copy, Debug)]
+#[derive(Clone, Copy)]
 pub struct Cut {
     bytes: u32,
     ghost in_range: { (0 < bytes) × (bytes ≤ 8_388_608) },

@@ -1,4 +1,4 @@
-ghost use Rattle.std.specs.Prelude.{◌≡◌, true, IfOk, is_none, map};
+ghost use Rattle.std.specs.Prelude.{◌≡◌, true, Err, IfOk, is_none, length, map};
 ghost use Rattle.keep_docs.specs.Doc.{Answers};
 ghost use Rattle.keep_repo.specs.Repository.{held};
 ghost use Rattle.keep_change.specs.Change.{is_met};
@@ -27,8 +27,33 @@ use std::alloc::{AllocError, Global};
 /// has is reused.
 ///
 /// The refusals in their order: `BadPath`, `SamePathTwice`, `BadTime`, `Unread`, `TooDeep`, `Full`,
-/// `SnapshotThere`.
+/// `SnapshotThere`. Where there are no files, `BadTime` is found before memory is taken.
+#[tactic(auto, using(crate::proofs::Planning::late_alone))]
 pub fn plan_backup(
+    alloc: Global,
+    view: &View,
+    files: &[(String, Vec<u8>)],
+    facts: &BackupFacts,
+    cut: Cut,
+) -> Result<Planned, PlanError>
+    ensures change { Answers the_error.Memory (λ planned. planned.change)
+        (backup_change view.now.repo (facts_view facts.now) cut.bytes (map given_view files.now)) result }
+    ensures seen { IfOk result (λ planned. planned.seen ≡ view.now.length) }
+    ensures well_formed { IfOk result (λ planned. IsWellFormed planned.change) }
+    ensures met { IfOk result (λ planned. is_met (held view.now.repo) planned.change ≡ true) }
+    ensures bad_time { length files.now ≡ 0 → is_none (time_in (facts_view facts.now).time) ≡ true
+        → result ≡ Err the_error.BadTime }
+{
+    if files.is_empty() {
+        if has_bad_time(facts) {
+            return Err(PlanError::BadTime);
+        }
+    }
+    plan_files(alloc, view, files, facts, cut)
+}
+
+// The same, where memory may run out before the time is looked at.
+fn plan_files(
     alloc: Global,
     view: &View,
     files: &[(String, Vec<u8>)],

@@ -1,4 +1,4 @@
-ghost use Rattle.std.specs.Prelude.{◌≡◌, ◌≢◌, true, false, List, [], ◌∷◌, ◌++◌, IfErr, IfOk, OnOk};
+ghost use Rattle.std.specs.Prelude.{◌≡◌, ◌≢◌, true, false, List, [], ◌∷◌, ◌++◌, Err, IfErr, IfOk, OnOk};
 ghost use Rattle.keep_names.specs.Sha256.{sha256};
 ghost use Rattle.keep_repo.specs.Repository.{Repository};
 ghost use Rattle.keep_plan.specs.declared.plan_error.PlanError.TheVariants.{Full, Memory};
@@ -49,13 +49,15 @@ impl<'a> Storing<'a> {
         }
     }
 
-    // Offers one more blob, and tells its id. It is hashed once.
+    // Offers one more blob, and tells its id. It is hashed once. One that is too long is refused before memory is
+    // taken.
     pub(crate) fn put(&mut self, blob_type: BlobType, bytes: Text<'a>) -> Result<Id, PlanError>
         ensures kept { OnOk result ((r : Repository) (offered : List BlobData) → Keeps r offered self.old
             → Keeps r (offered ++ (blob_type, text_bytes bytes.entry) ∷ []) self.new) }
         ensures id { IfOk result (λ id. id ≡ (blob_id_of (blob_type, text_bytes bytes.entry)).id) }
         ensures refused { IfErr result (λ error. error ≢ Memory
             → (error ≡ Full) × (is_full (blob_type, text_bytes bytes.entry) ≡ true)) }
+        ensures full { is_full (blob_type, text_bytes bytes.entry) ≡ true → result ≡ Err Full }
     {
         if bytes.len() >= 4_294_967_296 {
             return Err(PlanError::Full);

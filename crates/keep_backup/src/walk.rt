@@ -1,7 +1,7 @@
 ghost use Rattle.std.specs.Prelude.{◌≡◌, ◌≢◌, ◌-◌, ◌<◌, ◌≤◌, false, true, [], ◌∷◌, IfErr, IfOk, OnOk, Some, drop, length, map, take};
 ghost use Rattle.std.specs.List.{list_any};
 ghost use Rattle.serde_json.specs.Written.{has_float};
-ghost use Rattle.keep_catalog.specs.Reach.{most_levels};
+ghost use Rattle.keep_reach.specs.Reach.{most_levels};
 ghost use Rattle.keep_tree.specs.Tree.{node_view};
 ghost use Rattle.keep_tree.specs.Written.{tree_data};
 ghost use Rattle.keep_backup.specs.Blobs.{is_full};

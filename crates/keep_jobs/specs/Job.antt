@@ -1,5 +1,5 @@
 -- The changes that jobs ask for.
-use Rattle.std.specs.Prelude.{ℕ, ℤ, Bool, List, [], ◌∷◌, codes, map, string_bytes, Option, Some, None, Result, Ok, Err, unwrap_or}
+use Rattle.std.specs.Prelude.{ℕ, ℤ, Bool, false, is_none, List, [], ◌∷◌, codes, map, string_bytes, Option, Some, None, Result, Ok, Err, unwrap_or}
 use Rattle.keep_backup.specs.Backup.{FactsData, backup_change}
 use Rattle.keep_backup.specs.Files.{given_view}
 use Rattle.keep_change.specs.declared.change.Change.{Change}
@@ -55,6 +55,20 @@ no_memory = Refused Memory
 abbrev pub or_refused : Result Change PlanError → Result Change JobError
 or_refused (Ok change) = Ok change
 or_refused (Err refusal) = Err (Refused refusal)
+
+-- whether none of these filters has the name
+abbrev pub is_unnamed : List NamedRule → List ℕ → Bool
+is_unnamed filters name = is_none (rule_named name filters)
+
+-- whether the job goes by a filter, and none of these has its name
+abbrev pub has_no_filter : List NamedRule → Job → Bool
+has_no_filter filters (Backup backup) = false
+has_no_filter filters (Tag tag) = is_unnamed filters (string_bytes tag.filter)
+has_no_filter filters (Forget forget) = is_unnamed filters (string_bytes forget.filter)
+has_no_filter filters (Rewrite rewrite) = is_unnamed filters (string_bytes rewrite.filter)
+has_no_filter filters Repair = false
+has_no_filter filters Mark = false
+has_no_filter filters (Sweep wait) = false
 
 -- what is planned by the rule, if there is one
 abbrev pub by_rule : Option Pick → (Pick → Result Change PlanError) → Result Change JobError

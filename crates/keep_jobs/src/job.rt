@@ -2,7 +2,7 @@ use keep_backup::Cut;
 use keep_labels::Count;
 
 /// What all jobs of a run go by.
-#[derive(Clone, Copy, Debug)]
+#[derive(Clone, Copy)]
 pub struct Settings {
     /// How backups cut files.
     pub cut: Cut,
@@ -12,7 +12,7 @@ pub struct Settings {
 }
 
 /// What one planner is asked for.
-#[derive(Debug, Drop)]
+#[derive(Drop)]
 pub enum Job {
     Backup(Backup),
     Tag(Tag),
@@ -27,7 +27,7 @@ pub enum Job {
 }
 
 /// Files to back up as a new snapshot.
-#[derive(Debug, Drop)]
+#[derive(Drop)]
 pub struct Backup {
     pub host: String,
     /// As RFC 3339 writes it.
@@ -37,7 +37,7 @@ pub struct Backup {
 }
 
 /// Other tags for the snapshots that a filter takes.
-#[derive(Debug, Drop)]
+#[derive(Drop)]
 pub struct Tag {
     /// The filter's name.
     pub filter: String,
@@ -45,7 +45,7 @@ pub struct Tag {
 }
 
 /// Snapshots to drop, of those that a filter takes: the ones that no rule keeps.
-#[derive(Debug, Drop)]
+#[derive(Drop)]
 pub struct Forget {
     /// The filter's name.
     pub filter: String,
@@ -53,7 +53,7 @@ pub struct Forget {
 }
 
 /// Snapshots to make anew without what the patterns match, of those that a filter takes.
-#[derive(Debug, Drop)]
+#[derive(Drop)]
 pub struct Rewrite {
     /// The filter's name.
     pub filter: String,
@@ -64,7 +64,7 @@ pub struct Rewrite {
 }
 
 /// A part of an edit of tags.
-#[derive(Debug, Drop)]
+#[derive(Drop)]
 pub enum TagWord {
     Add(String),
     Remove(String),
@@ -73,7 +73,7 @@ pub enum TagWord {
 }
 
 /// A part of a policy of forget.
-#[derive(Debug, Drop)]
+#[derive(Drop)]
 pub enum Rule {
     Last(Count),
     Daily(Count),
@@ -85,7 +85,7 @@ pub enum Rule {
 }
 
 /// What a rule counts, if it counts.
-#[derive(Clone, Copy, Debug, PartialEq, Eq)]
+#[derive(Clone, Copy)]
 pub enum Span {
     Last,
     Day,

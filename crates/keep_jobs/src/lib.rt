@@ -3,6 +3,7 @@
 
 mod edits;
 mod error;
+mod filters;
 mod job;
 mod patterns;
 mod planning;

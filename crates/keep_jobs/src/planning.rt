@@ -1,15 +1,17 @@
-ghost use Rattle.std.specs.Prelude.{◌≡◌, IfOk, true};
+ghost use Rattle.std.specs.Prelude.{◌≡◌, Err, IfOk, string_bytes, true};
 ghost use Rattle.keep_backup.specs.Backup.{facts_view};
 ghost use Rattle.keep_change.specs.Change.{is_met};
 ghost use Rattle.keep_change.specs.Form.{IsWellFormed};
 ghost use Rattle.keep_docs.specs.Doc.{Answers};
 ghost use Rattle.keep_hooks.specs.Kits.{filters_of};
 ghost use Rattle.keep_jobs.specs.Job as spec;
-ghost use Rattle.keep_jobs.specs.Job.{forgetting, job_change, no_memory, or_refused, rewriting, settings_view, tagging};
+ghost use Rattle.keep_jobs.specs.Job.{forgetting, has_no_filter, is_unnamed, job_change, no_memory, or_refused, rewriting, settings_view, tagging};
+ghost use Rattle.keep_jobs.specs.declared.error.JobError.TheVariants.{NoFilter};
 ghost use Rattle.keep_repo.specs.Repository.{held};
 
 use crate::edits::edit_of;
 use crate::error::JobError;
+use crate::filters::filter_named;
 use crate::job::{Backup, Forget, Job, Rewrite, Settings, Tag};
 use crate::patterns::patterns_of;
 use crate::policies::policy_of;
@@ -23,7 +25,7 @@ use keep_view::View;
 use std::alloc::{AllocError, Global};
 
 /// The change that the job asks for, planned on what the view shows, or its planner's refusal. Where the kit has no
-/// filter of the job's name nothing is planned.
+/// filter of the job's name nothing is planned; that is found before memory is taken.
 pub fn plan(
     alloc: Global,
     view: &View,
@@ -36,6 +38,7 @@ pub fn plan(
     ensures seen { IfOk result (λ planned. planned.seen ≡ view.now.length) }
     ensures well_formed { IfOk result (λ planned. IsWellFormed planned.change) }
     ensures met { IfOk result (λ planned. is_met (held view.now.repo) planned.change ≡ true) }
+    ensures no_filter { has_no_filter (filters_of kit.now) job.now ≡ true → result ≡ Err NoFilter }
 {
     match job {
         Job::Backup(backup) => back_up(alloc, view, settings, backup),
@@ -68,13 +71,17 @@ fn back_up(
 fn facts_of(alloc: Global, backup: &Backup) -> Result<BackupFacts, AllocError>
     ensures { IfOk result (λ facts. facts_view facts ≡ spec.facts_of backup.now) }
 {
-    let mut paths = Vec::with_capacity(alloc, 1)?;
-    paths.push(String::from_str(alloc, "/")?)?;
+    let root = String::from_str(alloc, "/")?;
+    let mut paths = Vec::new(alloc);
+    paths.push(root)?;
+    let host = backup.host.clone()?;
+    let user = String::from_str(alloc, "keep")?;
+    let time = backup.time.clone()?;
     Ok(BackupFacts {
-        host: backup.host.clone()?,
-        user: String::from_str(alloc, "keep")?,
+        host,
+        user,
         paths,
-        time: backup.time.clone()?,
+        time,
     })
 }
 
@@ -84,14 +91,11 @@ fn change_tags(alloc: Global, view: &View, kit: &Kit, tag: &Tag) -> Result<Plann
     ensures seen { IfOk result (λ planned. planned.seen ≡ view.now.length) }
     ensures well_formed { IfOk result (λ planned. IsWellFormed planned.change) }
     ensures met { IfOk result (λ planned. is_met (held view.now.repo) planned.change ≡ true) }
+    ensures no_filter { is_unnamed (filters_of kit.now) (string_bytes tag.now.filter) ≡ true → result ≡ Err NoFilter }
 {
-    for filter in &kit.filters {
-        if filter.name.as_str() == tag.filter.as_str() {
-            let edit = edit_of(alloc, &tag.words)?;
-            return Ok(plan_tag(alloc, view, filter, &edit)?);
-        }
-    }
-    Err(JobError::NoFilter)
+    let filter = filter_named(kit, tag.filter.as_str()).ok_or(JobError::NoFilter)?;
+    let edit = edit_of(alloc, &tag.words)?;
+    Ok(plan_tag(alloc, view, filter, &edit)?)
 }
 
 fn forget_some(alloc: Global, view: &View, kit: &Kit, forget: &Forget) -> Result<Planned, JobError>
@@ -100,14 +104,11 @@ fn forget_some(alloc: Global, view: &View, kit: &Kit, forget: &Forget) -> Result
     ensures seen { IfOk result (λ planned. planned.seen ≡ view.now.length) }
     ensures well_formed { IfOk result (λ planned. IsWellFormed planned.change) }
     ensures met { IfOk result (λ planned. is_met (held view.now.repo) planned.change ≡ true) }
+    ensures no_filter { is_unnamed (filters_of kit.now) (string_bytes forget.now.filter) ≡ true → result ≡ Err NoFilter }
 {
-    for filter in &kit.filters {
-        if filter.name.as_str() == forget.filter.as_str() {
-            let policy = policy_of(alloc, &forget.rules)?;
-            return Ok(plan_forget(alloc, view, filter, &policy)?);
-        }
-    }
-    Err(JobError::NoFilter)
+    let filter = filter_named(kit, forget.filter.as_str()).ok_or(JobError::NoFilter)?;
+    let policy = policy_of(alloc, &forget.rules)?;
+    Ok(plan_forget(alloc, view, filter, &policy)?)
 }
 
 fn rewrite_some(
@@ -121,12 +122,9 @@ fn rewrite_some(
     ensures seen { IfOk result (λ planned. planned.seen ≡ view.now.length) }
     ensures well_formed { IfOk result (λ planned. IsWellFormed planned.change) }
     ensures met { IfOk result (λ planned. is_met (held view.now.repo) planned.change ≡ true) }
+    ensures no_filter { is_unnamed (filters_of kit.now) (string_bytes rewrite.now.filter) ≡ true → result ≡ Err NoFilter }
 {
-    for filter in &kit.filters {
-        if filter.name.as_str() == rewrite.filter.as_str() {
-            let patterns = patterns_of(alloc, &rewrite.patterns)?;
-            return Ok(plan_rewrite(alloc, view, filter, &patterns, rewrite.forget)?);
-        }
-    }
-    Err(JobError::NoFilter)
+    let filter = filter_named(kit, rewrite.filter.as_str()).ok_or(JobError::NoFilter)?;
+    let patterns = patterns_of(alloc, &rewrite.patterns)?;
+    Ok(plan_rewrite(alloc, view, filter, &patterns, rewrite.forget)?)
 }

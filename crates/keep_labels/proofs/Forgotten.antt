@@ -1,4 +1,4 @@
--- A forget that is planned can be made, and is safe.
+-- A forget that is planned can be made.
 use Rattle.std.proofs.Common.{◌≡◌, ◌≢◌, Bool, true, false, ◌||◌, cond, List, [], not, Option, None, Some, Result, Ok, Err, refl, sym, ap, subst, ◌∙◌, true≢false, IfOk}
 use Rattle.std.proofs.lemmas.List.Elements.{All-nil}
 use Rattle.std.specs.List.Sorted.{IsStrictlySortedBy}
@@ -18,9 +18,6 @@ use Rattle.keep_hooks.specs.declared.pick.Pick.{Pick}
 use Rattle.keep_plan.specs.Refusal.{unless, unread_first}
 use Rattle.keep_plan.specs.declared.plan_error.PlanError.{PlanError}
 use Rattle.keep_plan.specs.declared.plan_error.PlanError.TheVariants.{Memory, NothingToDo}
-use Rattle.keep_sound.specs.Careful.{IsSafe}
-use Rattle.keep_sound.specs.Met.{HasOneText}
-use Rattle.keep_sound.specs.Plans.{ForgettingIsSafe}
 use Rattle.keep_snap.specs.Facts.{FactsData}
 use Rattle.keep_labels.specs.Edits.{is_empty}
 use Rattle.keep_labels.specs.Forgetting.{forget_change, forgetting, forgetting_of, has_no_rule}
@@ -28,10 +25,10 @@ use Rattle.keep_labels.specs.Keeping.{PolicyData, dropped_names, keeps}
 use Rattle.keep_labels.specs.Swapping.{snapshot_files, swapping}
 use Rattle.keep_labels.proofs.Ordered.{rise_kept}
 use Rattle.keep_labels.proofs.Swapped.{CanBeSwapped, swap_met, swap_well_formed}
-use Rattle.keep_labels.proofs.Taken.{files_are_snapshots, files_rise, files_there, taken_rise}
+use Rattle.keep_labels.proofs.Taken.{files_rise, files_there, taken_rise}
 
 -- the files of the taken snapshots that the policy doesn't keep
-abbrev forgotten : Repository → Pick → PolicyData → List NamedBytes
+abbrev pub forgotten : Repository → Pick → PolicyData → List NamedBytes
 forgotten r rule policy = snapshot_files r (dropped_names policy (taken_in rule r))
 
 -- what the files that are dropped make so, a planned forget is
@@ -57,7 +54,7 @@ module _ (r : Repository) (rule : Pick) (policy : PolicyData) (P : Change → Ty
   refused_so (Some error) is = (cc is)
   refused_so None is = made_so is
 
-  forget_so : forget_change r rule policy ≡ Ok c → P c
+  pub forget_so : forget_change r rule policy ≡ Ok c → P c
   unfolding forget_change
   forget_so is = refused_so (unread_first r) is
 
@@ -69,7 +66,7 @@ module _ (apart : TellsApart name_cmp) (r : Repository) (rule : Pick) (policy : 
   unfolding IsStrictlySortedBy
   none_in_order = tt
 
-  can_be : forgotten r rule policy ≢ [] → CanBeSwapped r (forgotten r rule policy) []
+  pub can_be : forgotten r rule policy ≢ [] → CanBeSwapped r (forgotten r rule policy) []
   can_be some = record {
     drops_in_order = files_rise r (dropped_names policy (taken_in rule r)) names_rise;
     adds_in_order = none_in_order;
@@ -86,14 +83,6 @@ module _ (apart : TellsApart name_cmp) (r : Repository) (rule : Pick) (policy : 
   pub forget_met : WhatIsAskedIsMet → (c : Change) → forget_change r rule policy ≡ Ok c → is_met (held r) c ≡ true
   forget_met law c is =
       forget_so r rule policy (λ d. is_met (held r) d ≡ true) (λ some. swap_met apart r (forgotten r rule policy) [] (can_be some) law) c is
-
-  pub forget_safe : ForgettingIsSafe → SortedListsAreWellFormed → (all : Repository) (known : Id → Bool) (c : Change) → forget_change r rule policy ≡ Ok c → HasOneText all → IsSafe all known c
-  forget_safe law sorted all known c is one =
-      forget_so r rule policy (λ d. IsSafe all known d)
-      (λ some. law all known (swapping (forgotten r rule policy) []) one
-      ((swap_well_formed apart r (forgotten r rule policy) [] (can_be some) sorted).once)
-      refl refl (files_are_snapshots r (dropped_names policy (taken_in rule r))))
-      c is
 
 -- ---- planning
 

@@ -9,13 +9,10 @@ pub mod Numbered
 pub mod Once
 pub mod Ordered
 pub mod Ranks
-pub mod Renewed
-pub mod Rooted
 pub mod Sorting
 pub mod Swapped
 pub mod Tagged
 pub mod Tags
 pub mod Taken
-pub mod Texts
 pub mod Turns
 pub mod Walked

@@ -1,5 +1,5 @@
 -- An edit of tags that is planned can be made.
-use Rattle.std.proofs.Common.{◌≡◌, ◌≢◌, Bool, true, false, cond, List, [], ◌∷◌, length, not, nat_lt, IfOk, Option, None, Some, Result, Ok, Err, option_map, refl, sym, ap, subst, ◌∙◌, true≢false}
+use Rattle.std.proofs.Common.{◌≡◌, ◌≢◌, Bool, true, false, cond, List, [], ◌∷◌, not, IfOk, Option, None, Some, Result, Ok, Err, option_map, refl, sym, ap, subst, ◌∙◌, true≢false}
 use Rattle.std.proofs.lemmas.List.Elements.{All-from_recursion}
 use Rattle.std.specs.List.{AllByRecursion, cons_option, filter_map}
 use Rattle.std.specs.List.Sorted.{IsStrictlySortedBy}
@@ -20,7 +20,7 @@ use Rattle.keep_catalog.specs.Files.{snap_in}
 use Rattle.keep_hooks.specs.Taking.{taken_in}
 use Rattle.keep_hooks.specs.declared.pick.Pick.{Pick}
 use Rattle.keep_plan.specs.Refusal.{unless, unread_first}
-use Rattle.keep_plan.specs.Settling.{CanBeMade, absent_files, settled}
+use Rattle.keep_plan.specs.Settling.{CanBeMade, absent_files, is_any_taken, settled}
 use Rattle.keep_plan.specs.declared.plan_error.PlanError.{PlanError}
 use Rattle.keep_plan.specs.declared.plan_error.PlanError.TheVariants.{Memory, NothingToDo, SnapshotThere}
 use Rattle.keep_snap.specs.Facts.{FactsData}
@@ -66,7 +66,7 @@ module _ (r : Repository) (rule : Pick) (edit : EditData) where
 
     read_so : (why : Option PlanError) → unless why (tagging_of r edit changed) ≡ Ok c → P c
     read_so (Some error) h = (cc h)
-    read_so None h = placed_so (nat_lt (length (absent_files r new_files)) (length new_files)) h
+    read_so None h = placed_so (is_any_taken r new_files) h
 
     asked_so : (why : Option PlanError) → unless why (unless (unread_first r) (tagging_of r edit changed)) ≡ Ok c → P c
     asked_so (Some error) h = (cc h)

@@ -4,7 +4,6 @@ pub mod Forgetting
 pub mod Keeping
 pub mod Orders
 pub mod Rising
-pub mod Safe
 pub mod Swapping
 pub mod Tagging
 pub mod Walk

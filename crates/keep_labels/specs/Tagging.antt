@@ -1,5 +1,5 @@
 -- What a tag edit changes.
-use Rattle.std.specs.Prelude.{not, List, length, nat_lt, filter, map, option_map, Option, Some, None, Result, Ok, Err, if◌then◌else◌}
+use Rattle.std.specs.Prelude.{not, List, filter, map, option_map, Option, Some, None, Result, Ok, Err, if◌then◌else◌}
 use Rattle.std.specs.List.{filter_map}
 use Rattle.serde_json.specs.Written.{compact_text}
 use Rattle.keep_names.specs.declared.file_name.Kind.TheVariants.{Snapshot}
@@ -15,7 +15,7 @@ use Rattle.keep_catalog.specs.Files.{snap_in}
 use Rattle.keep_hooks.specs.Taking.{taken_in}
 use Rattle.keep_hooks.specs.declared.pick.Pick.{Pick}
 use Rattle.keep_plan.specs.Refusal.{unless, unread_first}
-use Rattle.keep_plan.specs.Settling.{absent_files}
+use Rattle.keep_plan.specs.Settling.{absent_files, is_any_taken}
 use Rattle.keep_plan.specs.declared.plan_error.PlanError.{PlanError}
 use Rattle.keep_plan.specs.declared.plan_error.PlanError.TheVariants.{BadEdit, NothingToDo, SnapshotThere}
 use Rattle.keep_labels.specs.Edits.{EditData, Tags, are_same, edited, is_bad_edit, is_empty}
@@ -37,10 +37,10 @@ retagged_file r edit s = option_map (λ snap. tagged_file snap s.name (edited ed
 abbrev pub retagged_files : Repository → EditData → List FactsData → List NamedBytes
 retagged_files r edit all = filter_map (retagged_file r edit) all
 
--- the new files stand in the place of the old ones, unless one of them is there, or two are the same
+-- the new files stand in the place of the old ones, unless one of them is there already, or two are the same
 abbrev pub tagging : Repository → List NamedBytes → List NamedBytes → Result Change PlanError
 tagging r old new =
-    if nat_lt (length (absent_files r new)) (length new) then Err SnapshotThere
+    if is_any_taken r new then Err SnapshotThere
     else (if is_empty old then Err NothingToDo else Ok (swapping old (absent_files r new)))
 
 -- the files of these snapshots, whose tags the edit changes, and of those that stand in their place

@@ -1,7 +1,7 @@
 ghost use Rattle.std.specs.Prelude.{◌≡◌, ◌<◌, ◌≤◌, ◌↔◌, IfSome, IsSome};
 
 /// How many a policy keeps: 1 to 1,048,576.
-#[derive(Clone, Copy, Debug)]
+#[derive(Clone, Copy)]
 pub struct Count {
     number: u32,
     ghost in_range: { (0 < number) × (number ≤ 1_048_576) },

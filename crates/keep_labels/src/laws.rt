@@ -7,14 +7,11 @@ ghost use Rattle.keep_hooks.specs.declared.pick.Pick as the_pick;
 ghost use Rattle.keep_labels.specs.Edits.{EditData};
 ghost use Rattle.keep_labels.specs.Forgetting.{forget_change};
 ghost use Rattle.keep_labels.specs.Keeping.{PolicyData};
-ghost use Rattle.keep_labels.specs.Safe.{ForgetIsSafe, TaggingIsSafe};
 ghost use Rattle.keep_labels.specs.Tagging.{tag_change};
 
 use keep_change::{sorted_lists_are_well_formed, what_is_asked_is_met};
 use keep_names::orders_tell_apart;
 use keep_plan::what_is_settled_can_be_made;
-use keep_snap::{retagged_snapshots_can_be_written, snapshots_read_back};
-use keep_sound::{forgetting_is_safe, retagging_is_safe};
 
 /// The change of a forget can be committed: it is well formed, and the repository that it was planned on meets it.
 pub fn a_planned_forget_can_be_made()
@@ -26,16 +23,6 @@ pub fn a_planned_forget_can_be_made()
     orders_tell_apart();
     sorted_lists_are_well_formed();
     what_is_asked_is_met();
-}
-
-/// The change that a forget plans keeps every sound repository sound, whenever it is made: nothing that a snapshot
-/// reaches which it leaves is lost.
-pub fn a_planned_forget_is_safe()
-    ensures { ForgetIsSafe }
-{
-    orders_tell_apart();
-    sorted_lists_are_well_formed();
-    forgetting_is_safe();
 }
 
 /// The change of an edit of tags can be committed: it is well formed, and the repository that it was planned on
@@ -50,17 +37,4 @@ pub fn a_planned_tagging_can_be_made()
     what_is_settled_can_be_made();
     sorted_lists_are_well_formed();
     what_is_asked_is_met();
-}
-
-/// The change that an edit of tags plans keeps every sound repository sound, whenever it is made: a new snapshot
-/// reaches what the old one did.
-pub fn a_planned_tagging_is_safe()
-    ensures { TaggingIsSafe }
-{
-    orders_tell_apart();
-    snapshots_read_back();
-    retagged_snapshots_can_be_written();
-    what_is_settled_can_be_made();
-    sorted_lists_are_well_formed();
-    retagging_is_safe();
 }

@@ -19,10 +19,7 @@ mod walk;
 pub use count::Count;
 pub use edit::{Edit, are_changed};
 pub use forget::plan_forget;
-pub use laws::{
-    a_planned_forget_can_be_made, a_planned_forget_is_safe, a_planned_tagging_can_be_made,
-    a_planned_tagging_is_safe,
-};
+pub use laws::{a_planned_forget_can_be_made, a_planned_tagging_can_be_made};
 pub use policy::{Policy, dropped};
 pub use rising::names_rise;
 pub use tag::plan_tag;

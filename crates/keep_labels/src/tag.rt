@@ -1,10 +1,10 @@
-ghost use Rattle.std.specs.Prelude.{◌≡◌, ◌++◌, [], ◌∷◌, true, IfOk, OnOk, map};
+ghost use Rattle.std.specs.Prelude.{◌≡◌, true, Err, IfOk, map};
 ghost use Rattle.keep_docs.specs.Doc.{Answers};
 ghost use Rattle.keep_repo.specs.Repository.{held};
 ghost use Rattle.keep_change.specs.Change.{is_met};
 ghost use Rattle.keep_change.specs.Form.{IsWellFormed};
 ghost use Rattle.keep_snap.specs.Facts.{facts_view};
-ghost use Rattle.keep_labels.specs.Edits.{edit_view};
+ghost use Rattle.keep_labels.specs.Edits.{edit_view, is_bad_edit};
 ghost use Rattle.keep_labels.specs.Tagging as spec;
 ghost use Rattle.keep_labels.specs.Tagging.{changed_by, tag_change, tagging_of};
 ghost use Rattle.keep_plan.specs.declared.plan_error.PlanError.TheVariants as the_error;
@@ -17,18 +17,17 @@ use crate::taking::catalog;
 use keep_catalog::Catalog;
 use keep_change::{Change, Planned, StoredFile};
 use keep_hooks::Filter;
-use keep_plan::{PlanError, settle_files};
+use keep_plan::{PlanError, settle_new};
 use keep_repo::Repo;
 use keep_snap::SnapFacts;
 use keep_view::View;
 use std::alloc::{AllocError, Global};
-use std::collections::BTreeSet;
 
 /// The change that puts snapshots with other tags in the place of those that the filter takes, where the edit
 /// changes their tags. A new one says which snapshot it was made of first.
 ///
-/// The refusals in their order: `BadEdit`, `Unread`, `SnapshotThere`, which two that become one are too,
-/// `NothingToDo`.
+/// The refusals in their order: `BadEdit`, which is found before memory is taken, `Unread`, `SnapshotThere`, which two
+/// that become one are too, `NothingToDo`.
 pub fn plan_tag(
     alloc: Global,
     view: &View,
@@ -40,6 +39,7 @@ pub fn plan_tag(
     ensures seen { IfOk result (λ planned. planned.seen ≡ view.now.length) }
     ensures well_formed { IfOk result (λ planned. IsWellFormed planned.change) }
     ensures met { IfOk result (λ planned. is_met (held view.now.repo) planned.change ≡ true) }
+    ensures bad_edit { is_bad_edit (edit_view edit.now) ≡ true → result ≡ Err the_error.BadEdit }
 {
     a_planned_tagging_can_be_made();
     if edit.is_bad() {
@@ -82,12 +82,7 @@ fn put_in_place(
 ) -> Result<Change, PlanError>
     ensures { Answers the_error.Memory (λ change. change) (spec.tagging repo.now old.items new.items) result }
 {
-    let count = new.len();
-    let mut there = BTreeSet::new(alloc);
-    let adds = settle_files(alloc, repo, new, &mut there)?;
-    if adds.len() < count {
-        return Err(PlanError::SnapshotThere);
-    }
+    let adds = settle_new(alloc, repo, new)?.ok_or(PlanError::SnapshotThere)?;
     if old.is_empty() {
         return Err(PlanError::NothingToDo);
     }

@@ -5,4 +5,5 @@ pub mod Outcomes
 pub mod Recorded
 pub mod Sets
 pub mod Settled
+pub mod Taken
 pub mod Used

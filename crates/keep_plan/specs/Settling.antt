@@ -1,6 +1,7 @@
 -- What becomes of files that a planner builds.
-use Rattle.std.specs.Prelude.{◌≡◌, Bool, true, not, ◌||◌, List, ◌++◌, map, filter, All, IsSome, None, Some, is_some}
+use Rattle.std.specs.Prelude.{◌≡◌, Bool, true, false, not, ◌||◌, List, [], ◌∷◌, ◌++◌, map, filter, All, IsSome, None, Some, is_some}
 use Rattle.std.specs.FinMap as finite
+use Rattle.std.specs.List.{list_any}
 use Rattle.std.specs.List.Sorted.{IsStrictlySortedBy}
 use Rattle.keep_names.specs.FileName.{named}
 use Rattle.keep_names.specs.Orders.{id_cmp, name_cmp}
@@ -36,6 +37,15 @@ absent_of r files = map under_name (filter (λ file. not (is_there r file.name))
 -- the same by name, and of files of one name the first
 abbrev pub absent_files : Repository → List NamedBytes → List NamedBytes
 absent_files r files = map (λ e. e.1) (finite.entries (finite.from_entries {R = name_cmp} (absent_of r files)))
+
+-- whether two of the files have one name
+abbrev pub is_any_twice : List NamedBytes → Bool
+is_any_twice [] = false
+is_any_twice (file ∷ files) = has_name (file_names files) file.name || is_any_twice files
+
+-- whether one of the files is there already, or two of them have one name
+abbrev pub is_any_taken : Repository → List NamedBytes → Bool
+is_any_taken r files = list_any (λ file. is_there r file.name) files || is_any_twice files
 
 -- the names of the others
 abbrev pub names_there : Repository → List NamedBytes → List FileName

@@ -15,6 +15,6 @@ pub use laws::{
 };
 pub use plan_error::PlanError;
 pub use reuses::Reuses;
-pub use settling::settle_files;
+pub use settling::{settle_files, settle_new};
 pub use stored::{Stored, settle};
 pub use unreached::Unreached;

@@ -1,4 +1,4 @@
-ghost use Rattle.std.specs.Prelude.{◌≡◌, [], ◌∷◌, ◌++◌, ◌||◌, List, map, IfOk, OnOk};
+ghost use Rattle.std.specs.Prelude.{◌≡◌, [], ◌∷◌, ◌++◌, ◌||◌, List, is_none, map, IfOk, IfSome, OnOk};
 ghost use Rattle.std.specs.BTreeMap.{IsOrdered};
 ghost use Rattle.std.specs.BTreeMap as tree;
 ghost use Rattle.std.specs.BTreeSet.{contains};
@@ -10,7 +10,7 @@ ghost use Rattle.std.specs.Ordering.{eq_by_cmp};
 ghost use Rattle.keep_names.specs.Orders.{id_cmp, name_cmp};
 ghost use Rattle.keep_names.specs.declared.file_name.FileName as the_name;
 ghost use Rattle.keep_names.specs.declared.id.Id as the_id;
-ghost use Rattle.keep_plan.specs.Settling.{absent_files, absent_of, marks_on, names_there, pack_mark, packs_among, unmarked_of};
+ghost use Rattle.keep_plan.specs.Settling.{absent_files, absent_of, is_any_taken, marks_on, names_there, pack_mark, packs_among, unmarked_of};
 ghost use Rattle.keep_plan.specs.Marks.{AreMarks};
 
 use keep_change::{PackMark, StoredFile};
@@ -37,6 +37,24 @@ pub fn settle_files(
         settle_file(repo, &mut adds, present, file)?;
     }
     files_in(alloc, adds)
+}
+
+/// The same of files that are all to be new: none, if the repository has one of them, or two have one name.
+pub fn settle_new(
+    alloc: Global,
+    repo: &Repo,
+    files: Vec<StoredFile>,
+) -> Result<Option<Vec<StoredFile>>, AllocError>
+    ensures taken { IfOk result (λ new. is_none new ≡ is_any_taken repo.now files.items) }
+    ensures adds { IfOk result (λ new. IfSome new (λ adds. adds.items ≡ absent_files repo.now files.items)) }
+{
+    let count = files.len();
+    let mut there = BTreeSet::new(alloc);
+    let adds = settle_files(alloc, repo, files, &mut there)?;
+    if adds.len() < count {
+        return Ok(None);
+    }
+    Ok(Some(adds))
 }
 
 fn files_in(

@@ -11,7 +11,7 @@ use keep_repo::Repo;
 use std::alloc::{AllocError, Global};
 
 /// What is stored, and what that relies on. Each list is in order, and nothing stands twice.
-#[derive(Debug, Drop)]
+#[derive(Drop)]
 pub struct Stored {
     /// The files that are built and absent.
     pub adds: Listed<StoredFile>,

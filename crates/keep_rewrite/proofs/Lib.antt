@@ -1,17 +1,14 @@
 mod Alike
-mod Carried
-mod Finished
-mod Kept
-mod Listed
-mod Made
-mod Named
-mod Nodes
+pub mod Carried
+pub mod Finished
+pub mod Kept
+pub mod Listed
+pub mod Made
+pub mod Nodes
 mod OneNode
 mod Ordered
-mod Picked
-mod Planned
+pub mod Picked
+pub mod Planned
 mod Remembered
-mod Retreeing
-mod Safety
-mod Several
+pub mod Several
 mod Turned

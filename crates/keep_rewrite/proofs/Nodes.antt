@@ -10,7 +10,7 @@ use Rattle.keep_repo.specs.Repository.{Repository}
 use Rattle.keep_tree.specs.Tree.{NodeData}
 use Rattle.keep_catalog.specs.Naming.{blobs_named, named_at, named_by, named_of, nodes_at_spot, nodes_chosen, nodes_under}
 use Rattle.keep_catalog.specs.Places.{chosen_listing}
-use Rattle.keep_catalog.specs.Reach.{Naming, first_of, own_or, refusal_at}
+use Rattle.keep_reach.specs.Reach.{Naming, first_of, own_or, refusal_at}
 use Rattle.keep_catalog.specs.declared.reach_error.ReachError.{ReachError}
 use Rattle.keep_catalog.specs.declared.spot.Spot.{Spot}
 use Rattle.keep_rewrite.specs.Leaving.{nodes_in}

@@ -17,13 +17,14 @@ use Rattle.keep_change.specs.declared.change.Change.{Change}
 use Rattle.keep_change.specs.declared.change.Planned.{Planned}
 use Rattle.keep_docs.specs.Doc.{Answers}
 use Rattle.keep_catalog.specs.Files.{snap_in}
-use Rattle.keep_catalog.specs.Reach.{most_levels}
-use Rattle.keep_catalog.specs.Snapshots.{refusals_of}
+use Rattle.keep_reach.specs.Reach.{most_levels}
+use Rattle.keep_reach.specs.Snapshots.{refusals_of}
 use Rattle.keep_catalog.specs.declared.reach_error.ReachError.{ReachError}
 use Rattle.keep_hooks.specs.Taking.{taken_in}
 use Rattle.keep_hooks.specs.declared.pick.Pick.{Pick}
 use Rattle.keep_plan.specs.Refusal.{of_reach, unless, unread_first}
-use Rattle.keep_plan.specs.Settling.{absent_files}
+use Rattle.keep_plan.proofs.Taken.{fewer_so}
+use Rattle.keep_plan.specs.Settling.{absent_files, is_any_taken}
 use Rattle.keep_plan.specs.declared.plan_error.PlanError.{PlanError}
 use Rattle.keep_plan.specs.declared.plan_error.PlanError.TheVariants.{Full, Memory, NothingToDo, SnapshotThere}
 use Rattle.keep_plan.specs.declared.stored.Stored.{Stored}
@@ -186,13 +187,13 @@ module _ (r : Repository) (rule : Pick) (patterns : List PatternData) (forget : 
         subst P same (so (record { reached = reached; short = short; some = as_many news (new_files r forget retreed) many (some_new retreed all_read some) }))
 
     placed_so : AreReached r taken → list_any is_full trees ≡ false
-        → (b : Bool) → nat_lt (length news) (length (new_files r forget retreed)) ≡ b → cond b (Err SnapshotThere) (cond (is_nil retreed) (Err NothingToDo) (Ok made)) ≡ Ok c → P c
+        → (b : Bool) → is_any_taken r (new_files r forget retreed) ≡ b → cond b (Err SnapshotThere) (cond (is_nil retreed) (Err NothingToDo) (Ok made)) ≡ Ok c → P c
     placed_so reached short true there h = (cc h)
-    placed_so reached short false many h = some_so reached short many (is_nil retreed) refl h
+    placed_so reached short false free h = some_so reached short (fewer_so r (new_files r forget retreed) news refl ∙ free) (is_nil retreed) refl h
 
     short_so : AreReached r taken → (b : Bool) → list_any is_full trees ≡ b → rewriting_of r forget retreed (cond b (Err Full) (Ok (stored_of r trees))) ≡ Ok c → P c
     short_so reached true full h = (cc h)
-    short_so reached false short h = placed_so reached short (nat_lt (length news) (length (new_files r forget retreed))) refl h
+    short_so reached false short h = placed_so reached short (is_any_taken r (new_files r forget retreed)) refl h
 
     stored_so : AreReached r taken → (why : Option PlanError) → rewriting_of r forget retreed (unless why (cond (list_any is_full trees) (Err Full) (Ok (stored_of r trees)))) ≡ Ok c → P c
     stored_so reached (Some error) h = (cc h)

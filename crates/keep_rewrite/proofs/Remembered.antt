@@ -18,7 +18,7 @@ use Rattle.keep_tree.specs.Parsing.{PatternData}
 use Rattle.keep_tree.specs.RestOrder.{rests_cmp}
 use Rattle.keep_tree.specs.declared.rest.Rest.{Rest}
 use Rattle.keep_catalog.specs.Naming.{named_by}
-use Rattle.keep_catalog.specs.Reach.{refusal_at}
+use Rattle.keep_reach.specs.Reach.{refusal_at}
 use Rattle.keep_backup.specs.Blobs.{BlobData}
 use Rattle.keep_backup.specs.Storing.{given}
 use Rattle.keep_rewrite.specs.Finishing.{Finishes, HasBlobData}

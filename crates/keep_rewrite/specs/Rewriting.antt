@@ -1,5 +1,5 @@
 -- What a rewrite changes.
-use Rattle.std.specs.Prelude.{Bool, false, not, List, [], ◌++◌, length, nat_lt, filter, map, option_map, slice_get, Option, Result, Ok, Err, if◌then◌else◌}
+use Rattle.std.specs.Prelude.{Bool, false, not, List, [], ◌++◌, filter, map, option_map, slice_get, Option, Result, Ok, Err, if◌then◌else◌}
 use Rattle.std.specs.FinMap as finite
 use Rattle.std.specs.List.{filter_map, flat_map}
 use Rattle.serde_json.specs.Written.{compact_text}
@@ -17,12 +17,12 @@ use Rattle.keep_snap.specs.Written.{snap_data}
 use Rattle.keep_change.specs.NamedBytes.{NamedBytes, file_of}
 use Rattle.keep_change.specs.declared.change.Change.{Change}
 use Rattle.keep_catalog.specs.Files.{snap_in}
-use Rattle.keep_catalog.specs.Reach.{most_levels}
-use Rattle.keep_catalog.specs.Snapshots.{refusals_of}
+use Rattle.keep_reach.specs.Reach.{most_levels}
+use Rattle.keep_reach.specs.Snapshots.{refusals_of}
 use Rattle.keep_hooks.specs.Taking.{taken_in}
 use Rattle.keep_hooks.specs.declared.pick.Pick.{Pick}
 use Rattle.keep_plan.specs.Refusal.{of_reach, unless, unread_first}
-use Rattle.keep_plan.specs.Settling.{absent_files}
+use Rattle.keep_plan.specs.Settling.{absent_files, is_any_taken}
 use Rattle.keep_plan.specs.declared.plan_error.PlanError.{PlanError}
 use Rattle.keep_plan.specs.declared.plan_error.PlanError.TheVariants.{NothingToDo, SnapshotThere}
 use Rattle.keep_plan.specs.declared.stored.Stored.{Stored}
@@ -92,11 +92,10 @@ change_of r forget stored retreed adds = record {
   strict = false;
 }
 
--- the same, unless one of the new snapshots is there, or two are the same, or there is none
+-- the same, unless one of the new snapshots is there already, or two are the same, or there is none
 abbrev pub rewriting : Repository → Bool → List Retreed → Stored → Result Change PlanError
 rewriting r forget retreed stored =
-    if nat_lt (length (absent_files r (new_files r forget retreed))) (length (new_files r forget retreed))
-    then Err SnapshotThere
+    if is_any_taken r (new_files r forget retreed) then Err SnapshotThere
     else (if is_nil retreed then Err NothingToDo
     else Ok (change_of r forget stored retreed (absent_files r (new_files r forget retreed))))
 

@@ -15,8 +15,8 @@ use Rattle.keep_tree.specs.Rests.{left_at}
 use Rattle.keep_tree.specs.declared.rest.Rest.{Rest}
 use Rattle.keep_snap.specs.Facts.{FactsData}
 use Rattle.keep_catalog.specs.Naming.{named_by}
-use Rattle.keep_catalog.specs.Reach.{refusal_at}
-use Rattle.keep_catalog.specs.Snapshots.{refusal_from}
+use Rattle.keep_reach.specs.Reach.{refusal_at}
+use Rattle.keep_reach.specs.Snapshots.{refusal_from}
 use Rattle.keep_backup.specs.Blobs.{BlobData}
 use Rattle.keep_backup.specs.Storing.{given}
 use Rattle.keep_rewrite.specs.Finishing.{HasBlobData}

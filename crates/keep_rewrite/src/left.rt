@@ -3,7 +3,7 @@ use keep_tree::Rests;
 use std::collections::BTreeMap;
 
 // What is left of a tree.
-#[derive(Clone, Copy, Debug, PartialEq, Eq)]
+#[derive(Clone, Copy)]
 pub(crate) struct Left {
     // Whether something in or below it goes.
     pub(crate) loses: bool,

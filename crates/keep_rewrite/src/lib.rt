@@ -8,5 +8,5 @@ mod plan;
 mod retreed;
 mod walk;
 
-pub use laws::{a_planned_rewrite_can_be_made, plan_rewrite_is_safe};
+pub use laws::a_planned_rewrite_can_be_made;
 pub use plan::plan_rewrite;

@@ -3,7 +3,7 @@ ghost use Rattle.keep_docs.specs.Doc.{Answers};
 ghost use Rattle.keep_repo.specs.Repository.{held};
 ghost use Rattle.keep_change.specs.Change.{is_met};
 ghost use Rattle.keep_change.specs.Form.{IsWellFormed};
-ghost use Rattle.keep_catalog.specs.Snapshots.{refusals_of};
+ghost use Rattle.keep_reach.specs.Snapshots.{refusals_of};
 ghost use Rattle.keep_tree.specs.Parsing.{pattern_view};
 ghost use Rattle.keep_snap.specs.Facts.{facts_view};
 ghost use Rattle.keep_backup.specs.Stored.{store_of};
@@ -22,13 +22,13 @@ use keep_catalog::Catalog;
 use keep_change::{Change, Listed, Planned, StoredFile};
 use keep_hooks::Filter;
 use keep_names::{BlobType, Id};
-use keep_plan::{PlanError, Stored, settle_files};
+use keep_plan::{PlanError, Stored, settle_new};
+use keep_reach::reach_all;
 use keep_repo::Repo;
 use keep_snap::SnapFacts;
 use keep_tree::Pattern;
 use keep_view::View;
 use std::alloc::{AllocError, Global};
-use std::collections::BTreeSet;
 
 /// The change that takes what one of the patterns matches, with all below it, out of the snapshots that the filter
 /// takes. For each from which something goes a new snapshot is added that says which one it was made of. The old one is
@@ -73,7 +73,7 @@ fn ask_reach(alloc: Global, catalog: &Catalog, taken: &[SnapFacts]) -> Result<()
         → unreached_first catalog.now (map facts_view taken.now) ≡ Some error) }
 {
     let names = names_of(alloc, taken)?;
-    let _reached = catalog.reach_all(alloc, &names)?;
+    let _reached = reach_all(alloc, catalog, &names)?;
     Ok(())
 }
 
@@ -138,12 +138,7 @@ fn rewritten(
     ensures { Answers the_error.Memory (λ change. change) (rewriting repo.now forget retreed.now stored) result }
 {
     let new = new_files(alloc, catalog, forget, retreed)?;
-    let count = new.len();
-    let mut there = BTreeSet::new(alloc);
-    let adds = settle_files(alloc, repo, new, &mut there)?;
-    if adds.len() < count {
-        return Err(PlanError::SnapshotThere);
-    }
+    let adds = settle_new(alloc, repo, new)?.ok_or(PlanError::SnapshotThere)?;
     if retreed.is_empty() {
         return Err(PlanError::NothingToDo);
     }

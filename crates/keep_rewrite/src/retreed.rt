@@ -1,6 +1,6 @@
 ghost use Rattle.std.specs.Prelude.{◌≡◌, ◌++◌, [], ◌∷◌, None, map, IfErr, IfOk, OnOk};
 ghost use Rattle.keep_names.specs.BlobId.{tree_at};
-ghost use Rattle.keep_catalog.specs.Snapshots.{refusal_from};
+ghost use Rattle.keep_reach.specs.Snapshots.{refusal_from};
 ghost use Rattle.keep_tree.specs.Parsing.{pattern_view};
 ghost use Rattle.keep_snap.specs.Facts.{facts_view};
 ghost use Rattle.keep_plan.specs.declared.plan_error.PlanError.TheVariants.{Memory};
@@ -11,9 +11,10 @@ ghost use Rattle.keep_rewrite.specs.Walking.{AreReached, IsRight, trees_of};
 
 use crate::left::Walked;
 use crate::walk::Walk;
-use keep_catalog::{Catalog, levels};
+use keep_catalog::Catalog;
 use keep_names::{BlobType, Id};
 use keep_plan::PlanError;
+use keep_reach::levels;
 use keep_snap::SnapFacts;
 use keep_tree::{Pattern, Rests};
 use std::alloc::Global;

@@ -2,7 +2,7 @@ ghost use Rattle.std.specs.Prelude.{◌≡◌, ◌++◌, [], ◌∷◌, None, fa
 ghost use Rattle.serde_json.specs.Written.{has_float};
 ghost use Rattle.keep_names.specs.BlobId.{tree_at};
 ghost use Rattle.keep_catalog.specs.Naming.{named_by, named_of};
-ghost use Rattle.keep_catalog.specs.Reach.{first_of, refusal_at};
+ghost use Rattle.keep_reach.specs.Reach.{first_of, refusal_at};
 ghost use Rattle.keep_tree.specs.Parsing.{pattern_view};
 ghost use Rattle.keep_tree.specs.Tree.{dir, node_view};
 ghost use Rattle.keep_tree.specs.Written.{tree_data};

@@ -18,8 +18,8 @@ use Rattle.keep_repo.specs.Repository.{Repository}
 use Rattle.keep_change.specs.declared.change.Change.{Change}
 use Rattle.keep_change.specs.declared.change.PackMark.{PackMark}
 use Rattle.keep_catalog.specs.Files.{unread_in}
-use Rattle.keep_catalog.specs.Snapshots.{broken_in}
-use Rattle.keep_catalog.specs.Used.{used_in}
+use Rattle.keep_reach.specs.Snapshots.{broken_in}
+use Rattle.keep_reach.specs.Used.{used_in}
 use Rattle.keep_catalog.specs.declared.catalog_error.CatalogError.{CatalogError}
 use Rattle.keep_catalog.specs.declared.catalog_error.CatalogError.TheVariants as catalog
 use Rattle.keep_catalog.specs.declared.reach_error.ReachError.{ReachError}

@@ -32,8 +32,8 @@ use Rattle.keep_catalog.proofs.Ordered.{in_order-same, keys_in_order}
 use Rattle.keep_catalog.specs.Files.{ids_in}
 use Rattle.keep_catalog.specs.Ordered.{in_order, keyed}
 use Rattle.keep_catalog.specs.Places.{is_unmarked}
-use Rattle.keep_catalog.specs.Snapshots.{broken_in}
-use Rattle.keep_catalog.specs.Used.{used_in}
+use Rattle.keep_reach.specs.Snapshots.{broken_in}
+use Rattle.keep_reach.specs.Used.{used_in}
 use Rattle.keep_catalog.specs.declared.reach_error.ReachError.{ReachError}
 use Rattle.keep_plan.proofs.Ordered.{All-entries, All-of_map, each_so, filter_passes}
 use Rattle.keep_plan.specs.Refusal.{of_reach, unless, unread_first}

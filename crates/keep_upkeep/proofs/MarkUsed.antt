@@ -14,9 +14,9 @@ use Rattle.keep_names.specs.declared.blob.BlobId.{BlobId}
 use Rattle.keep_names.specs.declared.id.Id.{Id}
 use Rattle.keep_repo.specs.Repository.{Repository}
 use Rattle.keep_catalog.specs.Places.{chosen_listing, reuse_of}
-use Rattle.keep_catalog.specs.Used.{used_in}
-use Rattle.keep_catalog.specs.Walk.{AreChosen}
-use Rattle.keep_catalog.specs.declared.found.Found.{Found}
+use Rattle.keep_reach.specs.Used.{used_in}
+use Rattle.keep_reach.specs.Walk.{AreChosen}
+use Rattle.keep_reach.specs.declared.found.Found.{Found}
 use Rattle.keep_catalog.specs.declared.spot.Spot.{Spot}
 use Rattle.keep_plan.proofs.Ordered.{each_so}
 use Rattle.keep_plan.specs.Reuse.{RestOn}

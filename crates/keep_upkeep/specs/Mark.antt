@@ -14,8 +14,8 @@ use Rattle.keep_change.specs.declared.change.PackMark.{PackMark}
 use Rattle.keep_catalog.specs.Files.{ids_in}
 use Rattle.keep_catalog.specs.Ordered.{in_order}
 use Rattle.keep_catalog.specs.Places.{is_unmarked}
-use Rattle.keep_catalog.specs.Snapshots.{broken_in}
-use Rattle.keep_catalog.specs.Used.{used_in}
+use Rattle.keep_reach.specs.Snapshots.{broken_in}
+use Rattle.keep_reach.specs.Used.{used_in}
 use Rattle.keep_plan.specs.Refusal.{of_reach, unless, unread_first}
 use Rattle.keep_plan.specs.Reuse.{reused_packs}
 use Rattle.keep_plan.specs.Settling.{is_there, settled}

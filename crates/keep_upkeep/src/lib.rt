@@ -9,9 +9,7 @@ mod repair;
 mod sweep;
 
 pub use laws::{
-    a_planned_mark_can_be_made, a_planned_mark_is_safe, a_planned_repair_can_be_made,
-    a_planned_repair_is_safe, a_planned_sweep_can_be_made, a_planned_sweep_is_safe,
-    what_a_repair_lists, what_a_sweep_lists,
+    a_planned_mark_can_be_made, a_planned_repair_can_be_made, a_planned_sweep_can_be_made,
 };
 pub use mark::plan_mark;
 pub use repair::plan_repair;

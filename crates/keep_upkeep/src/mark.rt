@@ -10,8 +10,8 @@ ghost use Rattle.keep_repo.specs.Repository.{Repository, held};
 ghost use Rattle.keep_change.specs.Change.{is_met};
 ghost use Rattle.keep_change.specs.Form.{IsWellFormed};
 ghost use Rattle.keep_catalog.specs.Places.{chosen_listing, is_unmarked};
-ghost use Rattle.keep_catalog.specs.Used.{used_in};
-ghost use Rattle.keep_catalog.specs.Walk.{AreChosen};
+ghost use Rattle.keep_reach.specs.Used.{used_in};
+ghost use Rattle.keep_reach.specs.Walk.{AreChosen};
 ghost use Rattle.keep_plan.specs.Reuse.{RestOn};
 ghost use Rattle.keep_plan.specs.Settling.{is_there};
 ghost use Rattle.keep_plan.specs.declared.plan_error.PlanError.TheVariants as the_error;
@@ -20,10 +20,10 @@ ghost use Rattle.keep_upkeep.specs.Mark.{gone_snapshots, mark_at, mark_change, m
 ghost use Rattle.keep_upkeep.specs.Mark.{unneeded_but, unneeded_packs, why_unknown};
 
 use crate::laws::a_planned_mark_can_be_made;
-use keep_catalog::Reached;
 use keep_change::{Change, Listed, PackMark, Planned};
 use keep_names::{FileName, Id, Kind};
 use keep_plan::{PlanError, Reuses, Stored, settle};
+use keep_reach::{Reached, used};
 use keep_repo::{Facet, Mark, Repo};
 use keep_view::View;
 use std::alloc::{AllocError, Global};
@@ -59,7 +59,7 @@ fn reached(alloc: Global, view: &View) -> Result<Reached, PlanError>
     ensures refused { IfErr result (λ error. error ≢ the_error.Memory → why_unknown view.now.repo ≡ Some error) }
 {
     let catalog = view.catalog(alloc)?;
-    let reached = catalog.used(alloc)?;
+    let reached = used(alloc, &catalog)?;
     Ok(reached)
 }
 

@@ -5,7 +5,7 @@ use Rattle.std.specs.List.{list_any}
 use Rattle.serde_json.specs.Data.{no_members}
 use Rattle.serde_json.specs.Written.{has_float}
 use Rattle.keep_names.specs.declared.id.Id.{Id}
-use Rattle.keep_catalog.specs.Reach.{most_levels}
+use Rattle.keep_reach.specs.Reach.{most_levels}
 use Rattle.keep_tree.specs.Tree.{NodeData, dir, file, node_view}
 use Rattle.keep_tree.specs.Written.{tree_data}
 use Rattle.keep_backup.specs.Blobs.{BlobData, is_full}

@@ -1,6 +1,6 @@
 use Rattle.std.proofs.Common.{◌≡◌, ℕ, List, ◌≤◌, ◌+◌, ◌*◌, ◌-◌, ◌++◌, drop, length, map}
 use Rattle.keep_tree.specs.Tree.{node_view}
-use Rattle.keep_catalog.specs.Reach.{most_levels}
+use Rattle.keep_reach.specs.Reach.{most_levels}
 use Rattle.keep_backup.specs.Files.{seen}
 use Rattle.keep_backup.specs.Folders.{Folder, folder_at}
 use Rattle.keep_backup.specs.Walk.{blobs_below, nodes_of}

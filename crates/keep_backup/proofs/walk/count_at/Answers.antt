@@ -1,7 +1,7 @@
 use Rattle.std.proofs.Common.{◌≡◌, ◌≢◌, ℕ, ◌-◌, ◌<◌, ◌≤◌, Bool, true, false, not, [], Some, List, get_or, slice_get, length, refl, sym, ap, subst, ◌∙◌, ⊎_elim, true≢false, arith}
 use Rattle.std.proofs.lemmas.Bool.{cases_lt}
 use Rattle.std.proofs.lemmas.Slice.Eq.{bytes_eq-Decides}
-use Rattle.keep_catalog.specs.Reach.{most_levels}
+use Rattle.keep_reach.specs.Reach.{most_levels}
 use Rattle.keep_backup.specs.Files.{names_view, paths_seen}
 use Rattle.keep_backup.specs.declared.paths.PathFile.{PathFile}
 use Rattle.keep_backup.proofs.Turns.{count_of, first_at, named_at, one_more, other_at}

@@ -2,7 +2,7 @@ use Rattle.std.proofs.Common.{◌≡◌, ℤ, List, map, w64, ap, sym, subst, �
 use Rattle.std.proofs.lemmas.Int.{to_z-of_z}
 use Rattle.std.specs.BTreeSet.{contains}
 use Rattle.std.specs.Vec.{vec_len}
-use Rattle.keep_catalog.specs.Used.{used_in}
+use Rattle.keep_reach.specs.Used.{used_in}
 use Rattle.keep_names.specs.Orders.{id_cmp}
 use Rattle.keep_names.specs.declared.id.Id.{Id}
 use Rattle.keep_plan.specs.Reuse.{RestOn}

@@ -14,7 +14,7 @@ use Rattle.keep_tree.specs.Tree.{KindData, dir, kind_view, node_view}
 use Rattle.keep_tree.specs.Without.{is_matched}
 use Rattle.keep_tree.specs.declared.node.Node.{Node}
 use Rattle.keep_catalog.specs.Naming.{named_by, named_in, nodes_under}
-use Rattle.keep_catalog.specs.Reach.{first_of, refusal_at}
+use Rattle.keep_reach.specs.Reach.{first_of, refusal_at}
 use Rattle.keep_backup.specs.Blobs.{BlobData}
 use Rattle.keep_rewrite.specs.Finishing.{Finishes, HasBlobData}
 use Rattle.keep_rewrite.specs.Leaving.{finished, kind_finished, kind_left, nodes_in, path_below, tree_left}

@@ -1,0 +1,7 @@
+pub mod Cut
+pub mod Kept
+pub mod SafeBackup
+pub mod SafeLabels
+pub mod SafeMark
+pub mod SafeReindexing
+pub mod SafeRewrite

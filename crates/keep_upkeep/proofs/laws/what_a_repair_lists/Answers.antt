@@ -1,8 +1,0 @@
-use Rattle.keep_upkeep.proofs.RepairKeeps.{repairs_list_packs, repairs_list_places}
-use Rattle.keep_upkeep.proofs.laws.what_a_repair_lists.Goals as goal
-
-pub returns : goal.returns
-returns c = record {
-  places = repairs_list_places c.orders_tell_apart.ensures.ids;
-  packs = repairs_list_packs c.orders_tell_apart.ensures.ids;
-}
