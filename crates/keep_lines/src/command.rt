@@ -18,7 +18,7 @@ use keep_jobs::Job;
 use std::alloc::{AllocError, Global};
 
 /// What a line asks for.
-#[derive(Debug, Drop)]
+#[derive(Drop)]
 pub enum Command<'a> {
     Job(Job),
     RawFile(RawFile),

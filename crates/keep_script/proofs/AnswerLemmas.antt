@@ -1,21 +1,23 @@
 -- What is written for a command, where its answer is known.
-use Rattle.std.proofs.Common.{◌≡◌, ◌≢◌, ℕ, List, [], Result, Ok, Err, Option, IfOk, IfErr, inl, inr, ap, refl, subst}
+use Rattle.std.proofs.Common.{◌≡◌, ◌≢◌, ℕ, List, [], Result, Ok, Err, Bool, true, false, Option, None, Some, is_none, IfOk, IfErr, inl, inr, ap, refl, subst, ◌∙◌}
 use Rattle.std.proofs.KnownBytes.{Appends-kept, Appends-nil}
 use Rattle.std.specs.Io.KnownBytes.{Keeps}
-use Rattle.keep_book.specs.Armed.{tallies_in}
-use Rattle.keep_book.specs.Guarding.{tallies_told}
-use Rattle.keep_book.specs.Reply.{state_after}
+use Rattle.keep_book.specs.Armed.{hooks_of, ledger_of}
+use Rattle.keep_book.specs.BookState.{BookState}
+use Rattle.keep_book.specs.Reply.{Replies, state_after}
 use Rattle.keep_book.specs.Request.{Request}
 use Rattle.keep_book.specs.declared.book.Book.{Book}
-use Rattle.keep_book.specs.declared.hooks.Hooks.{Hooks}
 use Rattle.keep_book.specs.declared.reply.Refusal.{Refusal}
 use Rattle.keep_book.specs.declared.reply.Told.{Told}
 use Rattle.keep_change.specs.declared.change.Change.{Change}
+use Rattle.keep_hooks.specs.Guards.{HooksData}
 use Rattle.keep_hooks.specs.Kits.{KitData}
-use Rattle.keep_jobs.specs.Job.{job_change, no_memory, settings_view}
+use Rattle.keep_hooks.specs.declared.pick.Pick.{Pick}
+use Rattle.keep_jobs.specs.Job.{SettingsData, by_rule, has_no_filter, job_change, no_memory, or_refused, settings_view}
 use Rattle.keep_jobs.specs.declared.error.JobError.{JobError}
 use Rattle.keep_jobs.specs.declared.error.JobError.TheVariants.{NoFilter, Refused}
 use Rattle.keep_jobs.specs.declared.job.Job.{Job}
+use Rattle.keep_jobs.specs.declared.job.Job.TheVariants as the_job
 use Rattle.keep_lines.specs.Command.{Asks}
 use Rattle.keep_lines.specs.Line.{IsLine}
 use Rattle.keep_lines.specs.Mistake.{IsMistake}
@@ -29,8 +31,9 @@ use Rattle.keep_lines.specs.declared.mistake.Mistake.TheVariants.{NoFilter as No
 use Rattle.keep_lines.specs.declared.reply.Sizes.{Sizes}
 use Rattle.keep_plan.specs.declared.plan_error.PlanError.{PlanError}
 use Rattle.keep_plan.specs.declared.plan_error.PlanError.TheVariants as plan_error
+use Rattle.keep_view.specs.Shown.{Shown}
 use Rattle.keep_script.specs.Answer.{AnswersTo, Committed, Done, Shows, commit_of, shown_by}
-use Rattle.keep_script.specs.Asking.{AsksBook}
+use Rattle.keep_script.specs.Asking.{AsksBook, LeavesBook}
 use Rattle.keep_script.specs.Known.{Puts, Writes}
 use Rattle.keep_script.specs.State.{State, state_of}
 use Rattle.keep_script.specs.declared.session.Session.{Session}
@@ -77,60 +80,94 @@ AnswersLine-unread a state line Memory stop r e bad same = rw (same, e) ([], App
 
 -- ---- commits
 
--- what the book is asked decides on it and on its totals
-pub left_by : {I F g J E h : _} (kit : KitData) (session : Session) (book book' : Book (Hooks I F g J E h)) (request : Request) (reply : Result Told Refusal)
+-- what the book is asked decides on it
+pub left_by : {I F g J E h : _} (kit : KitData) (session : Session) (book book' : Book I F g J E h) (request : Request) (reply : Result Told Refusal)
     → AsksBook book request reply book'
-    → state_of kit session book' ≡ record (state_of kit session book) { book = state_after book.ledger request reply; watches = tallies_told book.ledger.events request reply (tallies_in book) }
-left_by kit session book book' request reply asks = rw (asks.ledger, asks.rules, asks.tallies) refl
+    → state_of kit session book' ≡ record (state_of kit session book) { book = state_after (ledger_of book) request reply }
+left_by kit session book book' request reply asks = rw (asks.ledger, asks.hooks) refl
 
 -- the change that was made ready is committed
-pub Committed-by : {I F g J E h : _} (kit : KitData) (session : Session) (book book' : Book (Hooks I F g J E h)) (change : Change) (sizes : Sizes) (reply : Result Told Refusal)
-    → AsksBook book (commit_of book.ledger change) reply book' → sizes ≡ sizes_of change
+pub Committed-by : {I F g J E h : _} (kit : KitData) (session : Session) (book book' : Book I F g J E h) (change : Change) (sizes : Sizes) (reply : Result Told Refusal)
+    → AsksBook book (commit_of (ledger_of book) change) reply book' → sizes ≡ sizes_of change
     → Committed (state_of kit session book) change (reply_answer (commit_text sizes) reply) (state_of kit session book')
 Committed-by kit session book book' change sizes reply asks counted = record {
   reply = reply;
   replies = asks.replies;
   text = ap (λ s. reply_answer (commit_text s) reply) counted;
-  left = left_by kit session book book' (commit_of book.ledger change) reply asks;
+  left = left_by kit session book book' (commit_of (ledger_of book) change) reply asks;
 }
 
--- what came of a job was answered: it was committed as it was to be planned, it was refused as it was to be, or memory ran out
-Job-made : {I F g J E h : _} (kit : KitData) (session : Session) (book book' : Book (Hooks I F g J E h)) (job : Job) (made : Result Told Refusal × Sizes) (change : Change)
-    → job_change (shown_by book.ledger) (settings_view session.settings kit.filters) job ≡ Ok change → AsksBook book (commit_of book.ledger change) made.0 book' → made.1 ≡ sizes_of change
+-- what came of a job was answered: it was committed as it was to be planned, it was refused as it was to be, or memory ran out, where its filter was there
+Job-made : {I F g J E h : _} (kit : KitData) (session : Session) (book book' : Book I F g J E h) (job : Job) (made : Result Told Refusal × Sizes) (change : Change)
+    → job_change (shown_by (ledger_of book)) (settings_view session.settings kit.filters) job ≡ Ok change → AsksBook book (commit_of (ledger_of book) change) made.0 book' → made.1 ≡ sizes_of change
     → AnswersTo (state_of kit session book) (the_command.Job job) (reply_answer (commit_text made.1) made.0) (state_of kit session book')
 Job-made kit session book book' job made change due asks counted =
     rw due (inl (Committed-by kit session book book' change made.1 made.0 asks counted))
 
 Job-refused : (state after : State) (job : Job) (refusal : PlanError)
     → (Refused refusal ≢ no_memory → job_change (shown_by state.book) state.settings job ≡ Err (Refused refusal))
+    → (Refused refusal ≡ no_memory → has_no_filter state.settings.filters job ≡ false)
     → after ≡ state → AnswersTo state (the_command.Job job) (unplanned_answer refusal) after
-Job-refused state after job plan_error.BadPath due same = rw (due (λ e. cc e)) (inl (record { text = refl; same = same }))
-Job-refused state after job plan_error.SamePathTwice due same = rw (due (λ e. cc e)) (inl (record { text = refl; same = same }))
-Job-refused state after job plan_error.BadTime due same = rw (due (λ e. cc e)) (inl (record { text = refl; same = same }))
-Job-refused state after job plan_error.BadEdit due same = rw (due (λ e. cc e)) (inl (record { text = refl; same = same }))
-Job-refused state after job plan_error.BadPattern due same = rw (due (λ e. cc e)) (inl (record { text = refl; same = same }))
-Job-refused state after job (plan_error.Unread file) due same = rw (due (λ e. cc e)) (inl (record { text = refl; same = same }))
-Job-refused state after job (plan_error.Reach why) due same = rw (due (λ e. cc e)) (inl (record { text = refl; same = same }))
-Job-refused state after job plan_error.TooDeep due same = rw (due (λ e. cc e)) (inl (record { text = refl; same = same }))
-Job-refused state after job plan_error.Full due same = rw (due (λ e. cc e)) (inl (record { text = refl; same = same }))
-Job-refused state after job plan_error.SnapshotThere due same = rw (due (λ e. cc e)) (inl (record { text = refl; same = same }))
-Job-refused state after job plan_error.NothingToDo due same = rw (due (λ e. cc e)) (inl (record { text = refl; same = same }))
-Job-refused state after job plan_error.Memory due same = inr (record { text = refl; same = same })
+Job-refused state after job plan_error.BadPath due named same = rw (due (λ e. cc e)) (inl (record { text = refl; same = same }))
+Job-refused state after job plan_error.SamePathTwice due named same = rw (due (λ e. cc e)) (inl (record { text = refl; same = same }))
+Job-refused state after job plan_error.BadTime due named same = rw (due (λ e. cc e)) (inl (record { text = refl; same = same }))
+Job-refused state after job plan_error.BadEdit due named same = rw (due (λ e. cc e)) (inl (record { text = refl; same = same }))
+Job-refused state after job plan_error.BadPattern due named same = rw (due (λ e. cc e)) (inl (record { text = refl; same = same }))
+Job-refused state after job (plan_error.Unread file) due named same = rw (due (λ e. cc e)) (inl (record { text = refl; same = same }))
+Job-refused state after job (plan_error.Reach why) due named same = rw (due (λ e. cc e)) (inl (record { text = refl; same = same }))
+Job-refused state after job plan_error.TooDeep due named same = rw (due (λ e. cc e)) (inl (record { text = refl; same = same }))
+Job-refused state after job plan_error.Full due named same = rw (due (λ e. cc e)) (inl (record { text = refl; same = same }))
+Job-refused state after job plan_error.SnapshotThere due named same = rw (due (λ e. cc e)) (inl (record { text = refl; same = same }))
+Job-refused state after job plan_error.NothingToDo due named same = rw (due (λ e. cc e)) (inl (record { text = refl; same = same }))
+Job-refused state after job plan_error.Memory due named same = inr (named refl, record { text = refl; same = same })
+
+-- a job is refused for want of its filter just where it names none that is stored
+refused_is_named : (planned : Result Change PlanError) → or_refused planned ≢ Err NoFilter
+refused_is_named (Ok change) e = cc e
+refused_is_named (Err refusal) e = cc e
+
+by_rule_unnamed : (rule : Option Pick) (planned : Pick → Result Change PlanError) → by_rule rule planned ≡ Err NoFilter → is_none rule ≡ true
+by_rule_unnamed None planned e = refl
+by_rule_unnamed (Some rule) planned e = absurd (refused_is_named (planned rule) e)
+
+job_unnamed : (shown : Shown) (settings : SettingsData) (job : Job) → job_change shown settings job ≡ Err NoFilter → has_no_filter settings.filters job ≡ true
+job_unnamed shown settings (the_job.Backup backup) e = absurd (refused_is_named _ e)
+job_unnamed shown settings (the_job.Tag tag) e = by_rule_unnamed _ _ e
+job_unnamed shown settings (the_job.Forget forget) e = by_rule_unnamed _ _ e
+job_unnamed shown settings (the_job.Rewrite rewrite) e = by_rule_unnamed _ _ e
+job_unnamed shown settings the_job.Repair e = absurd (refused_is_named _ e)
+job_unnamed shown settings the_job.Mark e = absurd (refused_is_named _ e)
+job_unnamed shown settings (the_job.Sweep wait) e = absurd (refused_is_named _ e)
 
 -- nothing is written for a job that names no filter
 Job-unnamed : (a b : Option (List ℕ)) (state after : State) (job : Job) (r : Result (Unit {0}) Stop)
     → job_change (shown_by state.book) state.settings job ≡ Err NoFilter → after ≡ state → r ≡ Err (BadLine NoSuchFilter) → Keeps a b
     → Writes a b (λ t. AnswersCommand state (the_command.Job job) t r after)
-Job-unnamed a b state after job r due same bad kept = rw bad ([], Appends-kept a a b [] (Appends-nil a) kept, ((due, refl), record { text = refl; same = same }))
+Job-unnamed a b state after job r due same bad kept = rw bad ([], Appends-kept a a b [] (Appends-nil a) kept, ((job_unnamed (shown_by state.book) state.settings job due, refl), record { text = refl; same = same }))
 
-pub Job-answer : {I F g J E h : _} (a b : Option (List ℕ)) (kit : KitData) (session : Session) (book book' : Book (Hooks I F g J E h)) (job : Job) (outcome : Result (Result Told Refusal × Sizes) JobError) (r : Result (Unit {0}) Stop)
-    → IfOk outcome (λ made. (change : Change) × (job_change (shown_by book.ledger) (settings_view session.settings kit.filters) job ≡ Ok change) × AsksBook book (commit_of book.ledger change) made.0 book' × (made.1 ≡ sizes_of change))
-    → IfErr outcome (λ refusal. refusal ≢ no_memory → job_change (shown_by book.ledger) (settings_view session.settings kit.filters) job ≡ Err refusal) → IfErr outcome (λ refusal. book' ≡ book) → AnswersJob a b outcome r
+-- what is asked of a book that was left alone is asked of the book before
+pub asked_after : {I F g J E h : _} (book same after : Book I F g J E h) (request : Request) (reply : Result Told Refusal) → LeavesBook book same
+    → AsksBook same request reply after → AsksBook book request reply after
+asked_after book same after request reply left asks = record {
+  replies =
+      subst (λ (ledger : BookState). Replies ledger (hooks_of book).vetoes request reply) left.ledger
+      (subst (λ (hooks : HooksData). Replies (ledger_of same) hooks.vetoes request reply) left.hooks asks.replies);
+  ledger = asks.ledger ∙ ap (λ ledger. state_after ledger request reply) left.ledger;
+  hooks = asks.hooks ∙ left.hooks;
+}
+
+left_alone : {I F g J E h : _} (kit : KitData) (session : Session) (book book' : Book I F g J E h) → LeavesBook book book'
+    → state_of kit session book' ≡ state_of kit session book
+left_alone kit session book book' same = rw (same.ledger, same.hooks) refl
+
+pub Job-answer : {I F g J E h : _} (a b : Option (List ℕ)) (kit : KitData) (session : Session) (book book' : Book I F g J E h) (job : Job) (outcome : Result (Result Told Refusal × Sizes) JobError) (r : Result (Unit {0}) Stop)
+    → IfOk outcome (λ made. (change : Change) × (job_change (shown_by (ledger_of book)) (settings_view session.settings kit.filters) job ≡ Ok change) × AsksBook book (commit_of (ledger_of book) change) made.0 book' × (made.1 ≡ sizes_of change))
+    → IfErr outcome (λ refusal. refusal ≢ no_memory → job_change (shown_by (ledger_of book)) (settings_view session.settings kit.filters) job ≡ Err refusal) → IfErr outcome (λ refusal. refusal ≡ no_memory → has_no_filter kit.filters job ≡ false) → IfErr outcome (λ refusal. LeavesBook book book') → AnswersJob a b outcome r
     → Writes a b (λ t. AnswersCommand (state_of kit session book) (the_command.Job job) t r (state_of kit session book'))
-Job-answer a b kit session book book' job (Ok made) r h refused same puts =
+Job-answer a b kit session book book' job (Ok made) r h refused named same puts =
     AnswersCommand-puts a b _ _ (the_command.Job job) _ r puts (Job-made kit session book book' job made h.0 h.1 h.2 h.3)
-Job-answer a b kit session book book' job (Err (Refused refusal)) r made due same puts =
+Job-answer a b kit session book book' job (Err (Refused refusal)) r made due named same puts =
     AnswersCommand-puts a b _ _ (the_command.Job job) _ r puts
-    (Job-refused (state_of kit session book) (state_of kit session book') job refusal due (ap (state_of kit session) same))
-Job-answer a b kit session book book' job (Err NoFilter) r made due same (bad, kept) =
-    Job-unnamed a b (state_of kit session book) (state_of kit session book') job r (due (λ e. cc e)) (ap (state_of kit session) same) bad kept
+    (Job-refused (state_of kit session book) (state_of kit session book') job refusal due named (left_alone kit session book book' same))
+Job-answer a b kit session book book' job (Err NoFilter) r made due named same (bad, kept) =
+    Job-unnamed a b (state_of kit session book) (state_of kit session book') job r (due (λ e. cc e)) (left_alone kit session book book' same) bad kept

@@ -1,7 +1,8 @@
 -- What is taken out of a list, and put back or behind another.
-use Rattle.std.proofs.Common.{◌≡◌, ◌∙◌, ℕ, zero, suc, List, [], ◌∷◌, ◌++◌, map, insert, remove, slice_get, Some, ap, refl}
+use Rattle.std.proofs.Common.{◌≡◌, ◌∙◌, ℕ, zero, suc, List, [], ◌∷◌, map, insert, remove, slice_get, Some, ap, refl}
 use Rattle.std.proofs.lemmas.Option.{none-some, slice_get-map}
 use Rattle.std.specs.Option.{option_map}
+use Rattle.keep_hooks.specs.Guards.{HooksData}
 use Rattle.keep_script.specs.Arming.{MovesOne}
 
 -- put back where it was
@@ -19,8 +20,8 @@ map-remove f [] (suc i) = refl
 map-remove f (y ∷ ys) zero = refl
 map-remove f (y ∷ ys) (suc i) = ap (λ l. f y ∷ l) (map-remove f ys i)
 
--- and put behind the other list
-pub moved : {A B : Type 0} (f : A → B) (change : B → B) (xs xs' : List A) (to to' : List B) (i : ℕ) (x : A) → slice_get xs i ≡ Some x → xs' ≡ remove xs i → to' ≡ to ++ change (f x) ∷ []
-    → MovesOne change i (map f xs) to (map f xs') to'
-moved f change xs xs' to to' i x there gone behind =
+-- and armed
+pub moved : {A B : Type 0} (f : A → B) (arm : B → HooksData → HooksData) (xs xs' : List A) (to to' : HooksData) (i : ℕ) (x : A) → slice_get xs i ≡ Some x → xs' ≡ remove xs i → to' ≡ arm (f x) to
+    → MovesOne arm i (map f xs) to (map f xs') to'
+moved f arm xs xs' to to' i x there gone behind =
     (f x, slice_get-map f xs i ∙ ap (option_map f) there, ap (map f) gone ∙ map-remove f xs i, behind)

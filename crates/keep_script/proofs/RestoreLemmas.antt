@@ -1,6 +1,8 @@
 -- What a restore gives, entry by entry.
-use Rattle.std.proofs.Common.{◌≡◌, ℕ, List, [], ◌∷◌, ◌++◌, map, length, Option, Some, Result, Ok, Err, Less, String, Vec, Global, string_bytes, refl, sym, ap, subst, ◌∙◌, append_assoc, inl, inr, ◌⊎◌}
+use Rattle.std.proofs.Common.{◌≡◌, ℕ, Bool, IfOk, true, false, List, [], ◌∷◌, ◌++◌, map, length, Option, Some, Result, Ok, Err, Less, String, Vec, Global, string_bytes, refl, sym, ap, subst, ◌∙◌, append_assoc, inl, inr, ◌⊎◌}
+use Rattle.std.specs.declared.alloc.AllocError.{AllocError}
 use Rattle.std.specs.String.{string_cmp}
+use Rattle.std.proofs.lemmas.Bool.{true_from_ne_false}
 use Rattle.std.proofs.lemmas.Cmp.{nat_list_cmp_total}
 use Rattle.std.proofs.lemmas.List.{length-map}
 use Rattle.std.specs.FinMap as finite
@@ -12,7 +14,9 @@ use Rattle.keep_docs.specs.Doc.{Answers}
 use Rattle.keep_names.specs.declared.file_name.FileName.{FileName}
 use Rattle.keep_names.specs.declared.file_name.Kind.TheVariants.{Snapshot}
 use Rattle.keep_repo.proofs.Maps.{entries_made, len_made}
-use Rattle.keep_read.specs.Restored.{RestoredData, path_cmp, restored, restored_view}
+use Rattle.keep_repo.specs.Repository.{is_filled}
+use Rattle.keep_read.specs.Findings.{findings_in}
+use Rattle.keep_read.specs.Restored.{RestoredData, path_cmp, restored, restored_view, snapshot_facet}
 use Rattle.keep_read.specs.declared.finding.Finding.{Finding}
 use Rattle.keep_read.specs.declared.restore_error.RestoreError.{RestoreError}
 use Rattle.keep_read.specs.declared.restore_error.RestoreError.TheVariants.{NoSnapshot, Reach, Unread}
@@ -22,8 +26,8 @@ use Rattle.keep_script.specs.Answer.{Tells}
 use Rattle.keep_script.specs.Known.{Puts}
 use Rattle.keep_script.specs.RawFile.{file_meant}
 use Rattle.keep_script.specs.State.{State}
-use Rattle.keep_script.specs.Text.{audit_last, finding_line, found_answer, no_memory_answer, restore_answer, restored_answer, restored_last, restored_line}
-use Rattle.keep_lines.specs.declared.question.Question.TheVariants.{Restore}
+use Rattle.keep_script.specs.Text.{audit_answer, audit_last, finding_line, found_answer, no_memory_answer, restore_answer, restored_answer, restored_last, restored_line}
+use Rattle.keep_lines.specs.declared.question.Question.TheVariants.{Audit, Restore}
 use Rattle.keep_script.specs.declared.status.Stop.{Stop}
 use Rattle.keep_lines.specs.declared.word.Target.{Target}
 
@@ -79,20 +83,28 @@ pub audit_split : (findings : List Finding) (written rest : List ℕ) → writte
     → found_answer findings ≡ written ++ (rest ++ audit_last (length findings))
 audit_split findings written rest split = ap (λ l. l ++ audit_last (length findings)) (sym split) ∙ append_assoc written rest (audit_last (length findings))
 
--- what a restore told is what it has to tell, or that memory ran out
-pub restore_told : (due : Result RestoredData RestoreError) (outcome : Result Restored RestoreError) → Answers (Reach Memory) restored_view due outcome
-    → (restore_answer (result_map_both restored_view (λ e. e) outcome) ≡ restore_answer due) ⊎ (restore_answer (result_map_both restored_view (λ e. e) outcome) ≡ no_memory_answer)
-restore_told due (Ok restored) h = inl (ap restore_answer (sym h))
-restore_told due (Err NoSnapshot) h = inl (ap restore_answer (sym (h (λ e. cc e))))
-restore_told due (Err (Unread file)) h = inl (ap restore_answer (sym (h (λ e. cc e))))
-restore_told due (Err (Reach Memory)) h = inr refl
-restore_told due (Err (Reach TooDeep)) h = inl (ap restore_answer (sym (h (λ e. cc e))))
-restore_told due (Err (Reach BadTree)) h = inl (ap restore_answer (sym (h (λ e. cc e))))
-restore_told due (Err (Reach (MissingBlob blob))) h = inl (ap restore_answer (sym (h (λ e. cc e))))
-restore_told due (Err (Reach (WrongHash blob))) h = inl (ap restore_answer (sym (h (λ e. cc e))))
+-- what a restore told is what it has to tell, or that memory ran out, where the snapshot was there
+restore_told : (is_there : Bool) (due : Result RestoredData RestoreError) (outcome : Result Restored RestoreError) → Answers (Reach Memory) restored_view due outcome → (is_there ≡ false → outcome ≡ Err NoSnapshot)
+    → (restore_answer (result_map_both restored_view (λ e. e) outcome) ≡ restore_answer due) ⊎ ((is_there ≡ true) × (restore_answer (result_map_both restored_view (λ e. e) outcome) ≡ no_memory_answer))
+restore_told is_there due (Ok restored) h none = inl (ap restore_answer (sym h))
+restore_told is_there due (Err NoSnapshot) h none = inl (ap restore_answer (sym (h (λ e. cc e))))
+restore_told is_there due (Err (Unread file)) h none = inl (ap restore_answer (sym (h (λ e. cc e))))
+restore_told is_there due (Err (Reach Memory)) h none = inr (true_from_ne_false is_there (λ gone. cc (none gone)), refl)
+restore_told is_there due (Err (Reach TooDeep)) h none = inl (ap restore_answer (sym (h (λ e. cc e))))
+restore_told is_there due (Err (Reach BadTree)) h none = inl (ap restore_answer (sym (h (λ e. cc e))))
+restore_told is_there due (Err (Reach (MissingBlob blob))) h none = inl (ap restore_answer (sym (h (λ e. cc e))))
+restore_told is_there due (Err (Reach (WrongHash blob))) h none = inl (ap restore_answer (sym (h (λ e. cc e))))
 
 -- so a restore of a snapshot that is named was answered
 pub Restored-tells : (state : State) (target : Target) (name : FileName) (outcome : Result Restored RestoreError)
     → file_meant state.book.events Snapshot target ≡ Some name → Answers (Reach Memory) restored_view (restored state.book.live name.id) outcome
+    → (is_filled state.book.live (snapshot_facet name.id) ≡ false → outcome ≡ Err NoSnapshot)
     → Tells state (Restore target) (restore_answer (result_map_both restored_view (λ e. e) outcome))
-Restored-tells state target name outcome meant told = (name, meant, restore_told (restored state.book.live name.id) outcome told)
+Restored-tells state target name outcome meant told none =
+    (name, meant, restore_told (is_filled state.book.live (snapshot_facet name.id)) (restored state.book.live name.id) outcome told none)
+
+-- what an audit told is what it finds, or that memory ran out
+pub Audited-tells : (state : State) (outcome : Result (Vec Finding Global) AllocError) → IfOk outcome (λ findings. findings.items ≡ findings_in state.book.live)
+    → Tells state Audit (audit_answer (result_map_both (λ findings. findings.items) (λ error. error) outcome))
+Audited-tells state (Ok findings) h = inl (ap found_answer h)
+Audited-tells state (Err error) h = inr refl

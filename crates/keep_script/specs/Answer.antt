@@ -1,24 +1,26 @@
 -- The answer to a line, by the state that the lines before leave.
-use Rattle.std.specs.Prelude.{◌≡◌, ℕ, Bool, IsTrue, ◌↔◌, ◌⊎◌, List, [], Some, None, Result, Ok, Err}
-use Rattle.keep_repo.specs.Repository.{Repository}
+use Rattle.std.specs.Prelude.{◌≡◌, ℕ, Bool, true, false, IsTrue, ◌↔◌, ◌⊎◌, List, [], Some, None, Result, Ok, Err}
+use Rattle.keep_repo.specs.Repository.{Repository, is_filled}
 use Rattle.keep_names.specs.declared.file_name.FileName.{FileName}
 use Rattle.keep_names.specs.declared.file_name.Kind.TheVariants.{Snapshot}
+use Rattle.keep_names.specs.declared.id.Id.{Id}
 use Rattle.keep_change.specs.declared.change.Change.{Change}
 use Rattle.keep_journal.specs.History.{length_of}
 use Rattle.keep_view.specs.Shown.{Shown, shown_of}
-use Rattle.keep_book.specs.Armed.{is_armed}
 use Rattle.keep_book.specs.BookState.{BookState}
-use Rattle.keep_book.specs.Guarding.{tallies_told}
+use Rattle.keep_book.specs.Names.{is_armed}
 use Rattle.keep_book.specs.Reply.{Replies, state_after}
 use Rattle.keep_book.specs.declared.reply.Refusal.{Refusal}
 use Rattle.keep_book.specs.Request.{Request}
 use Rattle.keep_book.specs.Request as request
+use Rattle.keep_book.specs.Sums.{sums_of}
 use Rattle.keep_book.specs.declared.reply.Told.{Told}
 use Rattle.keep_read.specs.Findings.{findings_in}
-use Rattle.keep_read.specs.Restored.{restored}
-use Rattle.keep_jobs.specs.Job.{job_change}
+use Rattle.keep_read.specs.Restored.{restored, snapshot_facet}
+use Rattle.keep_jobs.specs.Job.{has_no_filter, job_change}
 use Rattle.keep_jobs.specs.declared.error.JobError.{JobError}
 use Rattle.keep_jobs.specs.declared.error.JobError.TheVariants as job_error
+use Rattle.keep_jobs.specs.declared.job.Job as the_job
 use Rattle.keep_lines.specs.Command.{Asks}
 use Rattle.keep_lines.specs.Line.{IsLine, IsPassedOver}
 use Rattle.keep_lines.specs.Mistake.{IsMistake}
@@ -55,16 +57,13 @@ pub record Shows (state : State) (shown written : List ℕ) (after : State) : Ty
   pub text : written ≡ shown
   pub same : after ≡ state
 
--- the book's reply to the request is written, and alone decides on the book and the totals afterwards
+-- the book's reply to the request is written, and alone decides on the book afterwards
 pub record Asked (state : State) (request : Request) (accepted : Told → List ℕ)
     (written : List ℕ) (after : State) : Type 0 where
   pub reply : Result Told Refusal
-  pub replies : Replies state.book state.vetoes request reply
+  pub replies : Replies state.book state.armed.vetoes request reply
   pub text : written ≡ reply_answer accepted reply
-  pub left : after ≡ record state {
-    book = state_after state.book request reply;
-    watches = tallies_told state.book.events request reply state.watches;
-  }
+  pub left : after ≡ record state { book = state_after state.book request reply }
 
 -- the change is planned on the present state, and its commit follows at once
 abbrev pub Committed : State → Change → List ℕ → State → Type 0
@@ -78,7 +77,19 @@ CommittedOrRefused state (Err job_error.NoFilter) text after = ⊥
 CommittedOrRefused state (Err (job_error.Refused refusal)) text after =
     Shows state (unplanned_answer refusal) text after
 
--- what a question is answered
+-- memory runs out for a job whose filter isn't missing: a missing one is found before memory is taken
+abbrev pub RunsOut : State → the_job.Job → List ℕ → State → Type 0
+RunsOut state job text after =
+    (has_no_filter state.settings.filters job ≡ false) × Shows state no_memory_answer text after
+
+-- what a restore is answered: its outcome, or that memory runs out where the snapshot isn't missing: a missing one is
+-- found before memory is taken
+abbrev pub Restores : Repository → Id → List ℕ → Type 0
+Restores repository snapshot text =
+    (text ≡ restore_answer (restored repository snapshot))
+    ⊎ ((is_filled repository (snapshot_facet snapshot) ≡ true) × (text ≡ no_memory_answer))
+
+-- what a question is answered: a total is the sum over the events since its watch was armed
 abbrev pub Tells : State → the_question.Question → List ℕ → Type 0
 Tells state ListFiles text = text ≡ list_answer state.book.live
 Tells state Count text = text ≡ count_answer state.book.live
@@ -88,15 +99,15 @@ Tells state (Same name) text =
     × (same : Bool) × (IsTrue same ↔ (state.book.live ≡ noted)) × (text ≡ same_answer name.now same)
 Tells state (Restore target) text =
     (name : FileName) × (file_meant state.book.events Snapshot target ≡ Some name)
-    × ((text ≡ restore_answer (restored state.book.live name.id)) ⊎ (text ≡ no_memory_answer))
-Tells state Totals text = text ≡ totals_answer state.watches
+    × Restores state.book.live name.id text
+Tells state Totals text = text ≡ totals_answer (sums_of state.book.events state.armed.watches)
 Tells state Audit text = (text ≡ found_answer (findings_in state.book.live)) ⊎ (text ≡ no_memory_answer)
 
 -- what `arm` does: nothing where the name is armed or where memory runs out; else what has it is armed, behind the
 -- others
 abbrev pub Arms : State → List ℕ → List ℕ → State → Type 0
 Arms state name text after =
-    (IsTrue (is_armed name state.vetoes state.watches) × Shows state double_name_answer text after)
+    (IsTrue (is_armed name state.armed) × Shows state double_name_answer text after)
     ⊎ (IsSpare state name × Shows state no_memory_answer text after)
     ⊎ ((armed : State) × ArmsOne state name armed × Shows armed (armed_answer name) text after)
 
@@ -105,7 +116,7 @@ Arms state name text after =
 abbrev pub AnswersTo : State → Command → List ℕ → State → Type 0
 AnswersTo state (Job job) text after =
     CommittedOrRefused state (job_change (shown_by state.book) state.settings job) text after
-    ⊎ Shows state no_memory_answer text after
+    ⊎ RunsOut state job text after
 AnswersTo state (RawFile file) text after =
     (change : Change) × (file_change state.book file ≡ Some change) × Committed state change text after
 AnswersTo state (Revision revision) text after = Asked state (request_of revision) told_text text after
@@ -127,7 +138,7 @@ FindsNothing state Totals why = ⊥
 -- a command names what isn't there: so does a job by a filter, a question, or a drop of what a change added
 abbrev pub NamesNothing : State → Command → Mistake → Type 0
 NamesNothing state (Job job) why =
-    (job_change (shown_by state.book) state.settings job ≡ Err job_error.NoFilter) × (why ≡ NoFilter)
+    (has_no_filter state.settings.filters job ≡ true) × (why ≡ NoFilter)
 NamesNothing state (RawFile file) why = (file_change state.book file ≡ None) × (why ≡ NoFile)
 NamesNothing state (Revision revision) why = ⊥
 NamesNothing state (Question question) why = FindsNothing state question why

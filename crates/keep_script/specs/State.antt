@@ -3,25 +3,23 @@ use Rattle.std.specs.Prelude.{ℕ, ℤ, List, [], Option, Some, None, if◌then�
 use Rattle.std.specs.BTreeMap.{get_by_text}
 use Rattle.std.specs.Str.{bytes_eq}
 use Rattle.keep_repo.specs.Repository.{Repository, empty_repository}
-use Rattle.keep_book.specs.Armed.{rules_in, tallies_in}
+use Rattle.keep_book.specs.Armed.{hooks_of, ledger_of}
 use Rattle.keep_book.specs.BookState.{BookState, new_book}
 use Rattle.keep_book.specs.declared.book.Book.{Book}
-use Rattle.keep_book.specs.declared.hooks.Hooks.{Hooks}
-use Rattle.keep_hooks.specs.Guards.{Rule, Tally}
+use Rattle.keep_hooks.specs.Guards.{HooksData, Rule, WatchData}
 use Rattle.keep_hooks.specs.Kits.{KitData, NamedRule}
 use Rattle.keep_jobs.specs.Job.{SettingsData, settings_view}
 use Rattle.keep_script.specs.declared.notes.Notes.{Notes}
 use Rattle.keep_script.specs.declared.session.Session.{Session}
 
--- what jobs go by; a book, its vetoes and its watches; the vetoes and watches that can still be armed; and under each
+-- what jobs go by; a book, and what is armed over it; the vetoes and watches that can still be armed; and under each
 -- name the repository that was noted last
 pub record State : Type 0 where
   pub settings : SettingsData
   pub book : BookState
-  pub vetoes : List Rule
-  pub watches : List Tally
+  pub armed : HooksData
   pub spare_vetoes : List Rule
-  pub spare_watches : List Tally
+  pub spare_watches : List WatchData
   pub notes : List ℕ → Option Repository
 
 -- no notes
@@ -37,20 +35,18 @@ abbrev pub begun : ℕ → ℤ → KitData → State
 begun cut now kit = record {
   settings = settled cut now kit.filters;
   book = new_book empty_repository;
-  vetoes = [];
-  watches = [];
+  armed = record { vetoes = []; watches = [] };
   spare_vetoes = kit.vetoes;
   spare_watches = kit.watches;
   notes = no_notes;
 }
 
 -- this book, what the kit has beside, and no notes
-abbrev pub begun_over : {I F g J E h : _} → SettingsData → KitData → Book (Hooks I F g J E h) → State
+abbrev pub begun_over : {I F g J E h : _} → SettingsData → KitData → Book I F g J E h → State
 begun_over settings kit book = record {
   settings = settings;
-  book = book.ledger;
-  vetoes = rules_in book;
-  watches = tallies_in book;
+  book = ledger_of book;
+  armed = hooks_of book;
   spare_vetoes = kit.vetoes;
   spare_watches = kit.watches;
   notes = no_notes;
@@ -65,13 +61,16 @@ abbrev pub notes_of : Notes → List ℕ → Option Repository
 notes_of notes name = get_by_text notes.held name
 
 -- the state that these are, with what the kit still has
-abbrev pub state_of : {I F g J E h : _} → KitData → Session → Book (Hooks I F g J E h) → State
+abbrev pub state_of : {I F g J E h : _} → KitData → Session → Book I F g J E h → State
 state_of kit session book = record {
   settings = settings_view session.settings kit.filters;
-  book = book.ledger;
-  vetoes = rules_in book;
-  watches = tallies_in book;
+  book = ledger_of book;
+  armed = hooks_of book;
   spare_vetoes = kit.vetoes;
   spare_watches = kit.watches;
   notes = notes_of session.notes;
 }
+
+-- the kit that goes with the state: its filters, and what can still be armed
+abbrev pub kit_of : State → KitData
+kit_of state = record { filters = state.settings.filters; vetoes = state.spare_vetoes; watches = state.spare_watches }

@@ -1,14 +1,14 @@
-ghost use Rattle.std.specs.Prelude.{◌≡◌, ◌≢◌, ◌≤◌, Err, IfErr, IfOk, Ok, length};
-ghost use Rattle.keep_book.specs.Armed.{IsCounted};
+ghost use Rattle.std.specs.Prelude.{◌≡◌, ◌≢◌, ◌≤◌, Err, IfErr, IfOk, Ok, false, length};
+ghost use Rattle.keep_book.specs.Armed.{HasSums, ledger_of};
 ghost use Rattle.keep_book.specs.Request as request;
 ghost use Rattle.keep_change.specs.declared.change.Change.{Change};
 ghost use Rattle.keep_hooks.specs.Kits.{KitData, filters_of, kit_view};
-ghost use Rattle.keep_jobs.specs.Job.{job_change, no_memory, settings_view};
+ghost use Rattle.keep_jobs.specs.Job.{has_no_filter, job_change, no_memory, settings_view};
 ghost use Rattle.keep_lines.specs.Line.{longest_line};
 ghost use Rattle.keep_lines.specs.Reply.{sizes_of};
 ghost use Rattle.keep_lines.specs.declared.command.Command.TheVariants as the_command;
 ghost use Rattle.keep_script.specs.Answer.{commit_of, request_of, shown_by};
-ghost use Rattle.keep_script.specs.Asking.{AsksBook};
+ghost use Rattle.keep_script.specs.Asking.{AsksBook, LeavesBook};
 ghost use Rattle.keep_script.specs.Known.{Writes, WritesLines};
 ghost use Rattle.keep_script.specs.State.{state_of};
 ghost use Rattle.keep_script.specs.Step.{AnswersCommand, AnswersLine};
@@ -20,7 +20,7 @@ use crate::raw_file::{change_of_file, find};
 use crate::reply::{Outcome, answer_job, write_audit, write_committed, write_reply, write_restore};
 use crate::session::Session;
 use crate::status::Stop;
-use keep_book::{Book, Hooks, Refusal, Told};
+use keep_book::{Book, Refusal, Told};
 use keep_change::{Change, Planned};
 use keep_hooks::Kit;
 use keep_jobs::{Job, JobError, Settings, plan};
@@ -39,16 +39,15 @@ impl Session {
         &mut self,
         line: &[u8],
         kit: &mut Kit,
-        book: &mut Book<Hooks>,
+        book: &mut Book,
         writer: &mut W,
     ) -> Result<(), Stop>
         requires line { length line.now ≤ longest_line }
-        requires counted { IsCounted book.old }
+        requires sums { HasSums book.old }
         ensures answers { Writes (W.contents writer.old) (W.contents writer.new) (λ text.
             AnswersLine (state_of (kit_view kit.old) self.old book.old) line.now text result
             (state_of (kit_view kit.new) self.new book.new)) }
         ensures whole { result ≢ Err Stop.WriteFailed → WritesLines (W.contents writer.old) (W.contents writer.new) }
-        ensures counted { IsCounted book.new }
         ensures input { self.new.input ≡ self.old.input }
     {
         match parse(self.alloc, line)? {
@@ -61,15 +60,14 @@ impl Session {
         &mut self,
         command: Command<'_>,
         kit: &mut Kit,
-        book: &mut Book<Hooks>,
+        book: &mut Book,
         writer: &mut W,
     ) -> Result<(), Stop>
-        requires { IsCounted book.old }
+        requires { HasSums book.old }
         ensures answers { Writes (W.contents writer.old) (W.contents writer.new) (λ text.
             AnswersCommand (state_of (kit_view kit.old) self.old book.old) command.entry text result
             (state_of (kit_view kit.new) self.new book.new)) }
         ensures whole { result ≢ Err Stop.WriteFailed → WritesLines (W.contents writer.old) (W.contents writer.new) }
-        ensures counted { IsCounted book.new }
         ensures input { self.new.input ≡ self.old.input }
     {
         match command {
@@ -87,15 +85,14 @@ impl Session {
         &self,
         job: &Job,
         kit: &Kit,
-        book: &mut Book<Hooks>,
+        book: &mut Book,
         writer: &mut W,
     ) -> Result<(), Stop>
-        requires { IsCounted book.old }
+        requires { HasSums book.old }
         ensures answers { Writes (W.contents writer.old) (W.contents writer.new) (λ text.
             AnswersCommand (state_of (kit_view kit.now) self.now book.old) (the_command.Job job.now) text result
             (state_of (kit_view kit.now) self.now book.new)) }
         ensures whole { result ≢ Err Stop.WriteFailed → WritesLines (W.contents writer.old) (W.contents writer.new) }
-        ensures counted { IsCounted book.new }
     {
         let outcome = perform(self.alloc, job, self.settings, kit, book);
         answer_job(self.alloc, outcome, writer)
@@ -105,18 +102,17 @@ impl Session {
     fn change_file<W: Write>(
         &self,
         file: RawFile,
-        book: &mut Book<Hooks>,
+        book: &mut Book,
         writer: &mut W,
     ) -> Result<(), Stop>
-        requires { IsCounted book.old }
+        requires { HasSums book.old }
         ensures answers { (kit : KitData)
             → Writes (W.contents writer.old) (W.contents writer.new) (λ text.
             AnswersCommand (state_of kit self.now book.old) (the_command.RawFile file) text result
             (state_of kit self.now book.new)) }
         ensures whole { result ≢ Err Stop.WriteFailed → WritesLines (W.contents writer.old) (W.contents writer.new) }
-        ensures counted { IsCounted book.new }
     {
-        let Some(change) = change_of_file(self.alloc, &book.ledger, file)? else {
+        let Some(change) = change_of_file(self.alloc, book.ledger(), file)? else {
             return Err(Stop::BadLine(Mistake::NoFile));
         };
         write_committed(self.alloc, commit_now(book, change), writer)
@@ -126,16 +122,15 @@ impl Session {
     fn revise<W: Write>(
         &self,
         revision: Revision,
-        book: &mut Book<Hooks>,
+        book: &mut Book,
         writer: &mut W,
     ) -> Result<(), Stop>
-        requires { IsCounted book.old }
+        requires { HasSums book.old }
         ensures answers { (kit : KitData)
             → Writes (W.contents writer.old) (W.contents writer.new) (λ text.
             AnswersCommand (state_of kit self.now book.old) (the_command.Revision revision) text result
             (state_of kit self.now book.new)) }
         ensures whole { result ≢ Err Stop.WriteFailed → WritesLines (W.contents writer.old) (W.contents writer.new) }
-        ensures counted { IsCounted book.new }
     {
         write_reply(self.alloc, ask(book, revision), writer)
     }
@@ -144,38 +139,41 @@ impl Session {
     fn tell<W: Write>(
         &self,
         question: Question<'_>,
-        book: &mut Book<Hooks>,
+        book: &mut Book,
         writer: &mut W,
     ) -> Result<(), Stop>
-        requires { IsCounted book.old }
+        requires { HasSums book.old }
         ensures answers { (kit : KitData)
             → Writes (W.contents writer.old) (W.contents writer.new) (λ text.
             AnswersCommand (state_of kit self.now book.old) (the_command.Question question.entry) text result
             (state_of kit self.now book.new)) }
         ensures whole { result ≢ Err Stop.WriteFailed → WritesLines (W.contents writer.old) (W.contents writer.new) }
-        ensures counted { IsCounted book.new }
     {
         let alloc = self.alloc;
         match question {
-            Question::List => write_list(alloc, book.ledger.live(), writer),
-            Question::Count => write_count(alloc, book.ledger.live(), writer),
-            Question::History => write_history(alloc, book.ledger.history(), writer),
+            Question::List => write_list(alloc, book.ledger().live(), writer),
+            Question::Count => write_count(alloc, book.ledger().live(), writer),
+            Question::History => write_history(alloc, book.ledger().history(), writer),
             Question::Same(name) => {
                 let noted = self.notes.get(name).ok_or(Stop::BadLine(Mistake::NoNote))?;
-                let same = book.ledger.live().same_as(noted);
+                let same = book.ledger().live().same_as(noted);
                 put_line(alloc, &Compared { name, same }, writer)
             }
             Question::Restore(target) => {
-                let found = find(book.ledger.history(), Kind::Snapshot, target);
+                let found = find(book.ledger().history(), Kind::Snapshot, target);
                 let name = found.ok_or(Stop::BadLine(Mistake::NoFile))?;
-                book.ledger.refresh();
-                write_restore(alloc, restore(alloc, &book.ledger.view(), name.id), writer)
+                book.refresh();
+                write_restore(
+                    alloc,
+                    restore(alloc, &book.ledger().view(), name.id),
+                    writer,
+                )
             }
             Question::Totals => write_totals(alloc, book.totals(), writer),
             Question::Audit => {
-                book.ledger.refresh();
-                book.ledger.hash_all();
-                write_audit(alloc, audit(alloc, &book.ledger.view()), writer)
+                book.refresh();
+                book.hash_all();
+                write_audit(alloc, audit(alloc, &book.ledger().view()), writer)
             }
         }
     }
@@ -185,15 +183,14 @@ impl Session {
         &self,
         name: &str,
         kit: &mut Kit,
-        book: &mut Book<Hooks>,
+        book: &mut Book,
         writer: &mut W,
     ) -> Result<(), Stop>
-        requires { IsCounted book.old }
+        requires { HasSums book.old }
         ensures answers { Writes (W.contents writer.old) (W.contents writer.new) (λ text.
             AnswersCommand (state_of (kit_view kit.old) self.now book.old) (the_command.Arm name.entry) text result
             (state_of (kit_view kit.new) self.now book.new)) }
         ensures whole { result ≢ Err Stop.WriteFailed → WritesLines (W.contents writer.old) (W.contents writer.new) }
-        ensures counted { IsCounted book.new }
     {
         match arm(kit, book, name) {
             Ok(()) => put_line(self.alloc, &Armed(name), writer),
@@ -204,7 +201,7 @@ impl Session {
     }
 
     /// Notes the repository under the name.
-    fn note<W: Write>(&mut self, name: &str, book: &Book<Hooks>, writer: &mut W) -> Result<(), Stop>
+    fn note<W: Write>(&mut self, name: &str, book: &Book, writer: &mut W) -> Result<(), Stop>
         ensures answers { (kit : KitData)
             → Writes (W.contents writer.old) (W.contents writer.new) (λ text.
             AnswersCommand (state_of kit self.old book.now) (the_command.Note name.entry) text result
@@ -212,7 +209,7 @@ impl Session {
         ensures whole { result ≢ Err Stop.WriteFailed → WritesLines (W.contents writer.old) (W.contents writer.new) }
         ensures input { self.new.input ≡ self.old.input }
     {
-        let copy = book.ledger.repo()?;
+        let copy = book.ledger().repo()?;
         self.notes.insert(name, copy)?;
         put_line(self.alloc, &Noted(name), writer)
     }
@@ -224,35 +221,37 @@ fn perform(
     job: &Job,
     settings: Settings,
     kit: &Kit,
-    book: &mut Book<Hooks>,
+    book: &mut Book,
 ) -> Result<Outcome, JobError>
-    requires { IsCounted book.old }
+    requires { HasSums book.old }
     ensures made { IfOk result (λ made. (change : Change)
-        × (job_change (shown_by book.old.ledger) (settings_view settings (filters_of kit.now)) job.now ≡ Ok change)
-        × AsksBook book.old (commit_of book.old.ledger change) made.0 book.new
+        × (job_change (shown_by (ledger_of book.old)) (settings_view settings (filters_of kit.now)) job.now ≡ Ok change)
+        × AsksBook book.old (commit_of (ledger_of book.old) change) made.0 book.new
         × (made.1 ≡ sizes_of change)) }
     ensures refused { IfErr result (λ refusal. refusal ≢ no_memory
-        → job_change (shown_by book.old.ledger) (settings_view settings (filters_of kit.now)) job.now ≡ Err refusal) }
-    ensures same { IfErr result (λ refusal. book.new ≡ book.old) }
+        → job_change (shown_by (ledger_of book.old)) (settings_view settings (filters_of kit.now)) job.now ≡ Err refusal) }
+    ensures runs_out { IfErr result (λ refusal. refusal ≡ no_memory
+        → has_no_filter (filters_of kit.now) job.now ≡ false) }
+    ensures same { IfErr result (λ refusal. LeavesBook book.old book.new) }
 {
-    book.ledger.refresh();
-    let planned = plan(alloc, &book.ledger.view(), settings, kit, job)?;
+    book.refresh();
+    let planned = plan(alloc, &book.ledger().view(), settings, kit, job)?;
     Ok(commit(book, planned))
 }
 
 /// Commits a change that is planned on the present state, and says how much it writes.
-fn commit_now(book: &mut Book<Hooks>, change: Change) -> Outcome
-    requires { IsCounted book.old }
-    ensures asks { AsksBook book.old (commit_of book.old.ledger change) result.0 book.new }
+fn commit_now(book: &mut Book, change: Change) -> Outcome
+    requires { HasSums book.old }
+    ensures asks { AsksBook book.old (commit_of (ledger_of book.old) change) result.0 book.new }
     ensures sizes { result.1 ≡ sizes_of change }
 {
-    let seen = book.ledger.history().length();
+    let seen = book.ledger().history().length();
     commit(book, Planned { change, seen })
 }
 
 /// Commits a planned change, and says how much it writes.
-fn commit(book: &mut Book<Hooks>, planned: Planned) -> Outcome
-    requires { IsCounted book.old }
+fn commit(book: &mut Book, planned: Planned) -> Outcome
+    requires { HasSums book.old }
     ensures asks { AsksBook book.old (request.Commit planned) result.0 book.new }
     ensures sizes { result.1 ≡ sizes_of planned.change }
 {
@@ -261,8 +260,8 @@ fn commit(book: &mut Book<Hooks>, planned: Planned) -> Outcome
 }
 
 /// Asks the book about an earlier change.
-fn ask(book: &mut Book<Hooks>, revision: Revision) -> Result<Told, Refusal>
-    requires { IsCounted book.old }
+fn ask(book: &mut Book, revision: Revision) -> Result<Told, Refusal>
+    requires { HasSums book.old }
     ensures { AsksBook book.old (request_of revision) result book.new }
 {
     match revision {

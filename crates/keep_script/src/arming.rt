@@ -1,12 +1,12 @@
 ghost use Rattle.std.specs.Prelude.{◌≡◌, ◌<◌, IfSome, length};
-ghost use Rattle.keep_book.specs.Armed.{IsCounted, rules_in, tallies_in, untold};
+ghost use Rattle.keep_book.specs.Armed.{HasSums, hooks_of, ledger_of, with_veto};
 ghost use Rattle.keep_hooks.specs.Kits.{kit_view};
-ghost use Rattle.keep_hooks.specs.Rules.{rules_of, tallies_of};
-ghost use Rattle.keep_script.specs.Arming.{Arming, Moves, veto_place, watch_place};
+ghost use Rattle.keep_hooks.specs.Rules.{rules_of, watches_of};
+ghost use Rattle.keep_script.specs.Arming.{Arming, Moves, veto_place, watch_place, with_watch_now};
 ghost use Rattle.keep_script.specs.State.{state_of};
 ghost use Rattle.keep_script.specs.declared.session.Session.{Session};
 
-use keep_book::{Book, Hooks, NotArmed};
+use keep_book::{Book, NotArmed};
 use keep_hooks::{Kit, Veto, Watch};
 
 /// Why nothing is armed.
@@ -21,11 +21,10 @@ pub(crate) enum Unarmed {
 }
 
 /// Arms the first veto of the kit that has the name, or else the first watch.
-pub(crate) fn arm(kit: &mut Kit, book: &mut Book<Hooks>, name: &str) -> Result<(), Unarmed>
-    requires { IsCounted book.old }
+pub(crate) fn arm(kit: &mut Kit, book: &mut Book, name: &str) -> Result<(), Unarmed>
+    requires { HasSums book.old }
     ensures arms { (session : Session) → Arming (state_of (kit_view kit.old) session book.old) name.now result
         (state_of (kit_view kit.new) session book.new) }
-    ensures counted { IsCounted book.new }
 {
     if book.is_armed(name) {
         return Err(Unarmed::DoubleName);
@@ -41,17 +40,11 @@ pub(crate) fn arm(kit: &mut Kit, book: &mut Book<Hooks>, name: &str) -> Result<(
 
 /// Moves the first veto of the name into the book, behind the others, where there is one. It stays where it was
 /// where it isn't armed.
-fn arm_veto(
-    vetoes: &mut Vec<Veto>,
-    book: &mut Book<Hooks>,
-    name: &str,
-) -> Option<Result<(), Unarmed>>
-    requires { IsCounted book.old }
-    ensures moves { Moves (λ rule. rule) (veto_place name.now (rules_of vetoes.old.items)) (rules_of vetoes.old.items)
-        (rules_in book.old) result (rules_of vetoes.new.items) (rules_in book.new) }
-    ensures tallies { tallies_in book.new ≡ tallies_in book.old }
-    ensures ledger { book.new.ledger ≡ book.old.ledger }
-    ensures counted { IsCounted book.new }
+fn arm_veto(vetoes: &mut Vec<Veto>, book: &mut Book, name: &str) -> Option<Result<(), Unarmed>>
+    requires { HasSums book.old }
+    ensures moves { Moves with_veto (veto_place name.now (rules_of vetoes.old.items)) (rules_of vetoes.old.items)
+        (hooks_of book.old) result (rules_of vetoes.new.items) (hooks_of book.new) }
+    ensures ledger { ledger_of book.new ≡ ledger_of book.old }
 {
     let place = veto_named(vetoes.as_slice(), name)?;
     let veto = vetoes.remove(place);
@@ -65,17 +58,12 @@ fn arm_veto(
 
 /// Moves the first watch of the name into the book, behind the others, where there is one. It stays where it was
 /// where it isn't armed.
-fn arm_watch(
-    watches: &mut Vec<Watch>,
-    book: &mut Book<Hooks>,
-    name: &str,
-) -> Option<Result<(), Unarmed>>
-    requires { IsCounted book.old }
-    ensures moves { Moves untold (watch_place name.now (tallies_of watches.old.items)) (tallies_of watches.old.items)
-        (tallies_in book.old) result (tallies_of watches.new.items) (tallies_in book.new) }
-    ensures counted { IsCounted book.new }
-    ensures rules { rules_in book.new ≡ rules_in book.old }
-    ensures ledger { book.new.ledger ≡ book.old.ledger }
+fn arm_watch(watches: &mut Vec<Watch>, book: &mut Book, name: &str) -> Option<Result<(), Unarmed>>
+    requires { HasSums book.old }
+    ensures moves { Moves (with_watch_now (ledger_of book.old).events)
+        (watch_place name.now (watches_of watches.old.items)) (watches_of watches.old.items)
+        (hooks_of book.old) result (watches_of watches.new.items) (hooks_of book.new) }
+    ensures ledger { ledger_of book.new ≡ ledger_of book.old }
 {
     let place = watch_named(watches.as_slice(), name)?;
     let watch = watches.remove(place);
@@ -101,11 +89,11 @@ fn veto_named(vetoes: &[Veto], name: &str) -> Option<usize>
 
 /// The place of the first watch of the name.
 fn watch_named(watches: &[Watch], name: &str) -> Option<usize>
-    ensures place { result ≡ watch_place name.now (tallies_of watches.now) }
+    ensures place { result ≡ watch_place name.now (watches_of watches.now) }
     ensures within { IfSome result (λ place. place < length watches.now) }
 {
     for (place, watch) in watches.iter().enumerate() {
-        if watch.name.as_str() == name {
+        if watch.name() == name {
             return Some(place);
         }
     }

@@ -8,7 +8,7 @@ ghost use Rattle.keep_script.specs.Text as texts;
 
 use crate::output::put_line;
 use crate::status::Stop;
-use keep_hooks::Watch;
+use keep_hooks::ArmedWatch;
 use keep_journal::{Entry, History};
 use keep_lines::{
     Counts, EventLine, FileLine, Found, FoundCount, RestoredCounts, RestoredFile, TotalLine,
@@ -116,7 +116,7 @@ fn write_entry<W: Write>(alloc: Global, entry: &Entry, writer: &mut W) -> Result
 /// Writes the answer to `totals`: each watch with its total.
 pub(crate) fn write_totals<W: Write>(
     alloc: Global,
-    watches: &[Watch],
+    watches: &[ArmedWatch],
     writer: &mut W,
 ) -> Result<(), Stop>
     ensures puts { Puts (W.contents writer.old) (W.contents writer.new)
@@ -129,13 +129,13 @@ pub(crate) fn write_totals<W: Write>(
     Ok(())
 }
 
-fn write_total<W: Write>(alloc: Global, watch: &Watch, writer: &mut W) -> Result<(), Stop>
+fn write_total<W: Write>(alloc: Global, watch: &ArmedWatch, writer: &mut W) -> Result<(), Stop>
     ensures puts { Puts (W.contents writer.old) (W.contents writer.new) (texts.total_line (tally_of watch.now)) result }
     ensures whole { result ≢ Err Stop.WriteFailed → WritesLines (W.contents writer.old) (W.contents writer.new) }
 {
     let total = TotalLine {
-        name: watch.name.as_str(),
-        total: watch.total,
+        name: watch.name(),
+        total: watch.total(),
     };
     put_line(alloc, &total, writer)
 }

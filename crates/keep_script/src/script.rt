@@ -1,18 +1,18 @@
 ghost use Rattle.std.specs.Prelude.{◌≡◌, ◌≢◌, ◌≤◌, ◌<◌, ◌⊎◌, IfSome, length};
 ghost use Rattle.std.specs.Io.KnownBytes.{Keeps};
-ghost use Rattle.keep_book.specs.Armed.{IsCounted};
+ghost use Rattle.keep_book.specs.Armed.{HasSums, hooks_of, ledger_of};
 ghost use Rattle.keep_hooks.specs.Kits.{filters_of, kit_view};
 ghost use Rattle.keep_jobs.specs.Job.{settings_view};
 ghost use Rattle.keep_script.specs.Known.{Writes, WritesLines};
 ghost use Rattle.keep_script.specs.Line.{longest_script};
 ghost use Rattle.keep_script.specs.Run.{Ends};
-ghost use Rattle.keep_script.specs.State.{State, begun, begun_over};
+ghost use Rattle.keep_script.specs.State.{State, begun, begun_over, kit_of};
 
 use crate::output::flush;
 use crate::session::Session;
 use crate::status::Status;
 use keep_backup::Cut;
-use keep_book::{Book, Hooks};
+use keep_book::Book;
 use keep_hooks::Kit;
 use keep_jobs::Settings;
 use keep_repo::Repo;
@@ -28,7 +28,8 @@ use std::io::{Read, Write};
 /// `restore` and `audit` are written line by line. Where one finds no memory midway, its first
 /// lines are written already, and the run ends as `NoMemory`.
 ///
-/// Lines name the filters of the kit, and arm its vetoes and watches, which are moved out of it. Files are cut for a
+/// Lines name the filters of the kit, and arm its vetoes and watches, which are moved out of it: what is left in the kit is
+/// what the last line left. Files are cut for a
 /// backup after every `cut` bytes, 1 to 8,388,608. For marks and sweeps it is `now`, in whole seconds since
 /// 1970-01-01T00:00:00Z, from the first line to the last.
 pub fn run<R: Read, W: Write>(
@@ -42,6 +43,7 @@ pub fn run<R: Read, W: Write>(
     requires some { 0 < cut }
     requires most { cut ≤ 8_388_608 }
     ensures answers { Writes (W.contents writer.old) (W.contents writer.new) (λ text. (after : State)
+        × (kit_view kit.new ≡ kit_of after)
         × Ends (begun cut now (kit_view kit.old)) (R.remaining reader.old) (R.remaining reader.new) text result after) }
     ensures whole { result ≢ Status.WriteFailed → WritesLines (W.contents writer.old) (W.contents writer.new) }
     ensures limit { result ≡ Status.Done →
@@ -57,18 +59,18 @@ pub fn run<R: Read, W: Write>(
     run_over(alloc, settings, kit, &mut book, reader, writer)
 }
 
-/// Answers the lines of a script over this book, which is left as the last line left it.
+/// Answers the lines of a script over this book, which is left as the last line left it, as the kit is.
 fn run_over<R: Read, W: Write>(
     alloc: Global,
     settings: Settings,
     kit: &mut Kit,
-    book: &mut Book<Hooks>,
+    book: &mut Book,
     reader: &mut R,
     writer: &mut W,
 ) -> Status
-    requires { IsCounted book.old }
+    requires { HasSums book.old }
     ensures answers { Writes (W.contents writer.old) (W.contents writer.new) (λ text. (after : State)
-        × (after.book ≡ book.new.ledger)
+        × (ledger_of book.new ≡ after.book) × (hooks_of book.new ≡ after.armed) × (kit_view kit.new ≡ kit_of after)
         × Ends (begun_over (settings_view settings (filters_of kit.old)) (kit_view kit.old) book.old)
         (R.remaining reader.old) (R.remaining reader.new) text result after) }
     ensures whole { result ≢ Status.WriteFailed → WritesLines (W.contents writer.old) (W.contents writer.new) }

@@ -1,5 +1,5 @@
 ghost use Rattle.std.specs.Prelude.{◌≡◌, ◌≢◌, ◌≤◌, ◌<◌, Err, IfOk, IfSome, Ok, OnOk, [], length, true, false};
-ghost use Rattle.keep_book.specs.Armed.{IsCounted};
+ghost use Rattle.keep_book.specs.Armed.{HasSums};
 ghost use Rattle.keep_hooks.specs.Kits.{kit_view};
 ghost use Rattle.keep_script.specs.Input.{Counted, ahead_of, left_of, unread_of};
 ghost use Rattle.keep_script.specs.Known.{Writes, WritesLines};
@@ -12,7 +12,7 @@ use crate::input::{Input, Piece};
 use crate::notes::Notes;
 use crate::reply::write_bad_line;
 use crate::status::{Status, Stop};
-use keep_book::{Book, Hooks};
+use keep_book::Book;
 use keep_hooks::Kit;
 use keep_jobs::Settings;
 use keep_lines::Mistake;
@@ -20,7 +20,7 @@ use std::alloc::{AllocError, Global};
 use std::io::{Read, Write};
 
 /// What a run works with beside its book.
-#[derive(Debug, Drop)]
+#[derive(Drop)]
 pub(crate) struct Session {
     pub alloc: Global,
     pub settings: Settings,
@@ -50,12 +50,12 @@ impl Session {
     pub fn answer_all<R: Read, W: Write>(
         &mut self,
         kit: &mut Kit,
-        book: &mut Book<Hooks>,
+        book: &mut Book,
         reader: &mut R,
         writer: &mut W,
     ) -> Status
         requires ahead { ahead_of self.old.input ≡ longest_script }
-        requires counted { IsCounted book.old }
+        requires sums { HasSums book.old }
         ensures answers { Writes (W.contents writer.old) (W.contents writer.new) (λ text.
             Ends (state_of (kit_view kit.old) self.old book.old) (left_of self.old.input (R.remaining reader.old))
             (R.remaining reader.new) text result (state_of (kit_view kit.new) self.new book.new)) }
@@ -79,11 +79,11 @@ impl Session {
     fn answer_next<R: Read, W: Write>(
         &mut self,
         kit: &mut Kit,
-        book: &mut Book<Hooks>,
+        book: &mut Book,
         reader: &mut R,
         writer: &mut W,
     ) -> Result<bool, Stop>
-        requires { IsCounted book.old }
+        requires { HasSums book.old }
         ensures answers { Writes (W.contents writer.old) (W.contents writer.new) (λ text.
             AnswersNext (state_of (kit_view kit.old) self.old book.old)
             (left_of self.old.input (R.remaining reader.old))
@@ -95,7 +95,6 @@ impl Session {
             (left_of self.old.input (R.remaining reader.old)) (ahead_of self.old.input)
             (left_of self.new.input (R.remaining reader.new)) (ahead_of self.new.input)) }
         ensures more { result ≡ Ok false → 0 < ahead_of self.new.input }
-        ensures still { IsCounted book.new }
         ensures past_limit { result ≡ Err Stop.ScriptTooLong →
             IfSome (left_of self.old.input (R.remaining reader.old)) (λ bytes. ahead_of self.old.input ≤ length bytes) }
     {

@@ -1,6 +1,6 @@
 use Rattle.std.proofs.Common.{◌∙◌, Some, ap, sym}
 use Rattle.std.proofs.lemmas.Option.{slice_get-get_or}
-use Rattle.keep_book.specs.Armed.{rules_in}
+use Rattle.keep_book.specs.Armed.{hooks_of, with_veto}
 use Rattle.keep_hooks.specs.Rules.{rule_of}
 use Rattle.keep_script.proofs.ArmingLemmas.{moved}
 use Rattle.keep_script.proofs.arming.arm_veto.Goals as goal
@@ -12,4 +12,4 @@ returns-in_default-clause-moves g c =
     let within = rw c.as_slice.ensures.value at c.in_ok-place.ensures.within in
     let there = slice_get-get_or c.args.vetoes.now.items place c.remove-veto.result within ∙ ap Some (sym c.remove-veto.ensures.value) in
     let behind = rw c.in_default.is at c.add_veto.ensures.armed in
-    rw (← found) (moved rule_of (λ rule. rule) c.args.vetoes.now.items c.remove-veto.new.self.items (rules_in c.args.book.now) (rules_in c.add_veto.new.self) place c.remove-veto.result there c.remove-veto.ensures.items behind)
+    rw (← found) (moved rule_of with_veto c.args.vetoes.now.items c.remove-veto.new.self.items (hooks_of c.args.book.now) (hooks_of c.add_veto.new.self) place c.remove-veto.result there c.remove-veto.ensures.items behind)

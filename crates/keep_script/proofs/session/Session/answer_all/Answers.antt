@@ -7,7 +7,7 @@ use Rattle.keep_script.specs.Input.{left_of, unread_of}
 use Rattle.keep_script.proofs.session.Session.answer_all.Goals as goal
 
 pub loop-number-init : goal.loop-number-init
-loop-number-init g c = record { so_far = Progress-none _ _ _; whole = WritesLines-none _; counted = Counted-none _ _; still = c.requires.counted; enough = omega (arith, c.requires.ahead) }
+loop-number-init g c = record { so_far = Progress-none _ _ _; whole = WritesLines-none _; counted = Counted-none _ _; enough = omega (arith, c.requires.ahead) }
 
 pub returns-in-Ok-false-clause-answers : goal.returns-in-Ok-false-clause-answers
 returns-in-Ok-false-clause-answers g c =
@@ -43,7 +43,6 @@ loop-number-preserved g c =
       so_far = Progress-more _ _ _ _ _ _ _ _ _ c.loop-number.number h.2.0 h.0 c.loop-number.invariant.so_far h.2.1 h.2.2 h.2.3 h.1;
       whole = WritesLines-trans _ _ _ c.loop-number.invariant.whole (c.in-Ok-true.ensures.whole (λ e. cc e));
       counted = Counted-more _ _ _ _ _ _ (ended c.loop-number.invariant.so_far.lines) c.loop-number.invariant.so_far.read c.loop-number.invariant.counted c.in-Ok-true.ensures.counted;
-      still = c.in-Ok-true.ensures.still;
       enough = omega (arith, less, c.loop-number.invariant.enough);
     }
 
