@@ -1,18 +1,10 @@
 //! The program `keepd`: answers the script on its standard input.
 #![tactic(auto)]
 
-mod ending;
-mod options;
-mod program;
-#[cfg(test)]
-mod tests;
-
-use ending::Ending;
+use keep_command::{BadOptions, Ending, keepd, tell};
 use keep_script::Status;
-use options::BadOptions;
-use program::keepd;
 use std::env;
-use std::io::{BufWriter, ErrorKind, Write};
+use std::io::{BufWriter, ErrorKind};
 use std::process::ExitCode;
 
 /// The words behind the program's name. One that isn't UTF-8 is no option.
@@ -34,17 +26,10 @@ fn serve<'a>(rt: &HostRuntime, words: &'a [String]) -> Ending<'a> {
     keepd(alloc, words.as_slice(), &mut rt.stdin(), &mut writer)
 }
 
-/// Says why the program ended, unless each line was answered.
-fn tell(rt: &HostRuntime, ending: Ending<'_>) -> ExitCode {
-    if !ending.is_done() {
-        let _ = writeln!(rt.stderr(), "{ending}");
-    }
-    ExitCode::from(ending.code())
-}
-
 fn main(rt: HostRuntime) -> ExitCode {
-    match read_words(&rt) {
-        Ok(words) => tell(&rt, serve(&rt, words.as_slice())),
-        Err(error) => tell(&rt, Ending::from(error)),
-    }
+    let (code, _) = match read_words(&rt) {
+        Ok(words) => tell(serve(&rt, words.as_slice()), &mut rt.stderr()),
+        Err(error) => tell(Ending::from(error), &mut rt.stderr()),
+    };
+    ExitCode::from(code)
 }

@@ -1,0 +1,21 @@
+use Rattle.std.proofs.Common.{◌-◌, ℕ, Err, arith, subst, take}
+use Rattle.std.proofs.lemmas.Option.{slice_get-get_or}
+use Rattle.keep_command.specs.Option.{options_view}
+use Rattle.keep_command.specs.Reading.{Reads}
+use Rattle.keep_command.proofs.BadWordLemmas.{texts, bad-word, none-one-fewer, some-beginning}
+use Rattle.keep_command.proofs.options.find_bad_word.Goals as goal
+
+pub loop-count-preserved : goal.loop-count-preserved
+loop-count-preserved c =
+    let fewer : ℕ = c.loop-count.count - 1 in
+    let refused = subst (λ error. Reads (texts (take fewer c.args.words.now)) (Err error)) c.in-Err-Refused.field-0-is c.in-Err-Refused.ensures.given in
+    none-one-fewer c.args.words.now c.loop-count.count fewer (omega arith) refused c.loop-count.invariant
+
+pub returns-in-Ok : goal.returns-in-Ok
+returns-in-Ok c =
+    let before : ℕ = c.loop-count.count - 1 in
+    let stands = slice_get-get_or c.args.words.now before _ (omega arith) in
+    bad-word c.args.words.now c.loop-count.count before _ (options_view c.in-Ok.field-0) stands (omega arith) c.in-Ok.ensures.given c.loop-count.invariant
+
+pub returns : goal.returns
+returns c = some-beginning _ c.loop-count.count (omega arith) c.loop-count.invariant

@@ -1,0 +1,52 @@
+-- How the program tells of its end.
+use Rattle.std.specs.Prelude.{◌≡◌, ℕ, List, [], ◌++◌, Some, None, codes}
+use Rattle.std.specs.Borrow.{Bor}
+use Rattle.std.specs.Fmt.{decimal}
+use Rattle.keep_lines.specs.Mistake.{mistake_text}
+use Rattle.keep_script.specs.declared.status.Status.TheVariants.{Done, BadLine, ReadFailed, ScriptTooLong, WriteFailed, NoMemory}
+use Rattle.keep_command.specs.Option.{IsBadWord}
+use Rattle.keep_command.specs.declared.ending.Ending.{Ending}
+use Rattle.keep_command.specs.declared.ending.Ending.TheVariants as ending
+use Rattle.keep_command.specs.declared.options.BadOptions.{BadOptions}
+use Rattle.keep_command.specs.declared.options.BadOptions.TheVariants.{Memory, Refused}
+
+-- the exit status: 0 where the script was answered, 2 where a line isn't of the language or the words aren't options, 1 where the run failed
+abbrev pub code_of : Ending → ℕ
+code_of (ending.Ran Done) = 0
+code_of (ending.Ran (BadLine number why)) = 2
+code_of (ending.Ran ReadFailed) = 1
+code_of (ending.Ran ScriptTooLong) = 1
+code_of (ending.Ran WriteFailed) = 1
+code_of (ending.Ran NoMemory) = 1
+code_of (ending.BadOptions word) = 2
+
+-- the end where no options are read, and no word is named
+abbrev pub ending_of : BadOptions → Ending
+ending_of Refused = ending.BadOptions None
+ending_of Memory = ending.Ran NoMemory
+
+-- how the program is called
+abbrev pub usage : List ℕ
+usage = codes "usage: keepd [--cut N] [--now TIME] [--host H] [--tagged T] [--drops N] < SCRIPT"
+
+-- the line on standard error
+abbrev pub ending_text : Ending → List ℕ
+ending_text (ending.Ran Done) = codes "keepd: done"
+ending_text (ending.Ran (BadLine number why)) =
+    codes "keepd: line " ++ (decimal number ++ (codes ": " ++ mistake_text why))
+ending_text (ending.Ran ReadFailed) = codes "keepd: cannot read the script"
+ending_text (ending.Ran ScriptTooLong) = codes "keepd: the script has more than 67,108,863 bytes"
+ending_text (ending.Ran WriteFailed) = codes "keepd: cannot write the answers"
+ending_text (ending.Ran NoMemory) = codes "keepd: no memory"
+ending_text (ending.BadOptions None) = codes "keepd: bad options; " ++ usage
+ending_text (ending.BadOptions (Some word)) =
+    codes "keepd: bad options: " ++ (word.now ++ (codes "; " ++ usage))
+
+-- what is written on standard error: that line, unless each line of the script was answered
+abbrev pub told_text : Ending → List ℕ
+told_text (ending.Ran Done) = []
+told_text ended = ending_text ended ++ codes "\n"
+
+-- the end names the bad one of these words
+abbrev pub NamesBadWord : List (List ℕ) → Ending → Type 0
+NamesBadWord words ended = (word : Bor (List ℕ)) × (ended ≡ ending.BadOptions (Some word)) × IsBadWord words word.now

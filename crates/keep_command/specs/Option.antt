@@ -1,0 +1,88 @@
+-- The options of the program, as clap takes them from the words behind the program's name.
+use Rattle.std.specs.Prelude.{◌≡◌, ◌<◌, ℕ, ℤ, pos, Bool, true, not, ◌&&◌, IsSome, List, Option, Some, None, if◌then◌else◌, codes, slice_get, take, unwrap_or}
+use Rattle.std.specs.List.{list_any}
+use Rattle.std.specs.Str.{bytes_eq}
+use Rattle.std.specs.Option.{option_map_or}
+use Rattle.std.specs.Str.Parse.{digits_value, without_leading_plus}
+use Rattle.clap.specs.ValueTests.{is_unsigned_in}
+use Rattle.clap.specs.Words.{App, Row, Rule, fault_of, first_of, matches_of, new_app, new_rule, with_rule}
+use Rattle.clap.specs.Simple.{on_top}
+use Rattle.clap.specs.Walk.{is_empty}
+use Rattle.keep_docs.specs.Fields.{◌>>=◌}
+use Rattle.keep_snap.specs.Time.{moment_in}
+use Rattle.keep_command.specs.declared.options.Options.{Options}
+
+-- an option that takes one value: `--NAME VALUE` or `--NAME=VALUE`
+abbrev pub option : List ℕ → Rule
+option name = record (new_rule name) { long = Some name }
+
+-- a command of which each word is one behind the program's name
+abbrev pub program : App
+program = on_top (λ top. record top { no_binary_name = true }) (new_app (codes "keepd"))
+
+-- the program's command: its options
+abbrev pub command : App
+command =
+    with_rule (with_rule (with_rule (with_rule (with_rule program (option (codes "cut"))) (option (codes "now")))
+    (option (codes "host"))) (option (codes "tagged"))) (option (codes "drops"))
+
+-- the number that a word writes, if it is one from `least` to `most`: decimal digits, a plus in front or not
+abbrev pub number_in : ℕ → ℕ → List ℕ → Option ℕ
+number_in least most word =
+    if is_unsigned_in least most word then Some (digits_value 10 (without_leading_plus word)) else None
+
+-- the number of an option, which is the usual one where the words don't give it
+abbrev pub number_or : ℕ → ℕ → ℕ → Option (List ℕ) → Option ℕ
+number_or least most usual word = option_map_or (number_in least most) word (Some usual)
+
+-- the moment that an option writes, and 1970-01-01T00:00:00Z where the words don't give it
+abbrev pub moment_or_first : Option (List ℕ) → Option ℤ
+moment_or_first word = option_map_or moment_in word (Some (pos 0))
+
+-- after how many bytes backups cut files, the moment for marks and sweeps, the host of the filter `host`, the tag of the
+-- filter `tagged`, and how many snapshots the veto `few-drops` lets go
+pub record OptionsData : Type 0 where
+  pub cut : ℕ
+  pub now : ℤ
+  pub host : List ℕ
+  pub tagged : List ℕ
+  pub drops : ℕ
+
+-- the same without where the texts lie in memory
+abbrev pub options_view : Options → OptionsData
+options_view options = record {
+  cut = options.cut;
+  now = options.now;
+  host = options.host.now;
+  tagged = options.tagged.now;
+  drops = options.drops;
+}
+
+-- what the command's matches say: each option's value, and its default where the words don't give it
+abbrev pub options_in : List Row → Option OptionsData
+options_in rows = do
+  cut ← number_or 1 8388608 1048576 (first_of (codes "cut") rows)
+  now ← moment_or_first (first_of (codes "now") rows)
+  drops ← number_or 0 1048576 1 (first_of (codes "drops") rows)
+  Some (record {
+    cut = cut;
+    now = now;
+    host = unwrap_or (first_of (codes "host") rows) (codes "web");
+    tagged = unwrap_or (first_of (codes "tagged") rows) (codes "keep");
+    drops = drops;
+  })
+
+-- the words are options, and `--`, which clap takes where no word follows, isn't among them
+abbrev pub are_options : List (List ℕ) → Bool
+are_options words =
+    not (list_any (λ word. bytes_eq word (codes "--")) words) && is_empty (fault_of command words)
+
+-- the options that the words give, if they are options
+abbrev pub options_of : List (List ℕ) → Option OptionsData
+options_of words = if are_options words then options_in (matches_of command words) else None
+
+-- the bad one of words that aren't options: it stands behind their longest beginning that is options
+abbrev pub IsBadWord : List (List ℕ) → List ℕ → Type 0
+IsBadWord words word =
+    (count : ℕ) × (slice_get words count ≡ Some word) × IsSome (options_of (take count words))
+    × ((longer : ℕ) → count < longer → options_of (take longer words) ≡ None)

@@ -1,0 +1,60 @@
+-- What a run by the options does.
+use Rattle.std.specs.Prelude.{◌≡◌, ◌≢◌, ◌≤◌, ℕ, List, [], ◌∷◌, length, IfSome, Option, String, codes, string_bytes}
+use Rattle.std.specs.Global.{Global}
+use Rattle.std.specs.Io.KnownBytes.{Keeps}
+use Rattle.keep_hooks.specs.Guards.{Rule, WatchData}
+use Rattle.keep_hooks.specs.Kits.{KitData, NamedRule}
+use Rattle.keep_hooks.specs.declared.limit.Limit.TheVariants.{NoEmpty, SnapshotDropsAtMost}
+use Rattle.keep_hooks.specs.declared.measure.Measure.TheVariants.{Events, FilesWritten}
+use Rattle.keep_hooks.specs.declared.pick.Pick.TheVariants.{Any, Host, Tagged}
+use Rattle.keep_script.specs.Known.{Writes, WritesLines}
+use Rattle.keep_script.specs.Line.{longest_script}
+use Rattle.keep_script.specs.Run.{Ends}
+use Rattle.keep_script.specs.State.{State, begun}
+use Rattle.keep_script.specs.declared.status.Status.{Status}
+use Rattle.keep_script.specs.declared.status.Status.TheVariants.{ScriptTooLong, WriteFailed}
+use Rattle.keep_command.specs.Option.{OptionsData}
+
+-- the filters that lines may name: `all` takes each snapshot, `host` those of a host, `tagged` those with a tag
+abbrev pub stored_filters : String Global → String Global → List NamedRule
+stored_filters host tag = (codes "all", Any) ∷ (codes "host", Host host) ∷ (codes "tagged", Tagged tag) ∷ []
+
+-- the vetoes that lines may arm: `few-drops` refuses to drop more snapshots than so many, `no-empty` to empty the trash
+abbrev pub stored_vetoes : ℕ → List Rule
+stored_vetoes drops =
+    record { name = codes "few-drops"; limit = SnapshotDropsAtMost drops }
+    ∷ record { name = codes "no-empty"; limit = NoEmpty } ∷ []
+
+-- the watches that lines may arm: `events` counts events, and `files` the files that they add and drop
+abbrev pub stored_watches : List WatchData
+stored_watches =
+    record { name = codes "events"; measure = Events }
+    ∷ record { name = codes "files"; measure = FilesWritten } ∷ []
+
+-- these filters, with those vetoes and watches
+abbrev pub stored : List NamedRule → ℕ → KitData
+stored filters drops = record { filters = filters; vetoes = stored_vetoes drops; watches = stored_watches }
+
+-- the script is answered by the options, with these filters
+abbrev pub RunsWith : List NamedRule → OptionsData → (known left old new : Option (List ℕ)) → Status → Type 0
+RunsWith filters options known left old new status =
+    Writes old new (λ text. (after : State)
+    × Ends (begun options.cut options.now (stored filters options.drops)) known left text status after)
+
+-- the script is answered by the options
+pub record Runs (options : OptionsData) (known left old new : Option (List ℕ)) (status : Status) : Type 0 where
+  pub host : String Global
+  pub tag : String Global
+  pub of_host : string_bytes host ≡ options.host
+  pub of_tag : string_bytes tag ≡ options.tagged
+  pub answers : RunsWith (stored_filters host tag) options known left old new status
+
+-- unless a write failed whole lines are written, and a script is told as too long only where it is
+abbrev pub KeepsLines : (known old new : Option (List ℕ)) → Status → Type 0
+KeepsLines known old new status =
+    (status ≢ WriteFailed → WritesLines old new)
+    × (status ≡ ScriptTooLong → IfSome known (λ script. longest_script ≤ length script))
+
+-- nothing is read or written
+abbrev pub IsUntouched : Option (List ℕ) → Option (List ℕ) → Option (List ℕ) → Option (List ℕ) → Type 0
+IsUntouched known left old new = Keeps known left × Keeps old new

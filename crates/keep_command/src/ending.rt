@@ -1,0 +1,95 @@
+ghost use Rattle.std.specs.Prelude.{◌≡◌, ◌↔◌, IsTrue, OnOk};
+ghost use Rattle.std.specs.Io.KnownBytes.{Appends};
+ghost use Rattle.keep_command.specs.Ending.{code_of, told_text};
+ghost use Rattle.keep_script.specs.declared.status.Status.TheVariants as the_status;
+
+use crate::options::BadOptions;
+use keep_script::Status;
+use std::fmt;
+use std::io::{self, Write};
+
+const USAGE: &str =
+    "usage: keepd [--cut N] [--now TIME] [--host H] [--tagged T] [--drops N] < SCRIPT";
+
+/// Says on standard error why the program ended, unless each line was answered. Answers the exit status, which is the
+/// same where that can't be written, and whether it could.
+pub fn tell<E: Write>(ending: Ending<'_>, errors: &mut E) -> (u8, io::Result<()>)
+    ensures code { result.0 ≡ code_of ending.entry }
+    ensures told { OnOk result.1 (Appends (E.contents errors.old) (E.contents errors.new) (told_text ending.entry)) }
+{
+    let code = ending.code();
+    if ending.is_done() {
+        return (code, Ok(()));
+    }
+    (code, writeln!(errors, "{ending}"))
+}
+
+/// How the program ended. It prints as the line on standard error that says why.
+#[derive(Clone, Copy)]
+pub enum Ending<'a> {
+    /// The script was run, to this end.
+    Ran(Status),
+    /// The words behind the program's name aren't its options. The bad one is named, but where one
+    /// isn't UTF-8 none is.
+    BadOptions(Option<&'a str>),
+}
+
+impl Ending<'_> {
+    ghost use Rattle.keep_command.specs.Ending.{code_of};
+    ghost use Rattle.keep_command.specs.declared.ending.Ending.TheVariants as the_ending;
+
+    /// The exit status: 0 where each line was answered, 1 where the run failed, 2 where a line isn't
+    /// of the language or the words aren't options.
+    pub fn code(self) -> u8
+        ensures { result ≡ code_of self.entry }
+    {
+        match self {
+            Ending::Ran(Status::Done) => 0,
+            Ending::Ran(Status::ReadFailed | Status::ScriptTooLong) => 1,
+            Ending::Ran(Status::WriteFailed | Status::NoMemory) => 1,
+            Ending::Ran(Status::BadLine(_, _)) | Ending::BadOptions(_) => 2,
+        }
+    }
+
+    /// Whether each line was answered, so that there is nothing to say.
+    pub fn is_done(self) -> bool
+        ensures { IsTrue result ↔ (self.entry ≡ the_ending.Ran the_status.Done) }
+    {
+        matches!(self, Ending::Ran(Status::Done))
+    }
+}
+
+impl From<BadOptions> for Ending<'_> {
+    ghost use Rattle.keep_command.specs.Ending.{ending_of};
+
+    ghost from_gives = { λ error ending. ending ≡ ending_of error };
+
+    fn from(error: BadOptions) -> Self {
+        match error {
+            BadOptions::Refused => Ending::BadOptions(None),
+            BadOptions::Memory => Ending::Ran(Status::NoMemory),
+        }
+    }
+}
+
+impl fmt::Display for Ending<'_> {
+    ghost use Rattle.std.specs.Prelude.{Some};
+    ghost use Rattle.keep_command.specs.Ending.{ending_text};
+
+    ghost output = { λ ending. Some (ending_text ending) };
+
+    fn fmt<W: fmt::Write>(&self, f: &mut fmt::Formatter<W>) -> fmt::Result {
+        match self {
+            Ending::Ran(Status::Done) => f.write_str("keepd: done"),
+            Ending::Ran(Status::BadLine(number, why)) => write!(f, "keepd: line {number}: {why}"),
+            Ending::Ran(Status::ReadFailed) => f.write_str("keepd: cannot read the script"),
+            Ending::Ran(Status::ScriptTooLong) => {
+                f.write_str("keepd: the script has more than 67,108,863 bytes")
+            }
+            Ending::Ran(Status::WriteFailed) => f.write_str("keepd: cannot write the answers"),
+            Ending::Ran(Status::NoMemory) => f.write_str("keepd: no memory"),
+            Ending::BadOptions(None) => write!(f, "keepd: bad options; {USAGE}"),
+            Ending::BadOptions(Some(word)) => write!(f, "keepd: bad options: {word}; {USAGE}"),
+        }
+    }
+}

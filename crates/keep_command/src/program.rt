@@ -1,0 +1,138 @@
+ghost use Rattle.std.specs.Prelude.{◌≡◌, ◌≢◌, ◌≤◌, ◌⊎◌, IfErr, IfOk, IfSome, None, length, map};
+ghost use Rattle.keep_hooks.specs.Kits.{named_rule};
+ghost use Rattle.keep_script.specs.Known.{WritesLines};
+ghost use Rattle.keep_script.specs.Line.{longest_script};
+ghost use Rattle.keep_script.specs.declared.status.Status.{Status};
+ghost use Rattle.keep_command.specs.Ending.{NamesBadWord};
+ghost use Rattle.keep_command.specs.Option.{options_of, options_view};
+ghost use Rattle.keep_command.specs.Running.{IsUntouched, KeepsLines, Runs, RunsWith};
+
+use crate::ending::Ending;
+use crate::options::{BadOptions, Options, find_bad_word, read_options};
+use keep_change::{Outline, What};
+use keep_hooks::{
+    AskFacts, AskOutline, CountOutline, Filter, Kit, Limit, Measure, Pick, Veto, Watch,
+    files_written, has_tag, snapshots_dropped,
+};
+use keep_script::{Status, run};
+use keep_snap::SnapFacts;
+use std::alloc::{AllocError, Global};
+use std::io::{Read, Write};
+
+/// Answers the script that the reader gives, by the options that the words behind the program's
+/// name give.
+pub fn keepd<'a, R: Read, W: Write>(
+    alloc: Global,
+    words: &[&'a str],
+    reader: &mut R,
+    writer: &mut W,
+) -> Ending<'a>
+    ensures refused { let given = map (λ word. word.now) words.entry.now in options_of given ≡ None
+        → (NamesBadWord given result ⊎ (result ≡ Ending.Ran Status.NoMemory))
+        × IsUntouched (R.remaining reader.old) (R.remaining reader.new) (W.contents writer.old)
+        (W.contents writer.new) }
+    ensures answers { IfSome (options_of (map (λ word. word.now) words.entry.now)) (λ options.
+        (status : Status) × (result ≡ Ending.Ran status)
+        × (Runs options (R.remaining reader.old) (R.remaining reader.new) (W.contents writer.old)
+        (W.contents writer.new) status ⊎ ((status ≡ Status.NoMemory)
+        × IsUntouched (R.remaining reader.old) (R.remaining reader.new) (W.contents writer.old)
+        (W.contents writer.new)))) }
+    ensures whole { result ≢ Ending.Ran Status.WriteFailed →
+        WritesLines (W.contents writer.old) (W.contents writer.new) }
+    ensures past_limit { result ≡ Ending.Ran Status.ScriptTooLong →
+        IfSome (R.remaining reader.old) (λ script. longest_script ≤ length script) }
+{
+    match read_options(alloc, &*words) {
+        Ok(options) => match answer(alloc, options, reader, writer) {
+            Ok(status) => Ending::Ran(status),
+            Err(AllocError) => Ending::Ran(Status::NoMemory),
+        },
+        Err(BadOptions::Refused) => refuse(alloc, words),
+        Err(BadOptions::Memory) => Ending::Ran(Status::NoMemory),
+    }
+}
+
+/// Answers the script by the options, with the filters `all`, `host` and `tagged`.
+fn answer<R: Read, W: Write>(
+    alloc: Global,
+    options: Options<'_>,
+    reader: &mut R,
+    writer: &mut W,
+) -> Result<Status, AllocError>
+    requires some { 1 ≤ options.cut }
+    requires most { options.cut ≤ 8388608 }
+    ensures runs { IfOk result (λ status. Runs (options_view options.entry) (R.remaining reader.old)
+        (R.remaining reader.new) (W.contents writer.old) (W.contents writer.new) status
+        × KeepsLines (R.remaining reader.old) (W.contents writer.old) (W.contents writer.new) status) }
+    ensures untouched { IfErr result (λ error.
+        IsUntouched (R.remaining reader.old) (R.remaining reader.new) (W.contents writer.old) (W.contents writer.new)) }
+{
+    let ask: AskFacts = Box::new(alloc, |_: &SnapFacts| true)?;
+    let all = Filter::new(String::from_str(alloc, "all")?, Pick::Any, ask);
+    let host = String::from_str(alloc, options.host)?;
+    let rule = Pick::Host(host.clone()?);
+    let ask: AskFacts = Box::new(
+        alloc,
+        move |facts: &SnapFacts| facts.host.as_str() == host.as_str(),
+    )?;
+    let by_host = Filter::new(String::from_str(alloc, "host")?, rule, ask);
+    let tag = String::from_str(alloc, options.tagged)?;
+    let rule = Pick::Tagged(tag.clone()?);
+    let ask: AskFacts = Box::new(alloc, move |facts: &SnapFacts| has_tag(facts, tag.as_str()))?;
+    let by_tag = Filter::new(String::from_str(alloc, "tagged")?, rule, ask);
+    let filters = vec![in alloc; all, by_host, by_tag]?;
+    answer_with(alloc, options, filters, reader, writer)
+}
+
+/// Answers the script by the options, with these filters, the vetoes `few-drops` and `no-empty`, and the watches
+/// `events` and `files`.
+fn answer_with<R: Read, W: Write>(
+    alloc: Global,
+    options: Options<'_>,
+    filters: Vec<Filter>,
+    reader: &mut R,
+    writer: &mut W,
+) -> Result<Status, AllocError>
+    requires some { 1 ≤ options.cut }
+    requires most { options.cut ≤ 8388608 }
+    ensures runs { IfOk result (λ status. RunsWith (map named_rule filters.items) (options_view options.entry)
+        (R.remaining reader.old) (R.remaining reader.new) (W.contents writer.old) (W.contents writer.new) status
+        × KeepsLines (R.remaining reader.old) (W.contents writer.old) (W.contents writer.new) status) }
+    ensures untouched { IfErr result (λ error.
+        IsUntouched (R.remaining reader.old) (R.remaining reader.new) (W.contents writer.old) (W.contents writer.new)) }
+{
+    let most = u64::from(options.drops);
+    let ask: AskOutline = Box::new(
+        alloc,
+        move |outline: &Outline| snapshots_dropped(outline) > most,
+    )?;
+    let name = String::from_str(alloc, "few-drops")?;
+    let few_drops = Veto::new(name, Limit::SnapshotDropsAtMost(most), ask);
+    let ask: AskOutline = Box::new(alloc, |outline: &Outline| outline.what == What::Empty)?;
+    let no_empty = Veto::new(String::from_str(alloc, "no-empty")?, Limit::NoEmpty, ask);
+    let ask: CountOutline = Box::new(alloc, |_: &Outline| 1)?;
+    let events = Watch::new(String::from_str(alloc, "events")?, Measure::Events, ask);
+    let ask: CountOutline = Box::new(alloc, |outline: &Outline| files_written(outline))?;
+    let files = Watch::new(
+        String::from_str(alloc, "files")?,
+        Measure::FilesWritten,
+        ask,
+    );
+    let mut kit = Kit {
+        filters,
+        vetoes: vec![in alloc; few_drops, no_empty]?,
+        watches: vec![in alloc; events, files]?,
+    };
+    Ok(run(alloc, reader, writer, &mut kit, options.cut, options.now))
+}
+
+/// The end where the words aren't options.
+fn refuse<'a>(alloc: Global, words: &[&'a str]) -> Ending<'a>
+    requires { options_of (map (λ word. word.now) words.now) ≡ None }
+    ensures { NamesBadWord (map (λ word. word.now) words.entry.now) result ⊎ (result ≡ Ending.Ran Status.NoMemory) }
+{
+    match find_bad_word(alloc, words) {
+        Ok(word) => Ending::BadOptions(word),
+        Err(AllocError) => Ending::Ran(Status::NoMemory),
+    }
+}
