@@ -8,8 +8,6 @@ mod forget;
 mod input;
 mod pack;
 mod task;
-#[cfg(test)]
-mod tests;
 
 use crate::backup::back_up;
 use crate::document::measure;

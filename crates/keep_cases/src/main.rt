@@ -1,0 +1,29 @@
+//! Runs each case of the table on its standard input through the program `keepd`, and prints what it answers, its exit
+//! status and what it says on standard error.
+//!
+//! A line of the table is `= NAME`, which begins a case, `- WORD`, a word behind the program's name, or a part of the
+//! script: `| TEXT` a line of it, `* N TEXT` a text N times, `x HEX` bytes. Empty lines and `#` are passed over.
+#![tactic(auto)]
+
+mod case;
+
+use case::Case;
+use std::io::{self, BufRead, BufReader, BufWriter, Write};
+
+fn main(rt: HostRuntime) -> io::Result<()> {
+    let alloc = rt.alloc();
+    let reader = BufReader::new(alloc, rt.stdin())?;
+    let mut writer = BufWriter::new(alloc, rt.stdout())?;
+    let mut case = Case::new(alloc);
+    for row in reader.lines(alloc) {
+        let row = row?;
+        if let Some(name) = row.strip_prefix("= ") {
+            case.run(alloc, &mut writer)?;
+            case.begin(alloc, name)?;
+        } else {
+            case.add(alloc, row.as_str())?;
+        }
+    }
+    case.run(alloc, &mut writer)?;
+    writer.flush()
+}

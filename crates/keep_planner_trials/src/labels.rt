@@ -1,4 +1,0 @@
-mod edits;
-mod forgets;
-mod policies;
-mod tags;

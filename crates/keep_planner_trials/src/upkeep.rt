@@ -1,4 +1,0 @@
-mod marks;
-mod packs;
-mod repairs;
-mod sweeps;

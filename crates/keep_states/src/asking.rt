@@ -1,0 +1,50 @@
+use crate::changing::{reply, show_repo, yes};
+use crate::shown::show_ids;
+use crate::state::State;
+use crate::stop::Stop;
+use crate::words;
+use keep_hooks::NoHooks;
+use keep_lines::Counts;
+use std::alloc::AllocError;
+use std::fmt::Write;
+
+/// Answers what is asked of the book and its repository, if the line asks for it.
+pub(crate) fn answer(
+    state: &mut State,
+    verb: &str,
+    rest: &str,
+    out: &mut String,
+) -> Result<bool, Stop> {
+    let ledger = &mut state.ledger;
+    let mut none = NoHooks {};
+    match verb {
+        "undo" => reply(ledger.undo(&mut none, words::number(rest)?), out)?,
+        "redo" => reply(ledger.redo(&mut none, words::number(rest)?), out)?,
+        "empty" => reply(ledger.empty(&mut none, words::number(rest)?), out)?,
+        "length" => writeln!(out, "length {}", ledger.view().length())?,
+        "count" => count(state, out)?,
+        "list" => show_repo(ledger.live(), out)?,
+        "filled" => {
+            let facet = words::facet(rest)?;
+            writeln!(out, "{facet} {}", yes(ledger.live().facet_filled(facet)))?;
+        }
+        "known" => known(state, out)?,
+        _ => return Ok(false),
+    }
+    Ok(true)
+}
+
+fn count(state: &State, out: &mut String) -> Result<(), AllocError> {
+    let repo = state.ledger.live();
+    let (files, marks) = (repo.file_count(), repo.mark_count());
+    writeln!(out, "{}", Counts { files, marks })
+}
+
+/// Writes the snapshots that the book knows.
+fn known(state: &State, out: &mut String) -> Result<(), AllocError> {
+    let known = state.ledger.view().known(state.alloc)?;
+    for id in &known {
+        writeln!(out, "known {id}")?;
+    }
+    writeln!(out, "known {}", known.len())
+}

@@ -1,0 +1,134 @@
+//! Answers a table of cases that no script can say: files under any name, marks of any moment, changes by their
+//! lists, and what planners and readers make of such repositories.
+#![tactic(auto)]
+
+mod asking;
+mod changing;
+mod filling;
+mod listing;
+mod placing;
+mod planning;
+mod reaching;
+mod reading;
+mod shown;
+mod state;
+mod stop;
+mod words;
+
+use crate::state::{State, kit_of};
+use crate::stop::Stop;
+use keep_catalog::Catalog;
+use keep_hooks::{AskFacts, Filter, Kit, Pick};
+use keep_snap::SnapFacts;
+use std::fmt::Write;
+use std::process::ExitCode;
+
+/// What was answered, and the line at which it ended early.
+type Answers = (String, Result<(), String>);
+
+/// Does what the line asks for, and writes the answer.
+fn answer(state: &mut State, line: &str, out: &mut String) -> Result<(), Stop> {
+    let line = line.replace(state.alloc, "$", state.last.as_str())?;
+    let (verb, rest) = line.split_once(' ').unwrap_or((line.as_str(), ""));
+    if filling::answer(state, verb, rest)? {
+        return Ok(());
+    }
+    if listing::answer(state, verb, rest)? {
+        return Ok(());
+    }
+    if changing::answer(state, verb, rest, out)? {
+        return Ok(());
+    }
+    if asking::answer(state, verb, rest, out)? {
+        return Ok(());
+    }
+    if planning::answer(state, verb, rest, out)? {
+        return Ok(());
+    }
+    if reading::answer(state, verb, rest, out)? {
+        return Ok(());
+    }
+    look_up(state, verb, rest, out)
+}
+
+/// Answers what is asked of the catalog.
+fn look_up(state: &State, verb: &str, rest: &str, out: &mut String) -> Result<(), Stop> {
+    let (catalog, unread) = Catalog::read_past(state.alloc, state.ledger.live())?;
+    if placing::answer(state.alloc, &catalog, verb, rest, out)? {
+        return Ok(());
+    }
+    if reaching::answer(state.alloc, &catalog, verb, rest, out)? {
+        return Ok(());
+    }
+    match verb {
+        "catalog" => placing::read(state, out)?,
+        "unread" => placing::show_unread(&unread, out)?,
+        _ => return Err(Stop::NoLine),
+    }
+    Ok(())
+}
+
+/// Answers the line so many times.
+fn repeat(state: &mut State, rest: &str, out: &mut String) -> Result<(), Stop> {
+    let (count, line) = words::pair(rest)?;
+    for _ in 0..words::number(count)? {
+        answer(state, line, out)?;
+    }
+    Ok(())
+}
+
+/// Begins a case, passes over a comment, or answers a line of a case.
+fn step(state: &mut State, line: &str, out: &mut String) -> Result<(), Stop> {
+    if line.is_empty() || line.starts_with('#') {
+        return Ok(());
+    }
+    if line.starts_with("= ") {
+        state.begin();
+        writeln!(out, "{line}")?;
+        return Ok(());
+    }
+    match line.strip_prefix("* ") {
+        Some(rest) => repeat(state, rest, out),
+        None => answer(state, line, out),
+    }
+}
+
+/// The answers to the lines, and why they end before all are answered. Lines may name the filter `all`.
+fn answers(rt: &HostRuntime) -> Result<Answers, Stop> {
+    let alloc = rt.alloc();
+    let ask: AskFacts = Box::new(alloc, |_: &SnapFacts| true)?;
+    let all = Filter::new(String::from_str(alloc, "all")?, Pick::Any, ask);
+    let kit = kit_of(alloc, all)?;
+    answers_with(rt, kit)
+}
+
+/// The same with what is stored.
+fn answers_with(rt: &HostRuntime, kit: Kit) -> Result<Answers, Stop> {
+    let alloc = rt.alloc();
+    let mut out = String::new(alloc);
+    let mut state = State::new(alloc, kit);
+    for line in rt.lines(alloc) {
+        let line = line?;
+        if let Err(stop) = step(&mut state, line.as_str(), &mut out) {
+            return Ok((out, Err(format!(in alloc; "{stop}: {line}")?)));
+        }
+    }
+    Ok((out, Ok(())))
+}
+
+fn main(rt: HostRuntime) -> ExitCode {
+    let (out, end) = match answers(&rt) {
+        Ok(answers) => answers,
+        Err(stop) => {
+            let _ = eprintln!(rt; "keep_states: {stop}");
+            return ExitCode::FAILURE;
+        }
+    };
+    if let Err(why) = &end {
+        let _ = eprintln!(rt; "keep_states: {why}");
+    }
+    match (print!(rt; "{out}"), end) {
+        (Ok(()), Ok(())) => ExitCode::SUCCESS,
+        _ => ExitCode::FAILURE,
+    }
+}

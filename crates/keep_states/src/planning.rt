@@ -1,0 +1,176 @@
+use crate::changing::reply;
+use crate::shown::show_change;
+use crate::state::{State, no_change};
+use crate::stop::Stop;
+use crate::words;
+use keep_backup::{BackupFacts, Cut, plan_backup, store};
+use keep_change::{Change, Planned};
+use keep_hooks::NoHooks;
+use keep_jobs::{Job, JobError, Settings, plan};
+use keep_lines::{Command, LineError, Refused, parse};
+use keep_names::BlobType;
+use keep_plan::{PlanError, Stored};
+use std::alloc::{AllocError, Global};
+use std::fmt::Write;
+use std::mem;
+
+/// After how many bytes the backups of lines cut files.
+const CUT: u32 = 1_048_576;
+
+/// Plans, if the line asks for it. What is planned is held and written.
+pub(crate) fn answer(
+    state: &mut State,
+    verb: &str,
+    rest: &str,
+    out: &mut String,
+) -> Result<bool, Stop> {
+    let alloc = state.alloc;
+    match verb {
+        "now" => state.now = words::moment(rest)?,
+        "plan" => {
+            let planned = planned(state, rest)?;
+            hold(state, planned, out)?;
+        }
+        "do" => {
+            let planned = planned(state, rest)?;
+            commit(state, planned, out)?;
+        }
+        "store" => {
+            let blobs = blobs(alloc, rest)?;
+            let stored = store(alloc, &state.ledger.view(), &blobs);
+            hold(state, stored.map(|stored| as_planned(alloc, stored)), out)?;
+        }
+        "file" => add_file(state, rest)?,
+        "backup" => {
+            let planned = back_up(state, rest)?;
+            hold(state, planned, out)?;
+        }
+        _ => return Ok(false),
+    }
+    Ok(true)
+}
+
+/// Holds what is planned and writes its lists, or why nothing is planned.
+fn hold(
+    state: &mut State,
+    planned: Result<Planned, PlanError>,
+    out: &mut String,
+) -> Result<(), AllocError> {
+    match planned {
+        Ok(planned) => {
+            state.held = planned;
+            show_change(&state.held.change, out)?;
+            let seen = state.held.seen;
+            writeln!(out, "seen {seen}")
+        }
+        Err(refusal) => writeln!(out, "{}", Refused(refusal)),
+    }
+}
+
+/// Commits what is planned at once.
+fn commit(
+    state: &mut State,
+    planned: Result<Planned, PlanError>,
+    out: &mut String,
+) -> Result<(), AllocError> {
+    match planned {
+        Ok(planned) => reply(state.ledger.commit(&mut NoHooks {}, planned), out),
+        Err(refusal) => writeln!(out, "{}", Refused(refusal)),
+    }
+}
+
+/// The job of a line of the script language.
+fn job_of(alloc: Global, line: &str) -> Result<Job, Stop> {
+    match parse(alloc, line.as_bytes()) {
+        Ok(Some(Command::Job(job))) => Ok(job),
+        Err(LineError::Memory) => Err(Stop::Memory),
+        _ => Err(Stop::NoLine),
+    }
+}
+
+/// What the job of the line is planned as.
+fn planned(state: &State, line: &str) -> Result<Result<Planned, PlanError>, Stop> {
+    let job = job_of(state.alloc, line)?;
+    let settings = Settings {
+        cut: Cut::after(CUT),
+        now: state.now,
+    };
+    match plan(
+        state.alloc,
+        &state.ledger.view(),
+        settings,
+        &state.kit,
+        &job,
+    ) {
+        Ok(planned) => Ok(Ok(planned)),
+        Err(JobError::Refused(refusal)) => Ok(Err(refusal)),
+        Err(JobError::NoFilter) => Err(Stop::NoLine),
+    }
+}
+
+/// Blobs by their types and texts.
+fn blobs(alloc: Global, text: &str) -> Result<Vec<(BlobType, Vec<u8>)>, Stop> {
+    let mut blobs = Vec::new(alloc);
+    for word in text.split(' ') {
+        let (blob_type, text) = word.split_once('=').ok_or(Stop::NoLine)?;
+        let bytes = Vec::from_slice(alloc, text.as_bytes())?;
+        blobs.push((words::blob_type(blob_type)?, bytes))?;
+    }
+    Ok(blobs)
+}
+
+/// What is stored, as the lists of a change.
+fn as_planned(alloc: Global, stored: Stored) -> Planned {
+    let mut change = Change::new(alloc);
+    change.adds = stored.adds;
+    change.clears = stored.clears;
+    change.present = stored.present;
+    change.unmarked = stored.unmarked;
+    Planned { change, seen: 0 }
+}
+
+/// Adds a file that has a byte so many times to those that a backup is to have.
+fn add_file(state: &mut State, rest: &str) -> Result<(), Stop> {
+    let (path, rest) = words::pair(rest)?;
+    let (count, byte) = words::pair(rest)?;
+    let count = words::short_number(count)?;
+    let byte = words::byte(byte)?;
+    let bytes = vec![in state.alloc; byte; count as usize]?;
+    state
+        .files
+        .push((String::from_str(state.alloc, path)?, bytes))?;
+    Ok(())
+}
+
+/// Plans a backup of these files by its host, user, path, time and cut.
+fn back_up(state: &State, rest: &str) -> Result<Result<Planned, PlanError>, Stop> {
+    let alloc = state.alloc;
+    let (host, rest) = words::pair(rest)?;
+    let (user, rest) = words::pair(rest)?;
+    let (path, rest) = words::pair(rest)?;
+    let (time, cut) = words::pair(rest)?;
+    let facts = facts_of(alloc, host, user, path, time)?;
+    let cut = words::short_number(cut)?;
+    if cut == 0 || cut > 8_388_608 {
+        return Err(Stop::NoLine);
+    }
+    let view = state.ledger.view();
+    Ok(plan_backup(alloc, &view, &state.files, &facts, Cut::after(cut)))
+}
+
+fn facts_of(
+    alloc: Global,
+    host: &str,
+    user: &str,
+    path: &str,
+    time: &str,
+) -> Result<BackupFacts, AllocError> {
+    let mut paths = Vec::new(alloc);
+    paths.push(String::from_str(alloc, path)?)?;
+    Ok(BackupFacts {
+        host: String::from_str(alloc, host)?,
+        user: String::from_str(alloc, user)?,
+        paths,
+        time: String::from_str(alloc, time)?,
+    })
+}

@@ -1,0 +1,18 @@
+//! Trials of what no line of a table can say: readers and writers that fail, want of memory, a history that begins past
+//! one, and hooks that the program doesn't have.
+#![tactic(auto)]
+
+#[cfg(test)]
+mod arming;
+#[cfg(test)]
+mod command;
+#[cfg(test)]
+mod histories;
+#[cfg(test)]
+mod hooks;
+#[cfg(test)]
+mod readers;
+#[cfg(test)]
+mod scripts;
+#[cfg(test)]
+mod writers;
