@@ -149,8 +149,8 @@ sums_armed j watches tallies watch numbered were =
     ap (λ (n : ℕ). the_tally watch.name watch.measure n) (sym none) in (
       All-push (λ (w : ArmedData). w.since ≤ length_of j) watches (armed_at (length_of j) watch) were.0 (omega arith),
       ap (λ ts. ts ++ untold watch ∷ []) were.1
-      ∙ ap (λ t. sums_of j watches ++ t ∷ []) same
-      ∙ sym (map-append (sum_of j) watches (armed_at (length_of j) watch ∷ [])),
+          ∙ ap (λ t. sums_of j watches ++ t ∷ []) same
+          ∙ sym (map-append (sum_of j) watches (armed_at (length_of j) watch ∷ [])),
     )
 
 -- one more event
