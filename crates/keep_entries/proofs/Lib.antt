@@ -1,0 +1,4 @@
+pub mod HexBytes
+pub mod RoundTrip
+pub mod Telling
+pub mod Written

@@ -1,0 +1,127 @@
+-- An event is read back from each of its texts: all that the form tells of it.
+use Rattle.std.proofs.Common.{◌≡◌, ℕ, ◌^◌, ◌++◌, ℤ, pos, negsuc, List, [], ◌∷◌, map, codes, Option, Some, option_map, option_and_then, Result, refl, ap, ◌∙◌}
+use Rattle.std.proofs.lemmas.Bool.{lt-ltb}
+use Rattle.std.specs.List.{AllByRecursion}
+use Rattle.std.specs.Result.{result_ok}
+use Rattle.serde_json.specs.Data.{Data}
+use Rattle.serde_json.specs.Find.{as_i64, of_integer}
+use Rattle.serde_json.specs.View.{items_of}
+use Rattle.keep_names.specs.FileName.{kind_text, named}
+use Rattle.keep_names.specs.Id.{IsDigest, id_text}
+use Rattle.keep_names.specs.declared.file_name.FileName.{FileName}
+use Rattle.keep_names.specs.declared.file_name.Kind.{Kind}
+use Rattle.keep_names.specs.declared.file_name.Kind.TheVariants.{Pack, Index, Snapshot}
+use Rattle.keep_names.specs.declared.id.Id.{Id}
+use Rattle.keep_docs.specs.Fields.{as_id, id_data, values_of}
+use Rattle.keep_docs.specs.Lists.{each}
+use Rattle.keep_docs.specs.declared.doc.DocError.{DocError}
+use Rattle.keep_docs.proofs.Built.{as_id-id_data}
+use Rattle.keep_docs.proofs.IdTexts.{id_of_text-id_text}
+use Rattle.keep_docs.proofs.ReadBack.{doc_of-compact_text}
+use Rattle.keep_change.specs.NamedBytes.{NamedBytes}
+use Rattle.keep_change.specs.declared.change.Change.{Change}
+use Rattle.keep_change.specs.declared.change.PackMark.{PackMark}
+use Rattle.keep_journal.specs.declared.event.Event.{Event}
+use Rattle.keep_journal.specs.declared.event.Event.TheVariants.{Commit, Undo, Redo, Empty}
+use Rattle.keep_entries.specs.Entry.{FilesFit, Fits, FitsFile, FitsMark, FitsMoment, FitsName, MarksFit, event_told, mark_told}
+use Rattle.keep_entries.specs.Shape.{as_name, change_in, event_in, file_in, form_in, form_numbered, mark_in, name_of_text, read_of, told_in}
+use Rattle.keep_entries.specs.Spelling.{commit_data, event_data, file_data, form_number, mark_data, name_data, text_in}
+use Rattle.keep_entries.specs.declared.form.Form.{Form}
+use Rattle.keep_entries.specs.declared.form.Form.TheVariants.{Packs, Moments}
+use Rattle.keep_entries.proofs.HexBytes.{bytes_back}
+use Rattle.keep_entries.proofs.Written.{depth-event, readable_event}
+
+-- ---- lists
+
+module _ {A : Type 0} (P : A → Type 0) (read : Data → Option A) (write : A → Data) (told : A → A)
+    (one : (x : A) → P x → read (write x) ≡ Some (told x)) where
+  -- what is told of each value is read back of a list
+  told_back : (xs : List A) → AllByRecursion P xs → each read (values_of (items_of (map write xs))) ≡ Some (map told xs)
+  told_back [] h = refl
+  told_back (x ∷ xs) h = rw (one x h.0, told_back xs h.1)
+
+module _ {A : Type 0} (P : A → Type 0) (read : Data → Option A) (write : A → Data)
+    (one : (x : A) → P x → read (write x) ≡ Some x) where
+  -- a list is read back where each value is
+  list_back : (xs : List A) → AllByRecursion P xs → each read (values_of (items_of (map write xs))) ≡ Some xs
+  list_back [] h = refl
+  list_back (x ∷ xs) h = rw (one x h.0, list_back xs h.1)
+
+-- ---- names, files, marks
+
+kind_back : (kind : Kind) (id : Id) → IsDigest id → name_of_text (kind_text kind ++ (codes "/" ++ id_text id)) ≡ Some (named kind id)
+kind_back Pack id h = rw (id_of_text-id_text id h)
+kind_back Index id h = rw (id_of_text-id_text id h)
+kind_back Snapshot id h = rw (id_of_text-id_text id h)
+
+name_back : (name : FileName) → FitsName name → as_name (name_data name) ≡ Some name
+name_back name h = kind_back name.kind name.id h
+
+file_back : (file : NamedBytes) → FitsFile file → file_in (file_data file) ≡ Some file
+file_back file h = rw (name_back file.name h.0, bytes_back file.bytes h.1)
+
+moment_back : (z : ℤ) → FitsMoment z → as_i64 (of_integer z) ≡ Some z
+moment_back (pos n) h = rw (lt-ltb n (2 ^ 63) h)
+moment_back (negsuc n) h = refl
+
+mark_back : (form : Form) (m : PackMark) → FitsMark m → mark_in form (mark_data form m) ≡ Some (mark_told form m)
+mark_back Packs m h = rw (as_id-id_data m.pack h.0)
+mark_back Moments m h = rw (as_id-id_data m.pack h.0, moment_back m.mark.moment h.1)
+
+-- ---- events
+
+names_back : (names : List FileName) → AllByRecursion FitsName names → each as_name (values_of (items_of (map name_data names))) ≡ Some names
+names_back = list_back FitsName as_name name_data name_back
+
+files_back : (files : List NamedBytes) → AllByRecursion FitsFile files → each file_in (values_of (items_of (map file_data files))) ≡ Some files
+files_back = list_back FitsFile file_in file_data file_back
+
+packs_back : (packs : List Id) → AllByRecursion IsDigest packs → each as_id (values_of (items_of (map id_data packs))) ≡ Some packs
+packs_back = list_back IsDigest as_id id_data as_id-id_data
+
+marks_back : (form : Form) (marks : List PackMark) → AllByRecursion FitsMark marks
+    → each (mark_in form) (values_of (items_of (map (mark_data form) marks))) ≡ Some (map (mark_told form) marks)
+marks_back form = told_back FitsMark (mark_in form) (mark_data form) (mark_told form) (mark_back form)
+
+-- what the form tells of a change
+abbrev change_told : Form → Change → Change
+change_told form c = record c { sets = map (mark_told form) c.sets; clears = map (mark_told form) c.clears }
+
+change_back : (form : Form) (n : ℕ) (c : Change) → FilesFit c → MarksFit c → change_in form (commit_data form n c) ≡ Some (change_told form c)
+change_back form n c files marks =
+    rw (
+      files_back c.adds files.adds,
+      files_back c.drops files.drops,
+      marks_back form c.sets marks.sets,
+      marks_back form c.clears marks.clears,
+      names_back c.present files.present,
+      names_back c.absent files.absent,
+      packs_back c.marked marks.marked,
+      packs_back c.unmarked marks.unmarked,
+    )
+
+event_back : (form : Form) (event : Event) → Fits event → event_in form (event_data form event) ≡ Some (event_told form event)
+event_back form (Commit n c) h = ap (λ (o : Option Change). option_map (Commit n) o) (change_back form n c h.1 h.2)
+event_back form (Undo n) h = refl
+event_back form (Redo n) h = refl
+event_back form (Empty n marks) h = ap (λ (o : Option (List PackMark)). option_map (Empty n) o) (marks_back form marks h.1)
+
+form_back : (form : Form) → form_numbered (form_number form) ≡ Some form
+form_back Packs = refl
+form_back Moments = refl
+
+form_found : (form : Form) (event : Event) → form_in (event_data form event) ≡ Some form
+form_found form (Commit n c) = form_back form
+form_found form (Undo n) = form_back form
+form_found form (Redo n) = form_back form
+form_found form (Empty n marks) = form_back form
+
+both_told : (d : Data) (form : Form) (event : Event) → form_in d ≡ Some form → event_in form d ≡ Some event → told_in d ≡ Some (form, event)
+both_told d form event is_form is_event = rw (is_form, is_event)
+
+-- all that the form tells of an event is read of its text
+pub read_back : (form : Form) (event : Event) → Fits event → read_of (text_in form event) ≡ Some (form, event_told form event)
+read_back form event h =
+    let document = doc_of-compact_text (event_data form event) (readable_event form event h) (depth-event form event) in
+    ap (λ (r : Result Data DocError). option_and_then told_in (result_ok r)) document
+    ∙ both_told (event_data form event) form (event_told form event) (form_found form event) (event_back form event h)

@@ -1,0 +1,68 @@
+-- What bytes spell, and that they spell nothing else.
+use Rattle.std.proofs.Common.{◌≡◌, ◌≢◌, ℕ, List, None, Some, Result, Ok, Err, IfOk, Vec, Global, false, sym, ap, subst, ◌∙◌}
+use Rattle.std.specs.declared.alloc.AllocError.{AllocError}
+use Rattle.serde_json.specs.Data.{Data}
+use Rattle.serde_json.specs.Written.{compact_text, has_float}
+use Rattle.keep_docs.proofs.ReadBack.{has_float-IsReadable}
+use Rattle.keep_journal.specs.declared.event.Event.{Event}
+use Rattle.keep_entries.specs.Entry.{Fits, IsEntry, Spells, TellsNothing, event_told}
+use Rattle.keep_entries.specs.Laws.{FormsDiffer, OneEventIsSpelled}
+use Rattle.keep_entries.specs.Shape.{read_of}
+use Rattle.keep_entries.specs.Spelling.{event_data, text_in}
+use Rattle.keep_entries.specs.declared.form.Form.{Form}
+use Rattle.keep_entries.specs.declared.form.Form.TheVariants.{Packs, Moments}
+use Rattle.keep_entries.proofs.RoundTrip.{read_back}
+use Rattle.keep_entries.proofs.Written.{readable_event}
+
+pair_same : {A B : Type 0} (p q : A × B) → Some p ≡ Some q → (p.0 ≡ q.0) × (p.1 ≡ q.1)
+pair_same {A} {B} p q e =
+    let same : p ≡ q = cc in
+    (ap (λ (x : A × B). x.0) same, ap (λ (x : A × B). x.1) same)
+
+-- what is spelled is read
+spelled_reads : (bytes : List ℕ) (event : Event) → Fits event → (s : Spells bytes event) → read_of bytes ≡ Some (s.0, event)
+spelled_reads bytes event fits s =
+    ap read_of s.1 ∙ read_back s.0 event fits ∙ ap (λ (e : Event). Some (s.0, e)) s.2
+
+pub one_event : OneEventIsSpelled
+one_event bytes a b fits_a fits_b spells_a spells_b =
+    let first = spelled_reads bytes a fits_a spells_a in
+    let second = spelled_reads bytes b fits_b spells_b in
+    (pair_same (spells_a.0, a) (spells_b.0, b) (sym first ∙ second)).1
+
+pub forms_differ : FormsDiffer
+forms_differ a b fits_a fits_b same =
+    let both = sym (read_back Packs a fits_a) ∙ ap read_of same ∙ read_back Moments b fits_b in
+    let one : Packs ≡ Moments = (pair_same (Packs, event_told Packs a) (Moments, event_told Moments b) both).0 in
+    cc
+
+-- what is read and has the same text is spelled
+pub is_spelled : (bytes : List ℕ) (form : Form) (event : Event) → read_of bytes ≡ Some (form, event) → Fits event
+    → bytes ≡ text_in form event → Spells bytes event
+is_spelled bytes form event found fits same =
+    let again = sym (ap read_of same ∙ read_back form event fits) ∙ found in
+    (form, same, (pair_same (form, event_told form event) (form, event) again).1)
+
+-- bytes of which nothing is read spell nothing
+pub nothing_read : (k : ℕ) (bytes : List ℕ) → read_of bytes ≡ None → TellsNothing k bytes
+nothing_read k bytes none event is s =
+    let found = sym none ∙ spelled_reads bytes event is.fits s in
+    cc
+
+-- and where something is read, they spell nothing else
+pub nothing_else : (k : ℕ) (bytes : List ℕ) (form : Form) (event : Event) → read_of bytes ≡ Some (form, event)
+    → (IsEntry (record { at = k; event = event }) → bytes ≢ text_in form event) → TellsNothing k bytes
+nothing_else k bytes form event found apart other is s =
+    let same = pair_same (s.0, other) (form, event) (sym (spelled_reads bytes other is.fits s) ∙ found) in
+    let entry = subst (λ (e : Event). IsEntry (record { at = k; event = e })) same.1 is in
+    apart entry (s.1 ∙ ap (λ (f : Form). text_in f other) same.0 ∙ ap (text_in form) same.1)
+
+-- ---- the writer's answer
+
+pub text_is : (r : Result (Vec ℕ Global) AllocError) (d : Data) (form : Form) (event : Event) → d ≡ event_data form event
+    → Fits event → IfOk r (λ bytes. has_float d ≡ false → bytes.items ≡ compact_text d)
+    → IfOk r (λ bytes. bytes.items ≡ text_in form event)
+text_is (Ok bytes) d form event is fits text =
+    let whole = has_float-IsReadable (event_data form event) (readable_event form event fits) in
+    text (ap has_float is ∙ whole) ∙ ap compact_text is
+text_is (Err e) d form event is fits text = tt

@@ -1,0 +1,101 @@
+-- Which entries there are, and which bytes spell them.
+use Rattle.std.specs.Prelude.{◌≡◌, ℕ, ◌<◌, ◌≤◌, ◌^◌, ℤ, pos, negsuc, List, map, length}
+use Rattle.std.specs.List.{AllByRecursion}
+use Rattle.std.specs.List.Sorted.{IsStrictlySortedBy}
+use Rattle.hex.specs.Hex.{IsBytes}
+use Rattle.keep_names.specs.Id.{IsDigest}
+use Rattle.keep_names.specs.Orders.{id_cmp}
+use Rattle.keep_names.specs.declared.file_name.FileName.{FileName}
+use Rattle.keep_change.specs.Form.{IsWellFormed}
+use Rattle.keep_change.specs.Limits.{facet_limit}
+use Rattle.keep_change.specs.Lists.{marked_packs}
+use Rattle.keep_change.specs.NamedBytes.{NamedBytes}
+use Rattle.keep_change.specs.Touch.{facets}
+use Rattle.keep_change.specs.declared.change.Change.{Change}
+use Rattle.keep_change.specs.declared.change.PackMark.{PackMark}
+use Rattle.keep_journal.specs.Event.{number_of}
+use Rattle.keep_journal.specs.declared.event.Entry.{Entry}
+use Rattle.keep_journal.specs.declared.event.Event.{Event}
+use Rattle.keep_journal.specs.declared.event.Event.TheVariants.{Commit, Undo, Redo, Empty}
+use Rattle.keep_entries.specs.Shape.{mark_at}
+use Rattle.keep_entries.specs.Spelling.{text_in}
+use Rattle.keep_entries.specs.declared.form.Form.{Form}
+use Rattle.keep_entries.specs.declared.form.Form.TheVariants.{Packs, Moments}
+
+-- ---- what the types say
+
+-- a name's id has 32 bytes
+abbrev pub FitsName : FileName → Type 0
+FitsName name = IsDigest name.id
+
+abbrev pub FitsFile : NamedBytes → Type 0
+FitsFile file = FitsName file.name × IsBytes file.bytes
+
+-- a moment has 64 bits with a sign
+abbrev pub FitsMoment : ℤ → Type 0
+FitsMoment (pos n) = n < 2 ^ 63
+FitsMoment (negsuc n) = n < 2 ^ 63
+
+abbrev pub FitsMark : PackMark → Type 0
+FitsMark m = IsDigest m.pack × FitsMoment m.mark.moment
+
+-- the files that the change lists fit
+pub record FilesFit (c : Change) : Type 0 where
+  pub adds : AllByRecursion FitsFile c.adds
+  pub drops : AllByRecursion FitsFile c.drops
+  pub present : AllByRecursion FitsName c.present
+  pub absent : AllByRecursion FitsName c.absent
+
+-- the marks that it lists fit
+pub record MarksFit (c : Change) : Type 0 where
+  pub sets : AllByRecursion FitsMark c.sets
+  pub clears : AllByRecursion FitsMark c.clears
+  pub marked : AllByRecursion IsDigest c.marked
+  pub unmarked : AllByRecursion IsDigest c.unmarked
+
+-- an event fits: the change's number is below 2^64, and what is listed fits
+abbrev pub Fits : Event → Type 0
+Fits (Commit n c) = (n < 2 ^ 64) × FilesFit c × MarksFit c
+Fits (Undo n) = n < 2 ^ 64
+Fits (Redo n) = n < 2 ^ 64
+Fits (Empty n marks) = (n < 2 ^ 64) × AllByRecursion FitsMark marks
+
+-- ---- which entries there are
+
+-- a commit's change is well formed and within the limit of facets, and an emptying's marks are in order, each pack once
+abbrev pub IsProper : Event → Type 0
+IsProper (Commit n c) = IsWellFormed c × (length (facets c) ≤ facet_limit)
+IsProper (Undo n) = Unit {0}
+IsProper (Redo n) = Unit {0}
+IsProper (Empty n marks) = IsStrictlySortedBy id_cmp (marked_packs marks)
+
+-- an entry of a journal: entries and changes are numbered from 1 on
+pub record IsEntry (e : Entry) : Type 0 where
+  pub at : 0 < e.at
+  pub number : 0 < number_of e.event
+  pub fits : Fits e.event
+  pub proper : IsProper e.event
+
+-- ---- which bytes spell them
+
+-- what a form tells of a mark: where it has no moments, they are 0
+abbrev pub mark_told : Form → PackMark → PackMark
+mark_told Packs m = mark_at m.pack (pos 0)
+mark_told Moments m = m
+
+-- what a form tells of an event
+abbrev pub event_told : Form → Event → Event
+event_told form (Commit n c) =
+    Commit n (record c { sets = map (mark_told form) c.sets; clears = map (mark_told form) c.clears })
+event_told form (Undo n) = Undo n
+event_told form (Redo n) = Redo n
+event_told form (Empty n marks) = Empty n (map (mark_told form) marks)
+
+-- the bytes are the event's text in one of the forms, which tells all of it
+abbrev pub Spells : List ℕ → Event → Type 0
+Spells bytes event = (form : Form) × (bytes ≡ text_in form event) × (event_told form event ≡ event)
+
+-- the bytes spell no entry of this number
+abbrev pub TellsNothing : ℕ → List ℕ → Type 0
+TellsNothing k bytes =
+    (event : Event) → IsEntry (record { at = k; event = event }) → Spells bytes event → ⊥

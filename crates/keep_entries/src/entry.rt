@@ -1,0 +1,60 @@
+ghost use Rattle.std.specs.Prelude.{◌≡◌, ◌≢◌, IfOk, IfErr};
+ghost use Rattle.keep_entries.specs.Entry.{Fits, IsEntry, Spells, TellsNothing};
+ghost use Rattle.keep_entries.specs.Spelling.{entry_text};
+ghost use Rattle.keep_entries.specs.declared.entry_error.EntryError.TheVariants.{BadEntry, Memory};
+ghost use Rattle.keep_entries.specs.declared.misread.Misread.TheVariants as misread;
+
+use crate::checks::{is_proper, is_spelled};
+use crate::entry_error::EntryError;
+use crate::event_in::read_in;
+use crate::form::Form;
+use crate::misread::Misread;
+use crate::writing::write_in;
+use keep_journal::{Entry, Event};
+use std::alloc::{AllocError, Global};
+
+/// The text of an entry's event. The entry's own number doesn't stand in it.
+pub fn write_entry(alloc: Global, entry: &Entry) -> Result<Vec<u8>, AllocError>
+    ensures text { IfOk result (λ bytes. bytes.items ≡ entry_text entry.now.event) }
+    ensures fits { IfOk result (λ _. Fits entry.now.event) }
+{
+    write_in(alloc, Form::Moments, &entry.event)
+}
+
+/// Reads the entry of number k, in either form and in no other spelling. What was read is written again and compared,
+/// so a large commit takes several times its memory while it is read.
+pub fn read_entry(alloc: Global, k: u64, bytes: &[u8]) -> Result<Entry, EntryError>
+    ensures number { IfOk result (λ entry. entry.at ≡ k) }
+    ensures entry { IfOk result IsEntry }
+    ensures spelled { IfOk result (λ entry. Spells bytes.now entry.event) }
+    ensures bad { IfErr result (λ why. why ≢ Memory → why ≡ BadEntry k) }
+    ensures nothing { IfErr result (λ why. why ≢ Memory → TellsNothing k bytes.now) }
+{
+    match event_of(alloc, k, bytes) {
+        Ok(event) => Ok(Entry { at: k, event }),
+        Err(Misread::OtherShape) => Err(EntryError::BadEntry(k)),
+        Err(Misread::Memory) => Err(EntryError::Memory),
+    }
+}
+
+// The event whose text the bytes are.
+fn event_of(alloc: Global, k: u64, bytes: &[u8]) -> Result<Event, Misread>
+    ensures entry { IfOk result (λ event. IsEntry (record { at = k; event = event })) }
+    ensures spelled { IfOk result (λ event. Spells bytes.now event) }
+    ensures nothing { IfErr result (λ why. why ≢ misread.Memory → TellsNothing k bytes.now) }
+{
+    if k == 0 {
+        return Err(Misread::OtherShape);
+    }
+    let (form, event) = read_in(alloc, bytes)?;
+    if event.number() == 0 {
+        return Err(Misread::OtherShape);
+    }
+    if !is_proper(&event) {
+        return Err(Misread::OtherShape);
+    }
+    if !is_spelled(alloc, form, &event, bytes)? {
+        return Err(Misread::OtherShape);
+    }
+    Ok(event)
+}

@@ -1,0 +1,33 @@
+ghost use Rattle.std.specs.Prelude.{◌≡◌};
+ghost use Rattle.keep_entries.specs.Shape.{form_numbered};
+ghost use Rattle.keep_entries.specs.Spelling as spec;
+
+/// What an entry says of marks.
+#[derive(Clone, Copy)]
+pub(crate) enum Form {
+    /// Their packs alone. Entries of this form are read, and no longer written.
+    Packs,
+    /// Their packs and moments.
+    Moments,
+}
+
+/// The number that stands in an entry of the form.
+pub(crate) fn form_number(form: Form) -> u64
+    ensures { result ≡ spec.form_number form }
+{
+    match form {
+        Form::Packs => 1,
+        Form::Moments => 2,
+    }
+}
+
+/// The form that has the number.
+pub(crate) fn form_of(number: u64) -> Option<Form>
+    ensures { result ≡ form_numbered number }
+{
+    match number {
+        1 => Some(Form::Packs),
+        2 => Some(Form::Moments),
+        _ => None,
+    }
+}

@@ -1,0 +1,20 @@
+//! A journal's entries as documents, in the form that is written and in the older one, which is read too.
+#![tactic(auto)]
+
+mod checks;
+mod entry;
+mod entry_error;
+mod event_in;
+mod form;
+mod laws;
+mod lists;
+mod lists_at;
+mod members;
+mod misread;
+mod parts;
+mod values;
+mod writing;
+
+pub use entry::{read_entry, write_entry};
+pub use entry_error::EntryError;
+pub use laws::one_event_is_spelled;
