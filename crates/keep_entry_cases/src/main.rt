@@ -1,0 +1,20 @@
+//! Reads a table of journal entries, one a line, and answers each in a line: what was read, or the refusal.
+#![tactic(auto)]
+
+mod case;
+mod facets;
+mod no;
+mod telling;
+
+use std::io;
+
+fn main(rt: HostRuntime) -> io::Result<()> {
+    let alloc = rt.alloc();
+    for line in rt.lines(alloc) {
+        match case::answer(alloc, line?.as_str()) {
+            Ok(text) => println!(rt; "{text}")?,
+            Err(no) => println!(rt; "no {no}")?,
+        }
+    }
+    Ok(())
+}
