@@ -1,0 +1,4 @@
+pub mod Acting
+pub mod Nearer
+pub mod Orders
+pub mod Shifting

@@ -1,0 +1,5 @@
+pub mod Acts
+pub mod Failing
+pub mod Key
+pub mod Plan
+pub mod Shelved

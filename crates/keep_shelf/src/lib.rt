@@ -1,0 +1,18 @@
+//! A shelf: bytes under keys, in a place that may fail, such as a folder. Here it is in memory, and one that fails when it
+//! is told to.
+#![tactic(auto)]
+
+mod act;
+mod failing;
+mod key;
+mod laws;
+mod memory;
+mod plan;
+mod shelf;
+mod stock;
+
+pub use failing::FailingShelf;
+pub use key::Key;
+pub use laws::keys_are_ordered;
+pub use memory::MemoryShelf;
+pub use shelf::{Fault, Shelf};
