@@ -1,0 +1,4 @@
+pub mod Finding
+pub mod Following
+pub mod Mentions
+pub mod Noting
