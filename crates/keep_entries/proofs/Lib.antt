@@ -1,4 +1,8 @@
+pub mod Exact
 pub mod HexBytes
+pub mod LastEvent
+pub mod ReadExactly
 pub mod RoundTrip
+pub mod SameMembers
 pub mod Telling
 pub mod Written

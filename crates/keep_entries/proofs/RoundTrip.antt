@@ -1,20 +1,21 @@
 -- An event is read back from each of its texts: all that the form tells of it.
-use Rattle.std.proofs.Common.{◌≡◌, ℕ, ◌^◌, ◌++◌, ℤ, pos, negsuc, List, [], ◌∷◌, map, codes, Option, Some, option_map, option_and_then, Result, refl, ap, ◌∙◌}
+use Rattle.std.proofs.Common.{◌≡◌, ℕ, ◌^◌, ◌++◌, ℤ, pos, negsuc, List, [], ◌∷◌, map, codes, Option, Some, option_map, option_and_then, Ok, refl, ap, ◌∙◌}
 use Rattle.std.proofs.lemmas.Bool.{lt-ltb}
+use Rattle.std.proofs.lemmas.Slice.Eq.{bytes_eq-Decides}
 use Rattle.std.specs.List.{AllByRecursion}
-use Rattle.std.specs.Result.{result_ok}
 use Rattle.serde_json.specs.Data.{Data}
 use Rattle.serde_json.specs.Find.{as_i64, of_integer}
 use Rattle.serde_json.specs.View.{items_of}
+use Rattle.serde_json.specs.Written.{compact_text}
 use Rattle.keep_names.specs.FileName.{kind_text, named}
 use Rattle.keep_names.specs.Id.{IsDigest, id_text}
 use Rattle.keep_names.specs.declared.file_name.FileName.{FileName}
 use Rattle.keep_names.specs.declared.file_name.Kind.{Kind}
 use Rattle.keep_names.specs.declared.file_name.Kind.TheVariants.{Pack, Index, Snapshot}
 use Rattle.keep_names.specs.declared.id.Id.{Id}
-use Rattle.keep_docs.specs.Fields.{as_id, id_data, values_of}
+use Rattle.keep_docs.specs.Doc.{doc_of}
+use Rattle.keep_docs.specs.Fields.{◌>>=◌, as_id, id_data, values_of}
 use Rattle.keep_docs.specs.Lists.{each}
-use Rattle.keep_docs.specs.declared.doc.DocError.{DocError}
 use Rattle.keep_docs.proofs.Built.{as_id-id_data}
 use Rattle.keep_docs.proofs.IdTexts.{id_of_text-id_text}
 use Rattle.keep_docs.proofs.ReadBack.{doc_of-compact_text}
@@ -22,10 +23,11 @@ use Rattle.keep_change.specs.NamedBytes.{NamedBytes}
 use Rattle.keep_change.specs.declared.change.Change.{Change}
 use Rattle.keep_change.specs.declared.change.PackMark.{PackMark}
 use Rattle.keep_journal.specs.declared.event.Event.{Event}
-use Rattle.keep_journal.specs.declared.event.Event.TheVariants.{Commit, Undo, Redo, Empty}
-use Rattle.keep_entries.specs.Entry.{FilesFit, Fits, FitsFile, FitsMark, FitsMoment, FitsName, MarksFit, event_told, mark_told}
-use Rattle.keep_entries.specs.Shape.{as_name, change_in, event_in, file_in, form_in, form_numbered, mark_in, name_of_text, read_of, told_in}
-use Rattle.keep_entries.specs.Spelling.{commit_data, event_data, file_data, form_number, mark_data, name_data, text_in}
+use Rattle.keep_journal.specs.declared.event.EventKind.{EventKind}
+use Rattle.keep_journal.specs.declared.event.EventKind.TheVariants.{Commit, Undo, Redo, Empty}
+use Rattle.keep_entries.specs.Entry.{FilesFit, Fits, FitsFile, FitsKind, FitsMark, FitsMoment, FitsName, MarksFit, event_told, kind_told, mark_told}
+use Rattle.keep_entries.specs.Shape.{as_name, change_in, compact_doc, event_in, file_in, form_in, form_numbered, mark_in, name_of_text, read_of, told_in}
+use Rattle.keep_entries.specs.Spelling.{commit_data, event_data, file_data, form_number, kind_data, mark_data, name_data, text_in}
 use Rattle.keep_entries.specs.declared.form.Form.{Form}
 use Rattle.keep_entries.specs.declared.form.Form.TheVariants.{Packs, Moments}
 use Rattle.keep_entries.proofs.HexBytes.{bytes_back}
@@ -84,7 +86,7 @@ marks_back : (form : Form) (marks : List PackMark) → AllByRecursion FitsMark m
 marks_back form = told_back FitsMark (mark_in form) (mark_data form) (mark_told form) (mark_back form)
 
 -- what the form tells of a change
-abbrev change_told : Form → Change → Change
+abbrev pub change_told : Form → Change → Change
 change_told form c = record c { sets = map (mark_told form) c.sets; clears = map (mark_told form) c.clears }
 
 change_back : (form : Form) (n : ℕ) (c : Change) → FilesFit c → MarksFit c → change_in form (commit_data form n c) ≡ Some (change_told form c)
@@ -100,28 +102,47 @@ change_back form n c files marks =
       packs_back c.unmarked marks.unmarked,
     )
 
+-- an event of this number, where what it did can be told
+abbrev numbered : ℕ → Option EventKind → Option Event
+numbered n told = do
+  kind ← told
+  Some (record { number = n; kind = kind })
+
+deed_back : (form : Form) (n : ℕ) (kind : EventKind) → FitsKind kind
+    → event_in form (kind_data form n kind) ≡ Some (record { number = n; kind = kind_told form kind })
+deed_back form n (Commit c) h =
+    ap (λ (o : Option Change). numbered n (option_map Commit o)) (change_back form n c h.0 h.1)
+deed_back form n Undo h = refl
+deed_back form n Redo h = refl
+deed_back form n (Empty marks) h =
+    ap (λ (o : Option (List PackMark)). numbered n (option_map Empty o)) (marks_back form marks h)
+
 event_back : (form : Form) (event : Event) → Fits event → event_in form (event_data form event) ≡ Some (event_told form event)
-event_back form (Commit n c) h = ap (λ (o : Option Change). option_map (Commit n) o) (change_back form n c h.1 h.2)
-event_back form (Undo n) h = refl
-event_back form (Redo n) h = refl
-event_back form (Empty n marks) h = ap (λ (o : Option (List PackMark)). option_map (Empty n) o) (marks_back form marks h.1)
+event_back form event h = deed_back form event.number event.kind h.kind
 
 form_back : (form : Form) → form_numbered (form_number form) ≡ Some form
 form_back Packs = refl
 form_back Moments = refl
 
+form_of_kind : (form : Form) (n : ℕ) (kind : EventKind) → form_in (kind_data form n kind) ≡ Some form
+form_of_kind form n (Commit c) = form_back form
+form_of_kind form n Undo = form_back form
+form_of_kind form n Redo = form_back form
+form_of_kind form n (Empty marks) = form_back form
+
 form_found : (form : Form) (event : Event) → form_in (event_data form event) ≡ Some form
-form_found form (Commit n c) = form_back form
-form_found form (Undo n) = form_back form
-form_found form (Redo n) = form_back form
-form_found form (Empty n marks) = form_back form
+form_found form event = form_of_kind form event.number event.kind
 
 both_told : (d : Data) (form : Form) (event : Event) → form_in d ≡ Some form → event_in form d ≡ Some event → told_in d ≡ Some (form, event)
 both_told d form event is_form is_event = rw (is_form, is_event)
+
+-- a value is found again in its text
+compact_back : (d : Data) → doc_of (compact_text d) ≡ Ok d → compact_doc (compact_text d) ≡ Some d
+compact_back d document = rw (document, (bytes_eq-Decides (compact_text d) (compact_text d)).1 refl)
 
 -- all that the form tells of an event is read of its text
 pub read_back : (form : Form) (event : Event) → Fits event → read_of (text_in form event) ≡ Some (form, event_told form event)
 read_back form event h =
     let document = doc_of-compact_text (event_data form event) (readable_event form event h) (depth-event form event) in
-    ap (λ (r : Result Data DocError). option_and_then told_in (result_ok r)) document
+    ap (option_and_then told_in) (compact_back (event_data form event) document)
     ∙ both_told (event_data form event) form (event_told form event) (form_found form event) (event_back form event h)

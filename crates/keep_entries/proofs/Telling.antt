@@ -14,7 +14,7 @@ use Rattle.keep_entries.specs.declared.form.Form.TheVariants.{Packs, Moments}
 use Rattle.keep_entries.proofs.RoundTrip.{read_back}
 use Rattle.keep_entries.proofs.Written.{readable_event}
 
-pair_same : {A B : Type 0} (p q : A × B) → Some p ≡ Some q → (p.0 ≡ q.0) × (p.1 ≡ q.1)
+pub pair_same : {A B : Type 0} (p q : A × B) → Some p ≡ Some q → (p.0 ≡ q.0) × (p.1 ≡ q.1)
 pair_same {A} {B} p q e =
     let same : p ≡ q = cc in
     (ap (λ (x : A × B). x.0) same, ap (λ (x : A × B). x.1) same)
@@ -35,13 +35,6 @@ forms_differ a b fits_a fits_b same =
     let both = sym (read_back Packs a fits_a) ∙ ap read_of same ∙ read_back Moments b fits_b in
     let one : Packs ≡ Moments = (pair_same (Packs, event_told Packs a) (Moments, event_told Moments b) both).0 in
     cc
-
--- what is read and has the same text is spelled
-pub is_spelled : (bytes : List ℕ) (form : Form) (event : Event) → read_of bytes ≡ Some (form, event) → Fits event
-    → bytes ≡ text_in form event → Spells bytes event
-is_spelled bytes form event found fits same =
-    let again = sym (ap read_of same ∙ read_back form event fits) ∙ found in
-    (form, same, (pair_same (form, event_told form event) (form, event) again).1)
 
 -- bytes of which nothing is read spell nothing
 pub nothing_read : (k : ℕ) (bytes : List ℕ) → read_of bytes ≡ None → TellsNothing k bytes

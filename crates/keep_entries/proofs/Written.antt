@@ -22,10 +22,11 @@ use Rattle.keep_change.specs.NamedBytes.{NamedBytes}
 use Rattle.keep_change.specs.declared.change.Change.{Change}
 use Rattle.keep_change.specs.declared.change.PackMark.{PackMark}
 use Rattle.keep_journal.specs.declared.event.Event.{Event}
-use Rattle.keep_journal.specs.declared.event.Event.TheVariants.{Commit, Undo, Redo, Empty}
-use Rattle.keep_entries.specs.Entry.{FilesFit, Fits, FitsFile, FitsMark, FitsMoment, FitsName, MarksFit}
+use Rattle.keep_journal.specs.declared.event.EventKind.{EventKind}
+use Rattle.keep_journal.specs.declared.event.EventKind.TheVariants.{Commit, Undo, Redo, Empty}
+use Rattle.keep_entries.specs.Entry.{FilesFit, Fits, FitsFile, FitsKind, FitsMark, FitsMoment, FitsName, MarksFit}
 use Rattle.keep_entries.specs.Members.{with_files, with_head, with_marks}
-use Rattle.keep_entries.specs.Spelling.{commit_data, empty_data, event_data, file_data, files_data, form_number, mark_data, marks_data, name_data, names_data, turn_data}
+use Rattle.keep_entries.specs.Spelling.{commit_data, empty_data, event_data, file_data, files_data, form_number, kind_data, mark_data, marks_data, name_data, names_data, turn_data}
 use Rattle.keep_entries.specs.declared.form.Form.{Form}
 use Rattle.keep_entries.specs.declared.form.Form.TheVariants.{Packs, Moments}
 
@@ -67,7 +68,7 @@ readable_name name h =
     IsUtf8-append (kind_text name.kind) _ (kind_utf8 name.kind)
     (IsUtf8-append (codes "/") (id_text name.id) (IsUtf8-are_ascii _ refl) (id_utf8 name.id))
 
-readable_file : (file : NamedBytes) → FitsFile file → IsReadable (file_data file)
+pub readable_file : (file : NamedBytes) → FitsFile file → IsReadable (file_data file)
 readable_file file h = (
   IsUtf8-are_ascii _ refl,
   id_utf8 (record { 0 = file.bytes }),
@@ -79,7 +80,7 @@ whole_moment : (z : ℤ) → FitsMoment z → IsWhole (of_integer z)
 whole_moment (pos n) h = omega (arith, h)
 whole_moment (negsuc n) h = h
 
-readable_mark : (form : Form) (m : PackMark) → FitsMark m → IsReadable (mark_data form m)
+pub readable_mark : (form : Form) (m : PackMark) → FitsMark m → IsReadable (mark_data form m)
 readable_mark Packs m h = IsReadable-id_data m.pack
 readable_mark Moments m h = (
   IsUtf8-are_ascii _ refl,
@@ -199,11 +200,14 @@ readable_empty form n marks small fit = (
   ),
 )
 
+pub readable_kind : (form : Form) (n : ℕ) (kind : EventKind) → n < 2 ^ 64 → FitsKind kind → IsReadable (kind_data form n kind)
+readable_kind form n (Commit c) below h = readable_commit form n c below h.0 h.1
+readable_kind form n Undo below h = readable_turn form (codes "undo") n (IsUtf8-are_ascii _ refl) below
+readable_kind form n Redo below h = readable_turn form (codes "redo") n (IsUtf8-are_ascii _ refl) below
+readable_kind form n (Empty marks) below h = readable_empty form n marks below h
+
 pub readable_event : (form : Form) (event : Event) → Fits event → IsReadable (event_data form event)
-readable_event form (Commit n c) h = readable_commit form n c h.0 h.1 h.2
-readable_event form (Undo n) h = readable_turn form (codes "undo") n (IsUtf8-are_ascii _ refl) h
-readable_event form (Redo n) h = readable_turn form (codes "redo") n (IsUtf8-are_ascii _ refl) h
-readable_event form (Empty n marks) h = readable_empty form n marks h.0 h.1
+readable_event form event h = readable_kind form event.number event.kind h.number h.kind
 
 depth-commit : (form : Form) (n : ℕ) (c : Change) → depth (commit_data form n c) ≤ max_depth
 depth-commit form n c =
@@ -216,8 +220,11 @@ depth-commit form n c =
     one_more : (deep : ℕ) → deep ≤ 2 → suc deep ≤ 127
     one_more deep h = omega arith
 
+depth-kind : (form : Form) (n : ℕ) (kind : EventKind) → depth (kind_data form n kind) ≤ max_depth
+depth-kind form n (Commit c) = depth-commit form n c
+depth-kind form n Undo = omega arith
+depth-kind form n Redo = omega arith
+depth-kind form n (Empty marks) = let within = marks_depth form marks in omega arith
+
 pub depth-event : (form : Form) (event : Event) → depth (event_data form event) ≤ max_depth
-depth-event form (Commit n c) = depth-commit form n c
-depth-event form (Undo n) = omega arith
-depth-event form (Redo n) = omega arith
-depth-event form (Empty n marks) = let within = marks_depth form marks in omega arith
+depth-event form event = depth-kind form event.number event.kind

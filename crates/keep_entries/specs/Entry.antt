@@ -13,10 +13,10 @@ use Rattle.keep_change.specs.NamedBytes.{NamedBytes}
 use Rattle.keep_change.specs.Touch.{facets}
 use Rattle.keep_change.specs.declared.change.Change.{Change}
 use Rattle.keep_change.specs.declared.change.PackMark.{PackMark}
-use Rattle.keep_journal.specs.Event.{number_of}
 use Rattle.keep_journal.specs.declared.event.Entry.{Entry}
 use Rattle.keep_journal.specs.declared.event.Event.{Event}
-use Rattle.keep_journal.specs.declared.event.Event.TheVariants.{Commit, Undo, Redo, Empty}
+use Rattle.keep_journal.specs.declared.event.EventKind.{EventKind}
+use Rattle.keep_journal.specs.declared.event.EventKind.TheVariants.{Commit, Undo, Redo, Empty}
 use Rattle.keep_entries.specs.Shape.{mark_at}
 use Rattle.keep_entries.specs.Spelling.{text_in}
 use Rattle.keep_entries.specs.declared.form.Form.{Form}
@@ -53,28 +53,33 @@ pub record MarksFit (c : Change) : Type 0 where
   pub marked : AllByRecursion IsDigest c.marked
   pub unmarked : AllByRecursion IsDigest c.unmarked
 
+-- what an event lists fits
+abbrev pub FitsKind : EventKind → Type 0
+FitsKind (Commit c) = FilesFit c × MarksFit c
+FitsKind Undo = Unit {0}
+FitsKind Redo = Unit {0}
+FitsKind (Empty marks) = AllByRecursion FitsMark marks
+
 -- an event fits: the change's number is below 2^64, and what is listed fits
-abbrev pub Fits : Event → Type 0
-Fits (Commit n c) = (n < 2 ^ 64) × FilesFit c × MarksFit c
-Fits (Undo n) = n < 2 ^ 64
-Fits (Redo n) = n < 2 ^ 64
-Fits (Empty n marks) = (n < 2 ^ 64) × AllByRecursion FitsMark marks
+pub record Fits (event : Event) : Type 0 where
+  pub number : event.number < 2 ^ 64
+  pub kind : FitsKind event.kind
 
 -- ---- which entries there are
 
 -- a commit's change is well formed and within the limit of facets, and an emptying's marks are in order, each pack once
-abbrev pub IsProper : Event → Type 0
-IsProper (Commit n c) = IsWellFormed c × (length (facets c) ≤ facet_limit)
-IsProper (Undo n) = Unit {0}
-IsProper (Redo n) = Unit {0}
-IsProper (Empty n marks) = IsStrictlySortedBy id_cmp (marked_packs marks)
+abbrev pub IsProper : EventKind → Type 0
+IsProper (Commit c) = IsWellFormed c × (length (facets c) ≤ facet_limit)
+IsProper Undo = Unit {0}
+IsProper Redo = Unit {0}
+IsProper (Empty marks) = IsStrictlySortedBy id_cmp (marked_packs marks)
 
 -- an entry of a journal: entries and changes are numbered from 1 on
 pub record IsEntry (e : Entry) : Type 0 where
   pub at : 0 < e.at
-  pub number : 0 < number_of e.event
+  pub number : 0 < e.event.number
   pub fits : Fits e.event
-  pub proper : IsProper e.event
+  pub proper : IsProper e.event.kind
 
 -- ---- which bytes spell them
 
@@ -83,13 +88,17 @@ abbrev pub mark_told : Form → PackMark → PackMark
 mark_told Packs m = mark_at m.pack (pos 0)
 mark_told Moments m = m
 
--- what a form tells of an event
+-- what a form tells of what an event did
+abbrev pub kind_told : Form → EventKind → EventKind
+kind_told form (Commit c) =
+    Commit (record c { sets = map (mark_told form) c.sets; clears = map (mark_told form) c.clears })
+kind_told form Undo = Undo
+kind_told form Redo = Redo
+kind_told form (Empty marks) = Empty (map (mark_told form) marks)
+
+-- and of the event
 abbrev pub event_told : Form → Event → Event
-event_told form (Commit n c) =
-    Commit n (record c { sets = map (mark_told form) c.sets; clears = map (mark_told form) c.clears })
-event_told form (Undo n) = Undo n
-event_told form (Redo n) = Redo n
-event_told form (Empty n marks) = Empty n (map (mark_told form) marks)
+event_told form event = record event { kind = kind_told form event.kind }
 
 -- the bytes are the event's text in one of the forms, which tells all of it
 abbrev pub Spells : List ℕ → Event → Type 0

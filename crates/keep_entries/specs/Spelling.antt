@@ -13,7 +13,8 @@ use Rattle.keep_change.specs.NamedBytes.{NamedBytes}
 use Rattle.keep_change.specs.declared.change.Change.{Change}
 use Rattle.keep_change.specs.declared.change.PackMark.{PackMark}
 use Rattle.keep_journal.specs.declared.event.Event.{Event}
-use Rattle.keep_journal.specs.declared.event.Event.TheVariants.{Commit, Undo, Redo, Empty}
+use Rattle.keep_journal.specs.declared.event.EventKind.{EventKind}
+use Rattle.keep_journal.specs.declared.event.EventKind.TheVariants.{Commit, Undo, Redo, Empty}
 use Rattle.keep_entries.specs.declared.form.Form.{Form}
 use Rattle.keep_entries.specs.declared.form.Form.TheVariants.{Packs, Moments}
 
@@ -89,12 +90,16 @@ empty_data form n marks =
     (member (codes "marks") (marks_data form marks)
     (member (codes "number") (number (unsigned n)) no_members))))
 
+-- an event of this kind, as a value
+abbrev pub kind_data : Form → ℕ → EventKind → Data
+kind_data form n (Commit c) = commit_data form n c
+kind_data form n Undo = turn_data form (codes "undo") n
+kind_data form n Redo = turn_data form (codes "redo") n
+kind_data form n (Empty marks) = empty_data form n marks
+
 -- an event, as a value
 abbrev pub event_data : Form → Event → Data
-event_data form (Commit n c) = commit_data form n c
-event_data form (Undo n) = turn_data form (codes "undo") n
-event_data form (Redo n) = turn_data form (codes "redo") n
-event_data form (Empty n marks) = empty_data form n marks
+event_data form event = kind_data form event.number event.kind
 
 -- the text of an event in this form
 abbrev pub text_in : Form → Event → List ℕ

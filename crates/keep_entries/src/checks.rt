@@ -1,41 +1,23 @@
-ghost use Rattle.std.specs.Prelude.{◌≡◌, ◌≤◌, ◌↔◌, IfOk, IsTrue, length};
+ghost use Rattle.std.specs.Prelude.{◌≤◌, ◌↔◌, IsTrue, length};
 ghost use Rattle.std.specs.List.Sorted.{IsStrictlySortedBy};
 ghost use Rattle.keep_names.specs.Orders.{id_cmp};
 ghost use Rattle.keep_change.specs.Form.{IsWellFormed};
 ghost use Rattle.keep_change.specs.Limits.{facet_limit};
 ghost use Rattle.keep_change.specs.Lists.{marked_packs};
 ghost use Rattle.keep_change.specs.Touch.{facets};
-ghost use Rattle.keep_entries.specs.Entry.{Fits, IsProper};
-ghost use Rattle.keep_entries.specs.Spelling.{text_in};
+ghost use Rattle.keep_entries.specs.Entry.{IsProper};
 
-use crate::form::Form;
-use crate::writing::write_in;
 use keep_change::{Change, PackMark};
-use keep_journal::Event;
-use std::alloc::{AllocError, Global};
+use keep_journal::EventKind;
 
-/// Whether the bytes are the text of the event in the form.
-pub(crate) fn is_spelled(
-    alloc: Global,
-    form: Form,
-    event: &Event,
-    bytes: &[u8],
-) -> Result<bool, AllocError>
-    ensures same { IfOk result (λ is. IsTrue is ↔ (bytes.now ≡ text_in form event.now)) }
-    ensures fits { IfOk result (λ _. Fits event.now) }
+/// Whether a journal can have an event of this kind.
+pub(crate) fn is_proper(kind: &EventKind) -> bool
+    ensures { IsTrue result ↔ IsProper kind.now }
 {
-    let text = write_in(alloc, form, event)?;
-    Ok(bytes == text.as_slice())
-}
-
-/// Whether a journal can have the event.
-pub(crate) fn is_proper(event: &Event) -> bool
-    ensures { IsTrue result ↔ IsProper event.now }
-{
-    match event {
-        Event::Commit(_, change) => can_be_committed(change.as_change()),
-        Event::Undo(_) | Event::Redo(_) => true,
-        Event::Empty(_, marks) => are_in_order(marks.as_slice()),
+    match kind {
+        EventKind::Commit(change) => can_be_committed(change.as_change()),
+        EventKind::Undo | EventKind::Redo => true,
+        EventKind::Empty(marks) => are_in_order(marks.as_slice()),
     }
 }
 

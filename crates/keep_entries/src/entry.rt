@@ -4,12 +4,11 @@ ghost use Rattle.keep_entries.specs.Spelling.{entry_text};
 ghost use Rattle.keep_entries.specs.declared.entry_error.EntryError.TheVariants.{BadEntry, Memory};
 ghost use Rattle.keep_entries.specs.declared.misread.Misread.TheVariants as misread;
 
-use crate::checks::{is_proper, is_spelled};
+use crate::checks::is_proper;
 use crate::entry_error::EntryError;
 use crate::event_in::read_in;
-use crate::form::Form;
 use crate::misread::Misread;
-use crate::writing::write_in;
+use crate::writing::write_event;
 use keep_journal::{Entry, Event};
 use std::alloc::{AllocError, Global};
 
@@ -18,11 +17,11 @@ pub fn write_entry(alloc: Global, entry: &Entry) -> Result<Vec<u8>, AllocError>
     ensures text { IfOk result (λ bytes. bytes.items ≡ entry_text entry.now.event) }
     ensures fits { IfOk result (λ _. Fits entry.now.event) }
 {
-    write_in(alloc, Form::Moments, &entry.event)
+    write_event(alloc, &entry.event)
 }
 
-/// Reads the entry of number k, in either form and in no other spelling. What was read is written again and compared,
-/// so a large commit takes several times its memory while it is read.
+/// Reads the entry of number k, in either form and in no other spelling. Beside the text, what was added or dropped is
+/// held at most twice: as a document and as its text, or as a document and as bytes.
 pub fn read_entry(alloc: Global, k: u64, bytes: &[u8]) -> Result<Entry, EntryError>
     ensures number { IfOk result (λ entry. entry.at ≡ k) }
     ensures entry { IfOk result IsEntry }
@@ -46,14 +45,11 @@ fn event_of(alloc: Global, k: u64, bytes: &[u8]) -> Result<Event, Misread>
     if k == 0 {
         return Err(Misread::OtherShape);
     }
-    let (form, event) = read_in(alloc, bytes)?;
-    if event.number() == 0 {
+    let event = read_in(alloc, bytes)?;
+    if event.number == 0 {
         return Err(Misread::OtherShape);
     }
-    if !is_proper(&event) {
-        return Err(Misread::OtherShape);
-    }
-    if !is_spelled(alloc, form, &event, bytes)? {
+    if !is_proper(&event.kind) {
         return Err(Misread::OtherShape);
     }
     Ok(event)

@@ -3,7 +3,7 @@ ghost use Rattle.serde_json.specs.Find as find;
 ghost use Rattle.serde_json.specs.View.{view};
 ghost use Rattle.keep_docs.specs.Doc.{Answers};
 ghost use Rattle.keep_docs.specs.Fields.{field};
-ghost use Rattle.keep_journal.specs.declared.event.Event.TheVariants as event;
+ghost use Rattle.keep_journal.specs.declared.event.EventKind.TheVariants as kind;
 ghost use Rattle.keep_entries.specs.Shape.{list_of};
 ghost use Rattle.keep_entries.specs.Shape as spec;
 ghost use Rattle.keep_entries.specs.declared.misread.Misread.TheVariants.{Memory, OtherShape};
@@ -11,27 +11,41 @@ ghost use Rattle.keep_entries.specs.declared.misread.Misread.TheVariants.{Memory
 use crate::form::{Form, form_of};
 use crate::lists_at::{files_at, ids_at, marks_at, names_at};
 use crate::misread::Misread;
+use crate::parts::has_members;
 use keep_change::{Change, SharedChange};
-use keep_docs::{read_doc, str_at, u64_at};
-use keep_journal::Event;
+use keep_docs::{read_doc, str_at, u64_at, write_doc};
+use keep_journal::{Event, EventKind};
 use serde_json::Value;
 use std::alloc::Global;
 
-/// The form and the event that bytes say. Their spelling isn't looked at.
-pub(crate) fn read_in(alloc: Global, bytes: &[u8]) -> Result<(Form, Event), Misread>
-    ensures { Answers Memory (λ told. told) (ok_or (spec.read_of bytes.now) OtherShape) result }
+/// The event whose text bytes are, in whichever form.
+pub(crate) fn read_in(alloc: Global, bytes: &[u8]) -> Result<Event, Misread>
+    ensures { Answers Memory (λ event. event)
+        (ok_or (option_map (λ told. told.1) (spec.read_of bytes.now)) OtherShape) result }
 {
-    let value = read_doc(alloc, bytes)?;
+    let value = compact_doc(alloc, bytes)?;
     told_in(alloc, &value)
 }
 
-// The form and the event that a document says.
-fn told_in(alloc: Global, value: &Value) -> Result<(Form, Event), Misread>
-    ensures { Answers Memory (λ told. told) (ok_or (spec.told_in (view value.now)) OtherShape) result }
+// The value whose text without spaces the bytes are. That text is let go before anything else is made of the value.
+fn compact_doc(alloc: Global, bytes: &[u8]) -> Result<Value, Misread>
+    ensures { Answers Memory view (ok_or (spec.compact_doc bytes.now) OtherShape) result }
+{
+    let value = read_doc(alloc, bytes)?;
+    let text = write_doc(alloc, &value)?;
+    if bytes != text.as_slice() {
+        return Err(Misread::OtherShape);
+    }
+    Ok(value)
+}
+
+// The event that a document says, in the form that it says.
+fn told_in(alloc: Global, value: &Value) -> Result<Event, Misread>
+    ensures { Answers Memory (λ event. event)
+        (ok_or (option_map (λ told. told.1) (spec.told_in (view value.now))) OtherShape) result }
 {
     let form = form_in(value).ok_or(Misread::OtherShape)?;
-    let event = event_in(alloc, form, value)?;
-    Ok((form, event))
+    event_in(alloc, form, value)
 }
 
 // The form that an entry says it has.
@@ -45,35 +59,57 @@ fn form_in(value: &Value) -> Option<Form>
 fn event_in(alloc: Global, form: Form, value: &Value) -> Result<Event, Misread>
     ensures { Answers Memory (λ event. event) (ok_or (spec.event_in form (view value.now)) OtherShape) result }
 {
-    let word = str_at(value, "event").ok_or(Misread::OtherShape)?;
     let number = u64_at(value, "number").ok_or(Misread::OtherShape)?;
+    let kind = kind_in(alloc, form, value)?;
+    Ok(Event { number, kind })
+}
+
+// What an event of the form did.
+fn kind_in(alloc: Global, form: Form, value: &Value) -> Result<EventKind, Misread>
+    ensures { Answers Memory (λ kind. kind) (ok_or (spec.deed_in form (view value.now)) OtherShape) result }
+{
+    let word = str_at(value, "event").ok_or(Misread::OtherShape)?;
+    let count = members_of(word).ok_or(Misread::OtherShape)?;
+    if !has_members(value, count) {
+        return Err(Misread::OtherShape);
+    }
     match word {
-        "commit" => commit_in(alloc, form, value, number),
-        "undo" => Ok(Event::Undo(number)),
-        "redo" => Ok(Event::Redo(number)),
-        "empty" => empty_in(alloc, form, value, number),
+        "commit" => commit_in(alloc, form, value),
+        "undo" => Ok(EventKind::Undo),
+        "redo" => Ok(EventKind::Redo),
+        "empty" => empty_in(alloc, form, value),
         _ => Err(Misread::OtherShape),
     }
 }
 
-// The commit of this number.
-fn commit_in(alloc: Global, form: Form, value: &Value, number: u64) -> Result<Event, Misread>
-    ensures { Answers Memory (λ event. event)
-        (ok_or (option_map (event.Commit number) (spec.change_in form (view value.now))) OtherShape) result }
+// How many members an entry has that says the word.
+fn members_of(word: &str) -> Option<usize>
+    ensures { result ≡ spec.members_of word.now }
+{
+    match word {
+        "commit" => Some(12),
+        "undo" | "redo" => Some(3),
+        "empty" => Some(4),
+        _ => None,
+    }
+}
+
+fn commit_in(alloc: Global, form: Form, value: &Value) -> Result<EventKind, Misread>
+    ensures { Answers Memory (λ kind. kind)
+        (ok_or (option_map kind.Commit (spec.change_in form (view value.now))) OtherShape) result }
 {
     let change = change_in(alloc, form, value)?;
     let shared = SharedChange::new(alloc, change)?;
-    Ok(Event::Commit(number, shared))
+    Ok(EventKind::Commit(shared))
 }
 
-// The emptying up to the change of this number.
-fn empty_in(alloc: Global, form: Form, value: &Value, number: u64) -> Result<Event, Misread>
-    ensures { Answers Memory (λ event. event)
-        (ok_or (option_map (event.Empty number)
+fn empty_in(alloc: Global, form: Form, value: &Value) -> Result<EventKind, Misread>
+    ensures { Answers Memory (λ kind. kind)
+        (ok_or (option_map kind.Empty
         (list_of (spec.mark_in form) (codes "marks") (view value.now))) OtherShape) result }
 {
     let marks = marks_at(alloc, form, value, "marks")?;
-    Ok(Event::Empty(number, marks))
+    Ok(EventKind::Empty(marks))
 }
 
 // The change that a commit of the form says.

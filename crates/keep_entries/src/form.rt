@@ -1,6 +1,8 @@
 ghost use Rattle.std.specs.Prelude.{◌≡◌};
 ghost use Rattle.keep_entries.specs.Shape.{form_numbered};
-ghost use Rattle.keep_entries.specs.Spelling as spec;
+
+/// The number of the form in which entries are written.
+pub(crate) const FORM: u64 = 2;
 
 /// What an entry says of marks.
 #[derive(Clone, Copy)]
@@ -9,16 +11,6 @@ pub(crate) enum Form {
     Packs,
     /// Their packs and moments.
     Moments,
-}
-
-/// The number that stands in an entry of the form.
-pub(crate) fn form_number(form: Form) -> u64
-    ensures { result ≡ spec.form_number form }
-{
-    match form {
-        Form::Packs => 1,
-        Form::Moments => 2,
-    }
 }
 
 /// The form that has the number.

@@ -17,4 +17,4 @@ mod writing;
 
 pub use entry::{read_entry, write_entry};
 pub use entry_error::EntryError;
-pub use laws::one_event_is_spelled;
+pub use laws::{one_event_is_spelled, open_histories_end_in_entries};

@@ -2,8 +2,9 @@ ghost use Rattle.std.specs.Prelude.{◌≡◌, OnOk};
 ghost use Rattle.serde_json.specs.View.{members_view};
 ghost use Rattle.keep_entries.specs.Entry.{FilesFit, MarksFit};
 ghost use Rattle.keep_entries.specs.Members.{with_files, with_head, with_marks};
+ghost use Rattle.keep_entries.specs.declared.form.Form.TheVariants.{Moments};
 
-use crate::form::{Form, form_number};
+use crate::form::FORM;
 use crate::values::{files_value, marks_value, names_value, packs_value};
 use keep_change::Change;
 use keep_docs::put;
@@ -30,20 +31,19 @@ pub(crate) fn put_files(
     put(alloc, members, "absent", absent)
 }
 
-/// Puts the four lists of marks that a change has, as an entry of the form has them.
+/// Puts the four lists of marks that a change has.
 pub(crate) fn put_marks(
     alloc: Global,
-    form: Form,
     members: &mut Map<String, Value>,
     change: &Change,
 ) -> Result<(), AllocError>
     ensures put { OnOk result (members_view members.new.entries
-        ≡ with_marks form change.now (members_view members.old.entries)) }
+        ≡ with_marks Moments change.now (members_view members.old.entries)) }
     ensures fit { OnOk result (MarksFit change.now) }
 {
-    let sets = marks_value(alloc, form, change.sets.as_slice())?;
+    let sets = marks_value(alloc, change.sets.as_slice())?;
     put(alloc, members, "sets", sets)?;
-    let clears = marks_value(alloc, form, change.clears.as_slice())?;
+    let clears = marks_value(alloc, change.clears.as_slice())?;
     put(alloc, members, "clears", clears)?;
     let marked = packs_value(alloc, change.marked.as_slice())?;
     put(alloc, members, "marked", marked)?;
@@ -54,17 +54,16 @@ pub(crate) fn put_marks(
 /// Puts what a commit has beside its change's lists.
 pub(crate) fn put_head(
     alloc: Global,
-    form: Form,
     members: &mut Map<String, Value>,
     number: u64,
     change: &Change,
 ) -> Result<(), AllocError>
     ensures { OnOk result (members_view members.new.entries
-        ≡ with_head form number change.now (members_view members.old.entries)) }
+        ≡ with_head Moments number change.now (members_view members.old.entries)) }
 {
     let word = String::from_str(alloc, "commit")?;
     put(alloc, members, "event", Value::String(word))?;
-    put(alloc, members, "form", Value::from(form_number(form)))?;
+    put(alloc, members, "form", Value::from(FORM))?;
     put(alloc, members, "number", Value::from(number))?;
     put(alloc, members, "strict", Value::Bool(change.strict))
 }

@@ -3,6 +3,7 @@ ghost use Rattle.serde_json.specs.View.{view};
 ghost use Rattle.keep_docs.specs.Doc.{Answers};
 ghost use Rattle.keep_docs.specs.Fields as fields;
 ghost use Rattle.keep_entries.specs.Shape as spec;
+ghost use Rattle.keep_entries.specs.declared.form.Form.TheVariants.{Moments};
 ghost use Rattle.keep_entries.specs.declared.misread.Misread.TheVariants.{Memory, OtherShape};
 
 use crate::form::Form;
@@ -13,6 +14,16 @@ use keep_names::{FileName, Id, Kind, decode_hex, parse_id};
 use keep_repo::{Bytes, Mark};
 use serde_json::Value;
 use std::alloc::{AllocError, Global};
+
+/// Whether a value is an object of so many members.
+pub(crate) fn has_members(value: &Value, count: usize) -> bool
+    ensures { result ≡ spec.has_members count (view value.now) }
+{
+    match value.as_object() {
+        Some(members) => members.len() == count,
+        None => false,
+    }
+}
 
 // The kind that a word names.
 fn kind_named(word: &str) -> Option<Kind>
@@ -70,6 +81,9 @@ fn bytes_in(alloc: Global, value: &Value) -> Result<Vec<u8>, Misread>
 pub(crate) fn file_in(alloc: Global, value: &Value) -> Result<StoredFile, Misread>
     ensures { Answers Memory (λ file. file) (ok_or (spec.file_in (view value.now)) OtherShape) result }
 {
+    if !has_members(value, 2) {
+        return Err(Misread::OtherShape);
+    }
     let name = name_in(value.get("file").ok_or(Misread::OtherShape)?).ok_or(Misread::OtherShape)?;
     let digits = value.get("bytes").ok_or(Misread::OtherShape)?;
     let bytes = bytes_in(alloc, digits)?;
@@ -83,12 +97,20 @@ pub(crate) fn mark_in(form: Form, value: &Value) -> Option<PackMark>
 {
     match form {
         Form::Packs => Some(mark_at(id_in(value)?, 0)),
-        Form::Moments => {
-            let pack = id_at(value, "id")?;
-            let moment = value.get("moment")?.as_i64()?;
-            Some(mark_at(pack, moment))
-        }
+        Form::Moments => moment_in(value),
     }
+}
+
+// The mark that a value says with its moment.
+fn moment_in(value: &Value) -> Option<PackMark>
+    ensures { result ≡ spec.mark_in Moments (view value.now) }
+{
+    if !has_members(value, 2) {
+        return None;
+    }
+    let pack = id_at(value, "id")?;
+    let moment = value.get("moment")?.as_i64()?;
+    Some(mark_at(pack, moment))
 }
 
 // The id that a value says.

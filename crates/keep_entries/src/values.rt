@@ -8,7 +8,6 @@ ghost use Rattle.keep_entries.specs.Entry.{FitsFile, FitsMark, FitsName};
 ghost use Rattle.keep_entries.specs.Spelling.{file_data, files_data, mark_data, marks_data, name_data, names_data};
 ghost use Rattle.keep_entries.specs.declared.form.Form.TheVariants.{Moments};
 
-use crate::form::Form;
 use keep_change::{PackMark, StoredFile};
 use keep_docs::id_value;
 use keep_names::{FileName, Id};
@@ -40,19 +39,15 @@ pub(crate) fn files_value(alloc: Global, files: &[StoredFile]) -> Result<Value, 
     Ok(Value::Array(values))
 }
 
-/// Marks as a value, in an entry of the form.
-pub(crate) fn marks_value(
-    alloc: Global,
-    form: Form,
-    marks: &[PackMark],
-) -> Result<Value, AllocError>
-    ensures value { IfOk result (λ value. view value ≡ marks_data form marks.now) }
+/// Marks as a value.
+pub(crate) fn marks_value(alloc: Global, marks: &[PackMark]) -> Result<Value, AllocError>
+    ensures value { IfOk result (λ value. view value ≡ marks_data Moments marks.now) }
     ensures fit { IfOk result (λ _. AllByRecursion FitsMark marks.now) }
 {
     let mut values = Vec::with_capacity(alloc, marks.len())?;
     for mark in marks {
         mark_fits(*mark);
-        values.push(mark_value(alloc, form, *mark)?)?;
+        values.push(mark_value(alloc, *mark)?)?;
     }
     Ok(Value::Array(values))
 }
@@ -91,18 +86,8 @@ fn file_value(alloc: Global, file: &StoredFile) -> Result<Value, AllocError>
     json!(in alloc; {"bytes": digits, "file": name})
 }
 
-// A mark as a value, in an entry of the form.
-fn mark_value(alloc: Global, form: Form, mark: PackMark) -> Result<Value, AllocError>
-    ensures { IfOk result (λ value. view value ≡ mark_data form mark) }
-{
-    match form {
-        Form::Packs => id_value(alloc, mark.pack),
-        Form::Moments => moment_value(alloc, mark),
-    }
-}
-
 // A mark with its moment as a value.
-fn moment_value(alloc: Global, mark: PackMark) -> Result<Value, AllocError>
+fn mark_value(alloc: Global, mark: PackMark) -> Result<Value, AllocError>
     ensures { IfOk result (λ value. view value ≡ mark_data Moments mark) }
 {
     let id = id_value(alloc, mark.pack)?;

@@ -1,7 +1,7 @@
 use crate::no::No;
 use keep_change::{Change, Listed, SharedChange, StoredFile};
 use keep_entries::{read_entry, write_entry};
-use keep_journal::{Entry, Event};
+use keep_journal::{Entry, Event, EventKind};
 use keep_names::{Id, Kind};
 use std::alloc::Global;
 
@@ -10,8 +10,8 @@ pub(crate) fn facets(alloc: Global, number: u64, count: u32) -> Result<String, N
     let written = entry_of(alloc, number, count)?;
     let text = write_entry(alloc, &written)?;
     let entry = read_entry(alloc, number, &text)?;
-    match &entry.event {
-        Event::Commit(_, change) => {
+    match &entry.event.kind {
+        EventKind::Commit(change) => {
             let count = change.as_change().facet_count();
             Ok(format!(in alloc; "{count} facets")?)
         }
@@ -26,7 +26,10 @@ fn entry_of(alloc: Global, number: u64, count: u32) -> Result<Entry, No> {
     let shared = SharedChange::new(alloc, change)?;
     Ok(Entry {
         at: number,
-        event: Event::Commit(1, shared),
+        event: Event {
+            number: 1,
+            kind: EventKind::Commit(shared),
+        },
     })
 }
 

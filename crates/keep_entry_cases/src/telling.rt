@@ -1,6 +1,6 @@
 use crate::no::No;
 use keep_change::{Change, PackMark, StoredFile};
-use keep_journal::{Entry, Event};
+use keep_journal::{Entry, EventKind};
 use keep_names::{FileName, Id};
 use std::alloc::Global;
 
@@ -9,23 +9,23 @@ pub(crate) fn tell(alloc: Global, entry: &Entry) -> Result<String, No> {
     let mut told = format!(in alloc;
         "{} {} {}",
         entry.at,
-        word_of(&entry.event),
-        entry.event.number()
+        word_of(&entry.event.kind),
+        entry.event.number
     )?;
-    match &entry.event {
-        Event::Commit(_, change) => tell_change(alloc, change.as_change(), &mut told)?,
-        Event::Undo(_) | Event::Redo(_) => {}
-        Event::Empty(_, marks) => tell_marks(alloc, "marks", marks.as_slice(), &mut told)?,
+    match &entry.event.kind {
+        EventKind::Commit(change) => tell_change(alloc, change.as_change(), &mut told)?,
+        EventKind::Undo | EventKind::Redo => {}
+        EventKind::Empty(marks) => tell_marks(alloc, "marks", marks.as_slice(), &mut told)?,
     }
     Ok(told)
 }
 
-fn word_of(event: &Event) -> &'static str {
-    match event {
-        Event::Commit(_, _) => "commit",
-        Event::Undo(_) => "undo",
-        Event::Redo(_) => "redo",
-        Event::Empty(_, _) => "empty",
+fn word_of(kind: &EventKind) -> &'static str {
+    match kind {
+        EventKind::Commit(_) => "commit",
+        EventKind::Undo => "undo",
+        EventKind::Redo => "redo",
+        EventKind::Empty(_) => "empty",
     }
 }
 
