@@ -20,7 +20,7 @@ use std::alloc::{AllocError, Global};
 const CUT: u32 = 1_048_576;
 
 /// What is told of a backup: its snapshot, and how many files it adds.
-#[derive(Clone, Copy, Debug, PartialEq, Eq)]
+#[derive(Clone, Copy, PartialEq, Eq)]
 pub(crate) struct BackedUp {
     pub snapshot: Id,
     pub adds: usize,

@@ -7,7 +7,7 @@ use keep_pack::{PackError, read_header};
 use std::alloc::Global;
 
 /// What is told of a pack: by which name a repository keeps it, and how many blobs it lists.
-#[derive(Clone, Copy, Debug, PartialEq, Eq)]
+#[derive(Clone, Copy, PartialEq, Eq)]
 pub(crate) struct Summary {
     pub id: Id,
     pub entries: usize,

@@ -1,12 +1,4 @@
-pub mod Looking
-pub mod Marking
 pub mod Naming
 pub mod Places
-pub mod Redoing
-pub mod Replying
-pub mod Restoring
-pub mod Steps
-pub mod Sums
-pub mod Totals
-pub mod Undoing
+pub mod Replied
 pub mod Walking

@@ -1,12 +1,2 @@
 pub mod Armed
-pub mod BookState
-pub mod Dependents
-pub mod Formed
-pub mod Guarding
-pub mod Limits
-pub mod Made
 pub mod Names
-pub mod Refusal
-pub mod Reply
-pub mod Request
-pub mod Sums

@@ -1,14 +1,13 @@
 ghost use Rattle.std.specs.Prelude.{map};
 ghost use Rattle.keep_hooks.specs.Rules.{armed_of, hooks_data, tallies_of};
 ghost use Rattle.keep_book.specs.Names.{HaveNoNameTwice};
-ghost use Rattle.keep_book.specs.Sums.{AreSums};
+ghost use Rattle.keep_ledger.specs.Sums.{AreSums};
 
 use crate::hooks::{Hooks, has_veto, has_watch};
-use crate::ledger::Ledger;
 use crate::not_armed::NotArmed;
-use crate::reply::{Refusal, Told};
 use keep_change::Planned;
 use keep_hooks::{ArmedWatch, Veto, Watch};
+use keep_ledger::{Ledger, Refusal, Request, Told};
 use keep_repo::Repo;
 use std::alloc::{AllocError, Global};
 
@@ -29,17 +28,18 @@ impl Book {
     ghost use Rattle.keep_journal.specs.History.{change_of, length_of};
     ghost use Rattle.keep_journal.specs.Kept.{is_kept};
     ghost use Rattle.keep_hooks.specs.Rules.{armed_at, rule_of, watch_of};
-    ghost use Rattle.keep_book.specs.Armed.{HasSums, hook_of, hooks_of, is_double, ledger_of, with_veto, with_watch};
-    ghost use Rattle.keep_book.specs.BookState.{BookState, JustCommitted, new_book};
-    ghost use Rattle.keep_book.specs.Limits.{event_limit};
+    ghost use Rattle.keep_journal.specs.Opening.{IsOpen};
+    ghost use Rattle.keep_ledger.specs.LedgerState.{JustCommitted, LedgerState, new_ledger};
+    ghost use Rattle.keep_ledger.specs.Limits.{event_limit};
+    ghost use Rattle.keep_ledger.specs.Reply.{Restores, TakesBack};
+    ghost use Rattle.keep_ledger.specs.Sums.{sums_of};
+    ghost use Rattle.keep_ledger.specs.declared.request.Request.TheVariants as request;
+    ghost use Rattle.keep_book.specs.Armed.{Responds, HasSums, IsUnchanged, hook_of, hooks_of, is_double, ledger_of, with_veto, with_watch};
     ghost use Rattle.keep_book.specs.Names.{is_armed};
-    ghost use Rattle.keep_book.specs.Reply.{Replies, Restores, TakesBack, state_after};
-    ghost use Rattle.keep_book.specs.Request as request;
-    ghost use Rattle.keep_book.specs.Sums.{sums_of};
 
     /// A book over this repository, without changes, vetoes and watches.
     pub fn new(alloc: Global, opening: Repo) -> Book
-        ensures ledger { ledger_of result ≡ new_book opening }
+        ensures ledger { ledger_of result ≡ new_ledger opening }
         ensures hooks { hooks_of result ≡ record { vetoes = []; watches = [] } }
     {
         Book {
@@ -61,8 +61,7 @@ impl Book {
     /// `Ledger::refresh`.
     pub fn refresh(&mut self)
         requires { HasSums self.old }
-        ensures ledger { ledger_of self.new ≡ ledger_of self.old }
-        ensures hooks { hooks_of self.new ≡ hooks_of self.old }
+        ensures { IsUnchanged self.old self.new }
     {
         self.ledger.refresh();
     }
@@ -70,8 +69,7 @@ impl Book {
     /// `Ledger::hash_all`.
     pub fn hash_all(&mut self)
         requires { HasSums self.old }
-        ensures ledger { ledger_of self.new ≡ ledger_of self.old }
-        ensures hooks { hooks_of self.new ≡ hooks_of self.old }
+        ensures { IsUnchanged self.old self.new }
     {
         self.ledger.hash_all();
     }
@@ -139,50 +137,57 @@ impl Book {
         self.hooks.watches.as_slice()
     }
 
-    /// Makes a change, unless a veto refuses it, and tells the watches: `Ledger::commit`.
-    pub fn commit(&mut self, planned: Planned) -> Result<Told, Refusal>
+    /// Does what is asked, or refuses it and changes nothing: `Ledger::ask`, with the vetoes and watches that are armed.
+    pub fn ask(&mut self, request: Request) -> Result<Told, Refusal>
         requires { HasSums self.old }
-        ensures reply { Replies (ledger_of self.old) (hooks_of self.old).vetoes (request.Commit planned) result }
-        ensures after { ledger_of self.new ≡ state_after (ledger_of self.old) (request.Commit planned) result }
-        ensures made { IfOk result (λ told. JustCommitted (ledger_of self.old) told.number (ledger_of self.new)) }
-        ensures hooks { hooks_of self.new ≡ hooks_of self.old }
+        ensures responds { Responds self.old request result self.new }
+        ensures open { let b = ledger_of self.old in IsOpen b.opening b.events b.live }
     {
-        self.ledger.commit(&mut self.hooks, planned)
+        self.ledger.ask(&mut self.hooks, request)
     }
 
-    /// Takes the change back, and tells the watches: `Ledger::undo`.
+    /// Makes a change, unless a veto refuses it, and tells the watches.
+    pub fn commit(&mut self, planned: Planned) -> Result<Told, Refusal>
+        requires { HasSums self.old }
+        ensures responds { Responds self.old (request.Commit planned) result self.new }
+        ensures made { IfOk result (λ told. JustCommitted (ledger_of self.old) told.number (ledger_of self.new)) }
+    {
+        self.ask(Request::Commit(planned))
+    }
+
+    /// Takes the change back, and tells the watches.
     pub fn undo(&mut self, n: u64) -> Result<Told, Refusal>
         requires { HasSums self.old }
-        ensures reply { Replies (ledger_of self.old) (hooks_of self.old).vetoes (request.Undo n) result }
-        ensures after { ledger_of self.new ≡ state_after (ledger_of self.old) (request.Undo n) result }
+        ensures responds { Responds self.old (request.Undo n) result self.new }
+
+        // A change in force that isn't final is taken back where the others, in their order, can be
+        // made of the opening, and what they make of it is left; else the first that can't is named.
         ensures exact { let before = ledger_of self.old in
             IsSome (change_of before.events n) → IsTrue (is_kept before.events n) →
             length_of before.events < event_limit → TakesBack before n result (ledger_of self.new).live }
-        ensures restores { (before : BookState) → JustCommitted before n (ledger_of self.old) →
+
+        // Nothing can lean on a commit that was just accepted, and its undo leaves what was there.
+        ensures restores { (before : LedgerState) → JustCommitted before n (ledger_of self.old) →
             Restores before.live result (ledger_of self.new).live }
-        ensures hooks { hooks_of self.new ≡ hooks_of self.old }
     {
-        self.ledger.undo(&mut self.hooks, n)
+        self.ask(Request::Undo(n))
     }
 
-    /// Makes the change again, at its place, unless a veto refuses it, and tells the watches: `Ledger::redo`.
+    /// Makes the change again, at its place, unless a veto refuses it, and tells the watches.
     pub fn redo(&mut self, n: u64) -> Result<Told, Refusal>
         requires { HasSums self.old }
-        ensures reply { Replies (ledger_of self.old) (hooks_of self.old).vetoes (request.Redo n) result }
-        ensures after { ledger_of self.new ≡ state_after (ledger_of self.old) (request.Redo n) result }
-        ensures hooks { hooks_of self.new ≡ hooks_of self.old }
+        ensures responds { Responds self.old (request.Redo n) result self.new }
     {
-        self.ledger.redo(&mut self.hooks, n)
+        self.ask(Request::Redo(n))
     }
 
-    /// Makes all changes up to n final, unless a veto refuses it, and tells the watches: `Ledger::empty`.
+    /// Makes all changes up to n final, and so moves the opening over those in force, unless a veto refuses it, and
+    /// tells the watches.
     pub fn empty(&mut self, n: u64) -> Result<Told, Refusal>
         requires { HasSums self.old }
-        ensures reply { Replies (ledger_of self.old) (hooks_of self.old).vetoes (request.Empty n) result }
-        ensures after { ledger_of self.new ≡ state_after (ledger_of self.old) (request.Empty n) result }
+        ensures responds { Responds self.old (request.Empty n) result self.new }
         ensures live { (ledger_of self.new).live ≡ (ledger_of self.old).live }
-        ensures hooks { hooks_of self.new ≡ hooks_of self.old }
     {
-        self.ledger.empty(&mut self.hooks, n)
+        self.ask(Request::Empty(n))
     }
 }

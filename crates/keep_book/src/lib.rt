@@ -1,19 +1,9 @@
-//! The book: a repository under numbered changes, any of which can be taken back.
+//! The book: a ledger, with the vetoes and watches that are armed over it.
 #![tactic(auto)]
 
 mod book;
-mod checks;
-mod dependents;
-mod guarding;
 mod hooks;
-mod ledger;
-mod making;
 mod not_armed;
-mod opening_marks;
-mod place;
-mod reply;
 
 pub use book::Book;
-pub use ledger::Ledger;
 pub use not_armed::NotArmed;
-pub use reply::{Refusal, Told};

@@ -1,7 +1,7 @@
 use keep_names::{Blob, BlobId, Id};
 
 /// Where bytes stand: in which pack, and where in it. Spots are in order by pack, offset and length.
-#[derive(Clone, Copy, Debug, PartialEq, Eq, PartialOrd, Ord)]
+#[derive(Clone, Copy, PartialEq, Eq, PartialOrd, Ord)]
 pub struct Spot {
     pub pack: Id,
     /// How many bytes of the pack stand before it.
@@ -11,14 +11,14 @@ pub struct Spot {
 }
 
 /// A blob and the pack that it stands in, as an index and a pack's header list it.
-#[derive(Clone, Copy, Debug, PartialEq, Eq, PartialOrd, Ord)]
+#[derive(Clone, Copy, PartialEq, Eq, PartialOrd, Ord)]
 pub struct PackedBlob {
     pub blob: BlobId,
     pub spot: Spot,
 }
 
 /// Where an index lists a blob. Listings of one blob are in order by spot, and then by index.
-#[derive(Clone, Copy, Debug, PartialEq, Eq, PartialOrd, Ord)]
+#[derive(Clone, Copy, PartialEq, Eq, PartialOrd, Ord)]
 pub(crate) struct Listing {
     pub(crate) spot: Spot,
     pub(crate) index: Id,

@@ -7,14 +7,14 @@ use keep_repo::Mark;
 use std::alloc::Global;
 
 /// A mark that a change sets or clears.
-#[derive(Clone, Copy, Debug, PartialEq, Eq)]
+#[derive(Clone, Copy, PartialEq, Eq)]
 pub struct PackMark {
     pub pack: Id,
     pub mark: Mark,
 }
 
 /// What one command does to a repository, and what it relied on.
-#[derive(Debug, Drop)]
+#[derive(Drop)]
 pub struct Change {
     /// Files to be put where there are none.
     pub adds: Listed<StoredFile>,
@@ -66,7 +66,7 @@ impl Change {
 }
 
 /// A change, with the length of the history that it was planned on.
-#[derive(Debug, Drop)]
+#[derive(Drop)]
 pub struct Planned {
     pub change: Change,
     pub seen: u64,

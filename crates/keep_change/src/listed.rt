@@ -4,7 +4,7 @@ use std::alloc::Global;
 use std::marker::Model;
 
 /// A list that contracts see as its elements.
-#[derive(Debug, Drop)]
+#[derive(Drop)]
 pub struct Listed<T> {
     items: Vec<T>,
 }

@@ -9,7 +9,7 @@ use keep_names::{FileName, Id};
 use std::alloc::{AllocError, Global};
 
 /// The kinds of events.
-#[derive(Clone, Copy, Debug, PartialEq, Eq)]
+#[derive(Clone, Copy, PartialEq, Eq)]
 pub enum What {
     Commit,
     Undo,
@@ -19,7 +19,7 @@ pub enum What {
 
 /// An event without bytes: its kind, the change's number, and what the change writes. The lists
 /// are empty for an emptying of the trash.
-#[derive(Debug, Drop)]
+#[derive(Drop)]
 pub struct Outline {
     pub what: What,
     pub number: u64,

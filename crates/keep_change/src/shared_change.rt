@@ -6,7 +6,7 @@ use std::marker::Model;
 use std::sync::Arc;
 
 /// A change, shared by all that hold it.
-#[derive(Debug, Drop)]
+#[derive(Drop)]
 pub struct SharedChange {
     shared: Arc<Change>,
 }

@@ -8,7 +8,7 @@ use std::alloc::{AllocError, Global};
 use std::marker::Model;
 
 /// A file that a change adds or drops. One that was made from its bytes alone isn't hashed again.
-#[derive(Debug, Drop)]
+#[derive(Drop)]
 pub struct StoredFile {
     name: FileName,
     bytes: Bytes,

@@ -5,7 +5,7 @@ use crate::change::{Change, PackMark};
 use crate::stored_file::StoredFile;
 
 /// Which way a change is turned.
-#[derive(Clone, Copy, Debug, PartialEq, Eq)]
+#[derive(Clone, Copy, PartialEq, Eq)]
 pub enum Turn {
     /// It is made.
     Make,

@@ -3,10 +3,10 @@ use Rattle.std.specs.Prelude.{◌≡◌, ◌≢◌, ◌≤◌, ℕ, List, [], �
 use Rattle.std.specs.Global.{Global}
 use Rattle.std.specs.Io.KnownBytes.{Keeps}
 use Rattle.keep_hooks.specs.Guards.{Rule, WatchData}
-use Rattle.keep_hooks.specs.Kits.{KitData, NamedRule}
+use Rattle.keep_jobs.specs.Kits.{KitData, NamedRule}
 use Rattle.keep_hooks.specs.declared.limit.Limit.TheVariants.{NoEmpty, SnapshotDropsAtMost}
 use Rattle.keep_hooks.specs.declared.measure.Measure.TheVariants.{Events, FilesWritten}
-use Rattle.keep_hooks.specs.declared.pick.Pick.TheVariants.{Any, Host, Tagged}
+use Rattle.keep_filters.specs.declared.pick.Pick.TheVariants.{Any, Host, Tagged}
 use Rattle.keep_script.specs.Known.{Writes, WritesLines}
 use Rattle.keep_script.specs.Line.{longest_script}
 use Rattle.keep_script.specs.Run.{Ends}

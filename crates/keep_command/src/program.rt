@@ -1,5 +1,5 @@
 ghost use Rattle.std.specs.Prelude.{◌≡◌, ◌≢◌, ◌≤◌, ◌⊎◌, IfErr, IfOk, IfSome, None, length, map};
-ghost use Rattle.keep_hooks.specs.Kits.{named_rule};
+ghost use Rattle.keep_jobs.specs.Kits.{named_rule};
 ghost use Rattle.keep_script.specs.Known.{WritesLines};
 ghost use Rattle.keep_script.specs.Line.{longest_script};
 ghost use Rattle.keep_script.specs.declared.status.Status.{Status};
@@ -10,10 +10,11 @@ ghost use Rattle.keep_command.specs.Running.{IsUntouched, KeepsLines, Runs, Runs
 use crate::ending::Ending;
 use crate::options::{BadOptions, Options, find_bad_word, read_options};
 use keep_change::{Outline, What};
+use keep_filters::{AskFacts, Filter, Pick, has_tag};
 use keep_hooks::{
-    AskFacts, AskOutline, CountOutline, Filter, Kit, Limit, Measure, Pick, Veto, Watch,
-    files_written, has_tag, snapshots_dropped,
+    AskOutline, CountOutline, Limit, Measure, Veto, Watch, files_written, snapshots_dropped,
 };
+use keep_jobs::Kit;
 use keep_script::{Status, run};
 use keep_snap::SnapFacts;
 use std::alloc::{AllocError, Global};

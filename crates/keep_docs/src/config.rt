@@ -14,7 +14,7 @@ use std::alloc::{AllocError, Global};
 
 /// What a repository's config says. The polynomial is restic's, by which it cuts files into blobs; it is
 /// carried as it is written.
-#[derive(Debug, PartialEq, Eq, Drop)]
+#[derive(PartialEq, Eq, Drop)]
 pub struct Config {
     pub id: Id,
     pub chunker_polynomial: String,

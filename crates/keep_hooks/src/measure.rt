@@ -1,5 +1,5 @@
 /// What a watch counts of an event.
-#[derive(Clone, Copy, Debug, PartialEq, Eq)]
+#[derive(Clone, Copy, PartialEq, Eq)]
 pub enum Measure {
     /// One.
     Events,

@@ -3,8 +3,8 @@ use Rattle.std.specs.Prelude.{ℕ, ℤ, Bool, false, is_none, List, [], ◌∷�
 use Rattle.keep_backup.specs.Backup.{FactsData, backup_change}
 use Rattle.keep_backup.specs.Files.{given_view}
 use Rattle.keep_change.specs.declared.change.Change.{Change}
-use Rattle.keep_hooks.specs.Kits.{NamedRule, rule_named}
-use Rattle.keep_hooks.specs.declared.pick.Pick.{Pick}
+use Rattle.keep_jobs.specs.Kits.{NamedRule, rule_named}
+use Rattle.keep_filters.specs.declared.pick.Pick.{Pick}
 use Rattle.keep_jobs.specs.Edits.{edit_data}
 use Rattle.keep_jobs.specs.Patterns.{patterns_in}
 use Rattle.keep_jobs.specs.Policies.{policy_data}

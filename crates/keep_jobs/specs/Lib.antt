@@ -1,4 +1,5 @@
 pub mod Edits
 pub mod Job
+pub mod Kits
 pub mod Patterns
 pub mod Policies

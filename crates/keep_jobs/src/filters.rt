@@ -1,7 +1,8 @@
 ghost use Rattle.std.specs.Prelude.{◌≡◌, option_map};
-ghost use Rattle.keep_hooks.specs.Kits.{filters_of, rule_named};
+ghost use Rattle.keep_jobs.specs.Kits.{filters_of, rule_named};
 
-use keep_hooks::{Filter, Kit};
+use crate::kit::Kit;
+use keep_filters::Filter;
 
 /// The filter of this name: of several the first.
 pub(crate) fn filter_named<'a>(kit: &'a Kit, name: &str) -> Option<&'a Filter>

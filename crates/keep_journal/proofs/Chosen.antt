@@ -13,7 +13,7 @@ use Rattle.keep_change.specs.declared.change.PackMark.{PackMark}
 use Rattle.keep_journal.specs.History.{committed, last_change, change_of, CountsFrom, IsNumbered}
 use Rattle.keep_journal.specs.Kept.{chosen}
 use Rattle.keep_journal.specs.Journal.{Journal, posted}
-use Rattle.keep_journal.specs.declared.event.Event.TheVariants.{Commit, Undo, Redo, Empty}
+use Rattle.keep_journal.specs.Event.{committing, undoing, redoing, emptying}
 use Rattle.keep_journal.proofs.Commits.{committed-Commit, committed-Empty, committed-Redo, committed-Undo, within_journal}
 
 -- ---- tests
@@ -103,18 +103,18 @@ counted_only p n k (m ∷ ns) x h found =
 
 -- after one more event
 pub chosen-Commit : (test : ℕ → Bool) (j : Journal) (k n : ℕ) (c : Change)
-    → chosen test (posted j k (Commit n c)) ≡ chosen test j ++ cond (test n) (record { number = n; change = c } ∷ []) []
+    → chosen test (posted j k (committing n c)) ≡ chosen test j ++ cond (test n) (record { number = n; change = c } ∷ []) []
 chosen-Commit test j k n c =
     ap (filter (λ x. test x.number)) (committed-Commit j k n c)
     ∙ filter-append (λ (x : Numbered). test x.number) (committed j) (record { number = n; change = c } ∷ [])
 
-pub chosen-Undo : (test : ℕ → Bool) (j : Journal) (k n : ℕ) → chosen test (posted j k (Undo n)) ≡ chosen test j
+pub chosen-Undo : (test : ℕ → Bool) (j : Journal) (k n : ℕ) → chosen test (posted j k (undoing n)) ≡ chosen test j
 chosen-Undo test j k n = ap (filter (λ x. test x.number)) (committed-Undo j k n)
 
-pub chosen-Redo : (test : ℕ → Bool) (j : Journal) (k n : ℕ) → chosen test (posted j k (Redo n)) ≡ chosen test j
+pub chosen-Redo : (test : ℕ → Bool) (j : Journal) (k n : ℕ) → chosen test (posted j k (redoing n)) ≡ chosen test j
 chosen-Redo test j k n = ap (filter (λ x. test x.number)) (committed-Redo j k n)
 
-pub chosen-Empty : (test : ℕ → Bool) (j : Journal) (k n : ℕ) (marks : List PackMark) → chosen test (posted j k (Empty n marks)) ≡ chosen test j
+pub chosen-Empty : (test : ℕ → Bool) (j : Journal) (k n : ℕ) (marks : List PackMark) → chosen test (posted j k (emptying n marks)) ≡ chosen test j
 chosen-Empty test j k n marks = ap (filter (λ x. test x.number)) (committed-Empty j k n marks)
 
 -- tests that agree choose the same

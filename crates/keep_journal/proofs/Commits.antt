@@ -11,41 +11,42 @@ use Rattle.std.specs.Option.{is_some, option_map, option_or}
 use Rattle.keep_change.specs.Fold.{Numbered}
 use Rattle.keep_change.specs.declared.change.Change.{Change}
 use Rattle.keep_change.specs.declared.change.PackMark.{PackMark}
-use Rattle.keep_journal.specs.History.{committed, last_change, change_of, in_force_after, is_in_force, final_after, final_number, length_of, AscendFrom, ComeInTurn, ComesNext, CountsFrom, Fits, IsLegal, IsNumbered}
-use Rattle.keep_journal.specs.Event.{commit_of}
+use Rattle.keep_journal.specs.Event.{commit_of, committing, undoing, redoing, emptying}
+use Rattle.keep_journal.specs.History.{committed, last_change, change_of, in_force_after, is_in_force, final_after, final_number, length_of, AscendFrom, ComeInTurn, ComesNext, CountsFrom, FitsBy, IsLegal, IsNumbered}
 use Rattle.keep_journal.specs.Journal.{Journal, posted}
 use Rattle.keep_journal.specs.Opening.{last_marks, marks_after}
 use Rattle.keep_journal.specs.declared.event.Entry.{Entry}
 use Rattle.keep_journal.specs.declared.event.Event.{Event}
-use Rattle.keep_journal.specs.declared.event.Event.TheVariants.{Commit, Undo, Redo, Empty}
+use Rattle.keep_journal.specs.declared.event.EventKind.{EventKind}
+use Rattle.keep_journal.specs.declared.event.EventKind.TheVariants.{Commit, Undo, Redo, Empty}
 
 -- ---- one more event
 
 pub committed-Commit : (j : Journal) (k n : ℕ) (c : Change)
-    → committed (posted j k (Commit n c)) ≡ committed j ++ record { number = n; change = c } ∷ []
-committed-Commit j k n c = filter_map-append (λ e. commit_of e.event) j.entries (record { at = k; event = Commit n c } ∷ [])
+    → committed (posted j k (committing n c)) ≡ committed j ++ record { number = n; change = c } ∷ []
+committed-Commit j k n c = filter_map-append (λ e. commit_of e.event) j.entries (record { at = k; event = committing n c } ∷ [])
 
-pub committed-Undo : (j : Journal) (k n : ℕ) → committed (posted j k (Undo n)) ≡ committed j
-committed-Undo j k n = filter_map-append (λ e. commit_of e.event) j.entries (record { at = k; event = Undo n } ∷ []) ∙ append-nil (committed j)
+pub committed-Undo : (j : Journal) (k n : ℕ) → committed (posted j k (undoing n)) ≡ committed j
+committed-Undo j k n = filter_map-append (λ e. commit_of e.event) j.entries (record { at = k; event = undoing n } ∷ []) ∙ append-nil (committed j)
 
-pub committed-Redo : (j : Journal) (k n : ℕ) → committed (posted j k (Redo n)) ≡ committed j
-committed-Redo j k n = filter_map-append (λ e. commit_of e.event) j.entries (record { at = k; event = Redo n } ∷ []) ∙ append-nil (committed j)
+pub committed-Redo : (j : Journal) (k n : ℕ) → committed (posted j k (redoing n)) ≡ committed j
+committed-Redo j k n = filter_map-append (λ e. commit_of e.event) j.entries (record { at = k; event = redoing n } ∷ []) ∙ append-nil (committed j)
 
-pub committed-Empty : (j : Journal) (k n : ℕ) (marks : List PackMark) → committed (posted j k (Empty n marks)) ≡ committed j
-committed-Empty j k n marks = filter_map-append (λ e. commit_of e.event) j.entries (record { at = k; event = Empty n marks } ∷ []) ∙ append-nil (committed j)
+pub committed-Empty : (j : Journal) (k n : ℕ) (marks : List PackMark) → committed (posted j k (emptying n marks)) ≡ committed j
+committed-Empty j k n marks = filter_map-append (λ e. commit_of e.event) j.entries (record { at = k; event = emptying n marks } ∷ []) ∙ append-nil (committed j)
 
-pub last_change-Commit : (j : Journal) (k n : ℕ) (c : Change) → last_change (posted j k (Commit n c)) ≡ last_change j + 1
+pub last_change-Commit : (j : Journal) (k n : ℕ) (c : Change) → last_change (posted j k (committing n c)) ≡ last_change j + 1
 last_change-Commit j k n c =
     let longer = ap length (committed-Commit j k n c) ∙ length_push (committed j) (record { number = n; change = c }) in
     omega (arith, longer)
 
-pub last_change-Undo : (j : Journal) (k n : ℕ) → last_change (posted j k (Undo n)) ≡ last_change j
+pub last_change-Undo : (j : Journal) (k n : ℕ) → last_change (posted j k (undoing n)) ≡ last_change j
 last_change-Undo j k n = ap (λ ns. j.base + length ns) (committed-Undo j k n)
 
-pub last_change-Redo : (j : Journal) (k n : ℕ) → last_change (posted j k (Redo n)) ≡ last_change j
+pub last_change-Redo : (j : Journal) (k n : ℕ) → last_change (posted j k (redoing n)) ≡ last_change j
 last_change-Redo j k n = ap (λ ns. j.base + length ns) (committed-Redo j k n)
 
-pub last_change-Empty : (j : Journal) (k n : ℕ) (marks : List PackMark) → last_change (posted j k (Empty n marks)) ≡ last_change j
+pub last_change-Empty : (j : Journal) (k n : ℕ) (marks : List PackMark) → last_change (posted j k (emptying n marks)) ≡ last_change j
 last_change-Empty j k n marks = ap (λ ns. j.base + length ns) (committed-Empty j k n marks)
 
 pub is_in_force-push : (j : Journal) (k : ℕ) (e : Event) (m : ℕ)
@@ -166,7 +167,7 @@ change_of-push j k e n c h =
     rw (same, parts) (first_one (find (λ c. c.number == n) (committed j)) (find (λ c. c.number == n) (filter_map (λ x. commit_of x.event) one)) c h)
 
 pub change_of-Commit : (j : Journal) (k n : ℕ) (c : Change) → IsNumbered j → n ≡ last_change j + 1
-    → change_of (posted j k (Commit n c)) n ≡ Some c
+    → change_of (posted j k (committing n c)) n ≡ Some c
 change_of-Commit j k n c h next =
     let absent : (nat_lt j.base n && nat_le n (last_change j)) ≡ false = rw (lt-leb n (last_change j) (omega arith)) (and_right (nat_lt j.base n) false refl) in
     let is_there = is_some-change_of j n h in
@@ -179,29 +180,29 @@ change_of-Commit j k n c h next =
 pub IsNumbered-push : (j : Journal) (e : Entry) → IsNumbered j → ComesNext j e → IsNumbered (posted j e.at e.event)
 IsNumbered-push j e h next = record {
   events = AscendFrom-push 0 j.entries e h.events next.above;
-  commits = commits e.event next.fits;
-  first_final = first_final e.event next.fits;
-  last_final = last_final e.event next.fits;
+  commits = commits e.event.number e.event.kind next.fits;
+  first_final = first_final e.event.number e.event.kind next.fits;
+  last_final = last_final e.event.number e.event.kind next.fits;
 }
   where
-    commits : (event : Event) → Fits j event → CountsFrom (j.base + 1) (committed (posted j e.at event))
-    commits (Commit n c) fits =
+    commits : (n : ℕ) (kind : EventKind) → FitsBy j n kind → CountsFrom (j.base + 1) (committed (posted j e.at (record { number = n; kind = kind })))
+    commits n (Commit c) fits =
         rw (committed-Commit j e.at n c) (CountsFrom-push (j.base + 1) (committed j) (record { number = n; change = c }) h.commits (omega arith))
-    commits (Undo n) fits = rw (committed-Undo j e.at n) h.commits
-    commits (Redo n) fits = rw (committed-Redo j e.at n) h.commits
-    commits (Empty n marks) fits = rw (committed-Empty j e.at n marks) h.commits
+    commits n Undo fits = rw (committed-Undo j e.at n) h.commits
+    commits n Redo fits = rw (committed-Redo j e.at n) h.commits
+    commits n (Empty marks) fits = rw (committed-Empty j e.at n marks) h.commits
 
-    first_final : (event : Event) → Fits j event → j.base ≤ final_number (posted j e.at event)
-    first_final (Commit n c) fits = rw (final_number-push j e.at (Commit n c)) h.first_final
-    first_final (Undo n) fits = rw (final_number-push j e.at (Undo n)) h.first_final
-    first_final (Redo n) fits = rw (final_number-push j e.at (Redo n)) h.first_final
-    first_final (Empty n marks) fits = rw (final_number-push j e.at (Empty n marks)) (omega (arith, h.first_final, fits.0))
+    first_final : (n : ℕ) (kind : EventKind) → FitsBy j n kind → j.base ≤ final_number (posted j e.at (record { number = n; kind = kind }))
+    first_final n (Commit c) fits = rw (final_number-push j e.at (committing n c)) h.first_final
+    first_final n Undo fits = rw (final_number-push j e.at (undoing n)) h.first_final
+    first_final n Redo fits = rw (final_number-push j e.at (redoing n)) h.first_final
+    first_final n (Empty marks) fits = rw (final_number-push j e.at (emptying n marks)) (omega (arith, h.first_final, fits.0))
 
-    last_final : (event : Event) → Fits j event → final_number (posted j e.at event) ≤ last_change (posted j e.at event)
-    last_final (Commit n c) fits = rw (final_number-push j e.at (Commit n c), last_change-Commit j e.at n c) (omega (arith, h.last_final))
-    last_final (Undo n) fits = rw (final_number-push j e.at (Undo n), last_change-Undo j e.at n) h.last_final
-    last_final (Redo n) fits = rw (final_number-push j e.at (Redo n), last_change-Redo j e.at n) h.last_final
-    last_final (Empty n marks) fits = rw (final_number-push j e.at (Empty n marks), last_change-Empty j e.at n marks) fits.1
+    last_final : (n : ℕ) (kind : EventKind) → FitsBy j n kind → final_number (posted j e.at (record { number = n; kind = kind })) ≤ last_change (posted j e.at (record { number = n; kind = kind }))
+    last_final n (Commit c) fits = rw (final_number-push j e.at (committing n c), last_change-Commit j e.at n c) (omega (arith, h.last_final))
+    last_final n Undo fits = rw (final_number-push j e.at (undoing n), last_change-Undo j e.at n) h.last_final
+    last_final n Redo fits = rw (final_number-push j e.at (redoing n), last_change-Redo j e.at n) h.last_final
+    last_final n (Empty marks) fits = rw (final_number-push j e.at (emptying n marks), last_change-Empty j e.at n marks) fits.1
 
 -- ---- a history stays legal
 

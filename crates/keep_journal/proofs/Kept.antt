@@ -10,7 +10,7 @@ use Rattle.keep_change.specs.declared.change.PackMark.{PackMark}
 use Rattle.keep_journal.specs.History.{last_change, change_of, final_number, is_in_force, IsNumbered}
 use Rattle.keep_journal.specs.Kept.{above, chosen, earlier, is_kept, kept, kept_with, later, others, up_to}
 use Rattle.keep_journal.specs.Journal.{Journal, posted}
-use Rattle.keep_journal.specs.declared.event.Event.TheVariants.{Commit, Undo, Redo, Empty}
+use Rattle.keep_journal.specs.Event.{committing, undoing, redoing, emptying}
 use Rattle.keep_journal.proofs.Chosen.{chosen-Commit, chosen-Empty, chosen-Redo, chosen-Undo, chosen_agree, chosen_agree_on, chosen_around, chosen_around_as, chosen_below, chosen_next, chosen_past, chosen_split}
 use Rattle.keep_journal.proofs.Commits.{final_number-push, is_in_force-push}
 
@@ -59,44 +59,44 @@ with_above false m n = grind (arith, nat_tests)
 -- ---- whether a change is kept, after one more event
 
 pub is_kept-Commit : (j : Journal) (k n : ℕ) (c : Change) (m : ℕ)
-    → is_kept (posted j k (Commit n c)) m ≡ ((n == m || is_in_force j m) && nat_lt (final_number j) m)
-is_kept-Commit j k n c m = rw (is_in_force-push j k (Commit n c) m, final_number-push j k (Commit n c)) refl
+    → is_kept (posted j k (committing n c)) m ≡ ((n == m || is_in_force j m) && nat_lt (final_number j) m)
+is_kept-Commit j k n c m = rw (is_in_force-push j k (committing n c) m, final_number-push j k (committing n c)) refl
 
-pub is_kept-Undo : (j : Journal) (k n m : ℕ) → is_kept (posted j k (Undo n)) m ≡ (is_kept j m && not (m == n))
-is_kept-Undo j k n m = rw (is_in_force-push j k (Undo n) m, final_number-push j k (Undo n)) (undone_test (is_in_force j m) (final_number j) n m)
+pub is_kept-Undo : (j : Journal) (k n m : ℕ) → is_kept (posted j k (undoing n)) m ≡ (is_kept j m && not (m == n))
+is_kept-Undo j k n m = rw (is_in_force-push j k (undoing n) m, final_number-push j k (undoing n)) (undone_test (is_in_force j m) (final_number j) n m)
 
-pub is_kept-Redo : (j : Journal) (k n m : ℕ) → final_number j < n → is_kept (posted j k (Redo n)) m ≡ (is_kept j m || m == n)
-is_kept-Redo j k n m above = rw (is_in_force-push j k (Redo n) m, final_number-push j k (Redo n)) (redone_test (is_in_force j m) (final_number j) n m above)
+pub is_kept-Redo : (j : Journal) (k n m : ℕ) → final_number j < n → is_kept (posted j k (redoing n)) m ≡ (is_kept j m || m == n)
+is_kept-Redo j k n m above = rw (is_in_force-push j k (redoing n) m, final_number-push j k (redoing n)) (redone_test (is_in_force j m) (final_number j) n m above)
 
-pub is_kept-Empty : (j : Journal) (k n : ℕ) (marks : List PackMark) (m : ℕ) → final_number j ≤ n → is_kept (posted j k (Empty n marks)) m ≡ (is_kept j m && nat_lt n m)
-is_kept-Empty j k n marks m above = rw (is_in_force-push j k (Empty n marks) m, final_number-push j k (Empty n marks)) (emptied_test (is_in_force j m) (final_number j) n m above)
+pub is_kept-Empty : (j : Journal) (k n : ℕ) (marks : List PackMark) (m : ℕ) → final_number j ≤ n → is_kept (posted j k (emptying n marks)) m ≡ (is_kept j m && nat_lt n m)
+is_kept-Empty j k n marks m above = rw (is_in_force-push j k (emptying n marks) m, final_number-push j k (emptying n marks)) (emptied_test (is_in_force j m) (final_number j) n m above)
 
 -- ---- the kept ones, after one more event
 
-pub kept-Undo : (j : Journal) (k n : ℕ) → kept (posted j k (Undo n)) ≡ others j n
+pub kept-Undo : (j : Journal) (k n : ℕ) → kept (posted j k (undoing n)) ≡ others j n
 kept-Undo j k n =
-    chosen-Undo (is_kept (posted j k (Undo n))) j k n
-    ∙ chosen_agree (is_kept (posted j k (Undo n))) (λ m. is_kept j m && not (m == n)) j (is_kept-Undo j k n)
+    chosen-Undo (is_kept (posted j k (undoing n))) j k n
+    ∙ chosen_agree (is_kept (posted j k (undoing n))) (λ m. is_kept j m && not (m == n)) j (is_kept-Undo j k n)
 
-pub kept-Redo : (j : Journal) (k n : ℕ) → final_number j < n → kept (posted j k (Redo n)) ≡ kept_with j n
+pub kept-Redo : (j : Journal) (k n : ℕ) → final_number j < n → kept (posted j k (redoing n)) ≡ kept_with j n
 kept-Redo j k n above =
-    chosen-Redo (is_kept (posted j k (Redo n))) j k n
-    ∙ chosen_agree (is_kept (posted j k (Redo n))) (λ m. is_kept j m || m == n) j (λ m. is_kept-Redo j k n m above)
+    chosen-Redo (is_kept (posted j k (redoing n))) j k n
+    ∙ chosen_agree (is_kept (posted j k (redoing n))) (λ m. is_kept j m || m == n) j (λ m. is_kept-Redo j k n m above)
 
-pub kept-Empty : (j : Journal) (k n : ℕ) (marks : List PackMark) → final_number j ≤ n → kept (posted j k (Empty n marks)) ≡ later j n
+pub kept-Empty : (j : Journal) (k n : ℕ) (marks : List PackMark) → final_number j ≤ n → kept (posted j k (emptying n marks)) ≡ later j n
 kept-Empty j k n marks above =
-    chosen-Empty (is_kept (posted j k (Empty n marks))) j k n marks
-    ∙ chosen_agree (is_kept (posted j k (Empty n marks))) (λ m. is_kept j m && nat_lt n m) j (λ m. is_kept-Empty j k n marks m above)
+    chosen-Empty (is_kept (posted j k (emptying n marks))) j k n marks
+    ∙ chosen_agree (is_kept (posted j k (emptying n marks))) (λ m. is_kept j m && nat_lt n m) j (λ m. is_kept-Empty j k n marks m above)
 
 pub kept-Commit : (j : Journal) (k n : ℕ) (c : Change) → IsNumbered j → n ≡ last_change j + 1
-    → kept (posted j k (Commit n c)) ≡ kept j ++ record { number = n; change = c } ∷ []
+    → kept (posted j k (committing n c)) ≡ kept j ++ record { number = n; change = c } ∷ []
 kept-Commit j k n c h next =
     let top = h.last_final in
-    let new : is_kept (posted j k (Commit n c)) n ≡ true = is_kept-Commit j k n c n ∙ committed_test (is_in_force j n) (final_number j) n n refl (omega arith) in
-    let old = chosen_agree_on (is_kept (posted j k (Commit n c))) (is_kept j) j h
+    let new : is_kept (posted j k (committing n c)) n ≡ true = is_kept-Commit j k n c n ∙ committed_test (is_in_force j n) (final_number j) n n refl (omega arith) in
+    let old = chosen_agree_on (is_kept (posted j k (committing n c))) (is_kept j) j h
     (λ m low high. is_kept-Commit j k n c m ∙ ap (λ f. f && nat_lt (final_number j) m) (other_test (is_in_force j m) n m (λ e. omega arith))) in
-    chosen-Commit (is_kept (posted j k (Commit n c))) j k n c
-    ∙ ap (λ b. chosen (is_kept (posted j k (Commit n c))) j ++ cond b (record { number = n; change = c } ∷ []) []) new
+    chosen-Commit (is_kept (posted j k (committing n c))) j k n c
+    ∙ ap (λ b. chosen (is_kept (posted j k (committing n c))) j ++ cond b (record { number = n; change = c } ∷ []) []) new
     ∙ ap (λ xs. xs ++ record { number = n; change = c } ∷ []) old
 
 -- those up to n, and then those above n

@@ -9,12 +9,14 @@ use Rattle.std.specs.Option.{MatchOption, option_copied}
 use Rattle.std.specs.Slice.{IsItemAt}
 use Rattle.keep_change.specs.declared.change.Change.{Change}
 use Rattle.keep_change.specs.declared.change.PackMark.{PackMark}
-use Rattle.keep_journal.specs.History.{last_change, change_of, final_after, in_force_after, is_in_force, ComesNext, Fits, IsNumbered}
+use Rattle.keep_journal.specs.Event.{committing, undoing, redoing, emptying}
+use Rattle.keep_journal.specs.History.{last_change, change_of, final_after, in_force_after, is_in_force, ComesNext, FitsBy, IsNumbered}
 use Rattle.keep_journal.specs.Journal.{Journal, posted}
-use Rattle.keep_journal.specs.Standings.{AreStandings, IsStandingOf, IsUpToDate, journal_of, last_after}
+use Rattle.keep_journal.specs.Standings.{AreStandings, IsStandingOf, IsUpToDate, journal_of, last_after, last_by}
 use Rattle.keep_journal.specs.declared.event.Entry.{Entry}
 use Rattle.keep_journal.specs.declared.event.Event.{Event}
-use Rattle.keep_journal.specs.declared.event.Event.TheVariants.{Commit, Undo, Redo, Empty}
+use Rattle.keep_journal.specs.declared.event.EventKind.{EventKind}
+use Rattle.keep_journal.specs.declared.event.EventKind.TheVariants.{Commit, Undo, Redo, Empty}
 use Rattle.keep_journal.specs.declared.history.Standing.{Standing}
 use Rattle.keep_journal.proofs.Commits.{last_change-Commit, last_change-Empty, last_change-Redo, last_change-Undo, change_of-Commit, change_of-push, final_number-push, is_in_force-push, IsLegal-push, IsNumbered-push, no_change, some_change}
 
@@ -54,7 +56,7 @@ IsStandingOf-push : (j : Journal) (k : ℕ) (e : Event) (n : ℕ) (s t : Standin
 IsStandingOf-push j k e n s t stands place in_force = record {
   change = stands.change;
   at = stands.at;
-  place = rw place (slice_get-append j.entries (record { at = k; event = e } ∷ []) s.place (record { at = stands.at; event = Commit n stands.change }) stands.place);
+  place = rw place (slice_get-append j.entries (record { at = k; event = e } ∷ []) s.place (record { at = stands.at; event = committing n stands.change }) stands.place);
   numbered = change_of-push j k e n stands.change stands.numbered;
   in_force = in_force ∙ sym (is_in_force-push j k e n);
 }
@@ -71,7 +73,7 @@ last_one : (ss : List Standing) (new : Standing) (i : ℕ) (s : Standing) → i 
 last_one ss new i s e at = same_Some s new (sym at ∙ ap (slice_get (ss ++ new ∷ [])) e ∙ slice_get-end ss new)
 
 pub AreStandings-Commit : (j : Journal) (ss : List Standing) (k n : ℕ) (c : Change) → IsNumbered j → AreStandings j ss → n ≡ last_change j + 1
-    → AreStandings (posted j k (Commit n c)) (ss ++ record { place = length j.entries; in_force = true } ∷ [])
+    → AreStandings (posted j k (committing n c)) (ss ++ record { place = length j.entries; in_force = true } ∷ [])
 AreStandings-Commit j ss k n c h all next =
     let count = all.count in
     let new : Standing = record { place = length j.entries; in_force = true } in
@@ -84,7 +86,7 @@ AreStandings-Commit j ss k n c h all next =
             | inl below ↦
                 let before : slice_get ss i ≡ Some s = sym (slice_get_before ss (new ∷ []) i below) ∙ at in
                 let stands = all.each i s before in
-                IsStandingOf-push j k (Commit n c) (j.base + i + 1) s s stands refl
+                IsStandingOf-push j k (committing n c) (j.base + i + 1) s s stands refl
                 (stands.in_force ∙ sym (or_other n (j.base + i + 1) (is_in_force j (j.base + i + 1)) (λ e. omega arith)))
             | inr above ↦
                 let within = slice_get_within (ss ++ new ∷ []) i s at in
@@ -94,9 +96,9 @@ AreStandings-Commit j ss k n c h all next =
                 rw (number, same) (record {
                   change = c;
                   at = k;
-                  place = slice_get-end j.entries (record { at = k; event = Commit n c });
+                  place = slice_get-end j.entries (record { at = k; event = committing n c });
                   numbered = change_of-Commit j k n c h next;
-                  in_force = sym (is_in_force-push j k (Commit n c) n ∙ or_same n (is_in_force j n));
+                  in_force = sym (is_in_force-push j k (committing n c) n ∙ or_same n (is_in_force j n));
                 })
           ];
     }
@@ -128,38 +130,43 @@ AreStandings-set j k e ss n p s t b all number within read place in_force count 
           ];
     }
 
-undo_turns : (n m : ℕ) (was : Bool) → in_force_after m was (Undo n) ≡ cond (n == m) false was
+undo_turns : (n m : ℕ) (was : Bool) → in_force_after m was (undoing n) ≡ cond (n == m) false was
 undo_turns n m was = elim (n == m) as (λ b. (not b && was) ≡ cond b false was) [ true ↦ refl | false ↦ refl ]
 
-redo_turns : (n m : ℕ) (was : Bool) → in_force_after m was (Redo n) ≡ cond (n == m) true was
+redo_turns : (n m : ℕ) (was : Bool) → in_force_after m was (redoing n) ≡ cond (n == m) true was
 redo_turns n m was = elim (n == m) as (λ b. (b || was) ≡ cond b true was) [ true ↦ refl | false ↦ refl ]
 
 pub AreStandings-Undo : (j : Journal) (ss : List Standing) (k n p : ℕ) (s : Standing) → AreStandings j ss
     → j.base + p + 1 ≡ n → p < length ss → s ≡ get_or ss p s
-    → AreStandings (posted j k (Undo n)) (set ss p (record { place = s.place; in_force = false }))
+    → AreStandings (posted j k (undoing n)) (set ss p (record { place = s.place; in_force = false }))
 AreStandings-Undo j ss k n p s all number within read =
-    AreStandings-set j k (Undo n) ss n p s (record { place = s.place; in_force = false }) false all number within read refl refl (last_change-Undo j k n) (undo_turns n)
+    AreStandings-set j k (undoing n) ss n p s (record { place = s.place; in_force = false }) false all number within read refl refl (last_change-Undo j k n) (undo_turns n)
 
 pub AreStandings-Redo : (j : Journal) (ss : List Standing) (k n p : ℕ) (s : Standing) → AreStandings j ss
     → j.base + p + 1 ≡ n → p < length ss → s ≡ get_or ss p s
-    → AreStandings (posted j k (Redo n)) (set ss p (record { place = s.place; in_force = true }))
+    → AreStandings (posted j k (redoing n)) (set ss p (record { place = s.place; in_force = true }))
 AreStandings-Redo j ss k n p s all number within read =
-    AreStandings-set j k (Redo n) ss n p s (record { place = s.place; in_force = true }) true all number within read refl refl (last_change-Redo j k n) (redo_turns n)
+    AreStandings-set j k (redoing n) ss n p s (record { place = s.place; in_force = true }) true all number within read refl refl (last_change-Redo j k n) (redo_turns n)
 
 pub AreStandings-Empty : (j : Journal) (ss : List Standing) (k n : ℕ) (marks : List PackMark) → AreStandings j ss
-    → AreStandings (posted j k (Empty n marks)) ss
+    → AreStandings (posted j k (emptying n marks)) ss
 AreStandings-Empty j ss k n marks all = record {
   count = all.count ∙ sym (last_change-Empty j k n marks);
-  each = λ i s at. IsStandingOf-push j k (Empty n marks) (j.base + i + 1) s s (all.each i s at) refl (all.each i s at).in_force;
+  each = λ i s at. IsStandingOf-push j k (emptying n marks) (j.base + i + 1) s s (all.each i s at) refl (all.each i s at).in_force;
 }
 
 -- ---- what a history keeps
 
-last_after-push : (j : Journal) (k : ℕ) (e : Event) (last : ℕ) → Fits j e → last ≡ last_change j → last_after last e ≡ last_change (posted j k e)
-last_after-push j k (Commit n c) last fits counted = fits ∙ sym (last_change-Commit j k n c)
-last_after-push j k (Undo n) last fits counted = counted ∙ sym (last_change-Undo j k n)
-last_after-push j k (Redo n) last fits counted = counted ∙ sym (last_change-Redo j k n)
-last_after-push j k (Empty n marks) last fits counted = counted ∙ sym (last_change-Empty j k n marks)
+-- an event of a known kind
+pub of_kind : (e : Event) (kind : EventKind) → e.kind ≡ kind → e ≡ record { number = e.number; kind = kind }
+of_kind e kind is = ap (λ k. record { number = e.number; kind = k }) is
+
+last_by-push : (j : Journal) (k n : ℕ) (kind : EventKind) (last : ℕ) → FitsBy j n kind → last ≡ last_change j
+    → last_by last n kind ≡ last_change (posted j k (record { number = n; kind = kind }))
+last_by-push j k n (Commit c) last fits counted = fits ∙ sym (last_change-Commit j k n c)
+last_by-push j k n Undo last fits counted = counted ∙ sym (last_change-Undo j k n)
+last_by-push j k n Redo last fits counted = counted ∙ sym (last_change-Redo j k n)
+last_by-push j k n (Empty marks) last fits counted = counted ∙ sym (last_change-Empty j k n marks)
 
 -- what the fields show after the event is the journal with it
 pub shown_after : (last : ℕ) (entries : List Entry) (e : Entry) (ss ts : List Standing) (top : ℕ)
@@ -168,7 +175,7 @@ pub shown_after : (last : ℕ) (entries : List Entry) (e : Entry) (ss ts : List 
     → journal_of (last_after last e.event) (length ts) (entries ++ e ∷ []) ≡ posted (journal_of last (length ss) entries) e.at e.event
 shown_after last entries e ss ts top h next all =
     let j : Journal = journal_of last (length ss) entries in
-    let counted = last_after-push j e.at e.event last next.fits h.counted in
+    let counted = last_by-push j e.at e.event.number e.event.kind last next.fits h.counted in
     let count = all.count in
     let same_base : last_after last e.event - length ts ≡ last - length ss = omega (arith, counted, count) in
     rw same_base refl
@@ -184,7 +191,7 @@ IsUpToDate-push last entries e ss ts top h next all =
       legal = IsLegal-push j e h.legal next;
       standings = all;
       last_final = ap (λ k. final_after k e.event) h.last_final ∙ sym (final_number-push j e.at e.event);
-      counted = last_after-push j e.at e.event last next.fits h.counted;
+      counted = last_by-push j e.at e.event.number e.event.kind last next.fits h.counted;
     })
 
 -- ---- looking one up

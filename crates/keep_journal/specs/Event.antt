@@ -1,26 +1,44 @@
 -- What an event is about, and what it did.
-use Rattle.std.specs.Prelude.{ℕ, Option, Some, None}
+use Rattle.std.specs.Prelude.{ℕ, List, Option, Some, None}
 use Rattle.keep_change.specs.Fold.{Numbered}
+use Rattle.keep_change.specs.declared.change.Change.{Change}
+use Rattle.keep_change.specs.declared.change.PackMark.{PackMark}
 use Rattle.keep_change.specs.declared.outline.What.{What}
 use Rattle.keep_change.specs.declared.outline.What.TheVariants as what
 use Rattle.keep_journal.specs.declared.event.Event.{Event}
-use Rattle.keep_journal.specs.declared.event.Event.TheVariants.{Commit, Undo, Redo, Empty}
+use Rattle.keep_journal.specs.declared.event.EventKind.{EventKind}
+use Rattle.keep_journal.specs.declared.event.EventKind.TheVariants.{Commit, Undo, Redo, Empty}
 
--- the number of the change that the event is about
-abbrev pub number_of : Event → ℕ
-number_of (Commit n c) = n
-number_of (Undo n) = n
-number_of (Redo n) = n
-number_of (Empty n marks) = n
+-- the event that makes a change for the first time, under this number
+abbrev pub committing : ℕ → Change → Event
+committing n c = record { number = n; kind = Commit c }
+
+-- the event that takes change n back
+abbrev pub undoing : ℕ → Event
+undoing n = record { number = n; kind = Undo }
+
+-- the event that makes change n again
+abbrev pub redoing : ℕ → Event
+redoing n = record { number = n; kind = Redo }
+
+-- the event that makes all changes up to n final, over an opening with these marks
+abbrev pub emptying : ℕ → List PackMark → Event
+emptying n marks = record { number = n; kind = Empty marks }
 
 -- what was done to the change
-abbrev pub what_of : Event → What
-what_of (Commit n c) = what.Commit
-what_of (Undo n) = what.Undo
-what_of (Redo n) = what.Redo
-what_of (Empty n marks) = what.Empty
+abbrev pub what_by : EventKind → What
+what_by (Commit c) = what.Commit
+what_by Undo = what.Undo
+what_by Redo = what.Redo
+what_by (Empty marks) = what.Empty
 
--- the change that the event made for the first time
+abbrev pub what_of : Event → What
+what_of e = what_by e.kind
+
+-- the change that is made for the first time, under its number
+abbrev pub commit_by : ℕ → EventKind → Option Numbered
+commit_by n (Commit c) = Some (record { number = n; change = c })
+commit_by n _ = None
+
 abbrev pub commit_of : Event → Option Numbered
-commit_of (Commit n c) = Some (record { number = n; change = c })
-commit_of _ = None
+commit_of e = commit_by e.number e.kind

@@ -8,7 +8,8 @@ use Rattle.keep_journal.specs.Event.{commit_of}
 use Rattle.keep_journal.specs.Journal.{Journal, posted}
 use Rattle.keep_journal.specs.declared.event.Entry.{Entry}
 use Rattle.keep_journal.specs.declared.event.Event.{Event}
-use Rattle.keep_journal.specs.declared.event.Event.TheVariants.{Commit, Undo, Redo, Empty}
+use Rattle.keep_journal.specs.declared.event.EventKind.{EventKind}
+use Rattle.keep_journal.specs.declared.event.EventKind.TheVariants.{Commit, Undo, Redo, Empty}
 use Rattle.keep_journal.specs.declared.history.Status.{Status}
 use Rattle.keep_journal.specs.declared.history.Status.TheVariants.{Unknown, Final, InForce, Undone}
 
@@ -32,21 +33,28 @@ change_of j n = option_map (λ c. c.change) (find (λ c. c.number == n) (committ
 abbrev pub is_change : Journal → ℕ → Bool
 is_change j n = nat_lt 0 n && nat_le n (last_change j)
 
--- whether change n is in force after the event, if it was so before or not: a commit and a redo of it make it so, and an undo ends it
+-- whether a change is in force after an event of this kind, if it was so before or not, by whether it is the event's: a commit and a redo make it so, and an undo ends it
+abbrev pub in_force_by : Bool → Bool → EventKind → Bool
+in_force_by its before (Commit c) = its || before
+in_force_by its before Undo = not its && before
+in_force_by its before Redo = its || before
+in_force_by its before (Empty marks) = before
+
+-- whether change n is in force after the event
 abbrev pub in_force_after : ℕ → Bool → Event → Bool
-in_force_after n before (Commit m c) = m == n || before
-in_force_after n before (Undo m) = not (m == n) && before
-in_force_after n before (Redo m) = m == n || before
-in_force_after n before (Empty m marks) = before
+in_force_after n before e = in_force_by (e.number == n) before e.kind
 
 -- whether change n is in force: the last of its events among commit, undo and redo isn't an undo
 abbrev pub is_in_force : Journal → ℕ → Bool
 is_in_force j n = fold (λ before e. in_force_after n before e.event) false j.entries
 
 -- the last final change's number after the event
+abbrev pub final_by : ℕ → ℕ → EventKind → ℕ
+final_by before n (Empty marks) = n
+final_by before n _ = before
+
 abbrev pub final_after : ℕ → Event → ℕ
-final_after before (Empty m marks) = m
-final_after before _ = before
+final_after before e = final_by before e.number e.kind
 
 -- the number up to which changes are final: that of the last emptying, else the one that the history began with
 abbrev pub final_number : Journal → ℕ
@@ -60,11 +68,14 @@ status_of j n =
     else (if is_in_force j n then InForce else Undone))
 
 -- what the event is about: a commit has the next number, an undo is of a change in force that isn't final, a redo of one that is undone, and an emptying moves the final number up
+abbrev pub FitsBy : Journal → ℕ → EventKind → Type 0
+FitsBy j n (Commit c) = n ≡ last_change j + 1
+FitsBy j n Undo = (final_number j < n) × (n ≤ last_change j) × (is_in_force j n ≡ true)
+FitsBy j n Redo = (final_number j < n) × (n ≤ last_change j) × (is_in_force j n ≡ false)
+FitsBy j n (Empty marks) = (final_number j < n) × (n ≤ last_change j)
+
 abbrev pub Fits : Journal → Event → Type 0
-Fits j (Commit n c) = n ≡ last_change j + 1
-Fits j (Undo n) = (final_number j < n) × (n ≤ last_change j) × (is_in_force j n ≡ true)
-Fits j (Redo n) = (final_number j < n) × (n ≤ last_change j) × (is_in_force j n ≡ false)
-Fits j (Empty n marks) = (final_number j < n) × (n ≤ last_change j)
+Fits j e = FitsBy j e.number e.kind
 
 -- the entry can come next: its number is above those before it, and its event fits
 pub record ComesNext (j : Journal) (e : Entry) : Type 0 where

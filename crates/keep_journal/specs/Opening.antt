@@ -12,7 +12,8 @@ use Rattle.keep_journal.specs.History.{committed, IsLegal, IsNumbered}
 use Rattle.keep_journal.specs.Journal.{Journal}
 use Rattle.keep_journal.specs.Kept.{kept}
 use Rattle.keep_journal.specs.declared.event.Event.{Event}
-use Rattle.keep_journal.specs.declared.event.Event.TheVariants.{Commit, Undo, Redo, Empty}
+use Rattle.keep_journal.specs.declared.event.EventKind.{EventKind}
+use Rattle.keep_journal.specs.declared.event.EventKind.TheVariants.{Empty}
 
 -- the repository with these changes taken back, the last first
 abbrev pub unfold_of : List Numbered → Repository → Repository
@@ -32,9 +33,12 @@ abbrev pub AreWithinLimit : Journal → Type 0
 AreWithinLimit j = All (λ n. length (facets n.change) ≤ facet_limit) (committed j)
 
 -- the marks of the last emptying after the event
+abbrev pub marks_by : Option (List PackMark) → EventKind → Option (List PackMark)
+marks_by before (Empty marks) = Some marks
+marks_by before _ = before
+
 abbrev pub marks_after : Option (List PackMark) → Event → Option (List PackMark)
-marks_after before (Empty n marks) = Some marks
-marks_after before _ = before
+marks_after before e = marks_by before e.kind
 
 -- the marks that the last emptying has, none where there was no emptying
 abbrev pub last_marks : Journal → Option (List PackMark)

@@ -2,49 +2,44 @@ ghost use Rattle.std.specs.Prelude.{◌≡◌};
 
 use keep_change::{Listed, PackMark, SharedChange, What};
 
-/// What happened to a repository, each with the number of the change that it is about.
-#[derive(Debug, Drop)]
-pub enum Event {
+/// What an event did.
+#[derive(Drop)]
+pub enum EventKind {
     /// The change was made, for the first time.
-    Commit(u64, SharedChange),
+    Commit(SharedChange),
     /// The change was taken back.
-    Undo(u64),
+    Undo,
     /// The change was made again.
-    Redo(u64),
+    Redo,
     /// All changes up to this one became final, and the repository that the others are made of has these marks then,
     /// by pack.
-    Empty(u64, Listed<PackMark>),
+    Empty(Listed<PackMark>),
+}
+
+/// What happened to a repository, with the number of the change that it is about.
+#[derive(Drop)]
+pub struct Event {
+    pub number: u64,
+    pub kind: EventKind,
 }
 
 impl Event {
-    ghost use Rattle.keep_journal.specs.Event.{number_of, what_of};
-
-    /// The number of the change that the event is about.
-    pub fn number(&self) -> u64
-        ensures { result ≡ number_of self.now }
-    {
-        match self {
-            Event::Commit(number, _) => *number,
-            Event::Undo(number) => *number,
-            Event::Redo(number) => *number,
-            Event::Empty(number, _) => *number,
-        }
-    }
+    ghost use Rattle.keep_journal.specs.Event.{what_of};
 
     pub fn what(&self) -> What
         ensures { result ≡ what_of self.now }
     {
-        match self {
-            Event::Commit(_, _) => What::Commit,
-            Event::Undo(_) => What::Undo,
-            Event::Redo(_) => What::Redo,
-            Event::Empty(_, _) => What::Empty,
+        match &self.kind {
+            EventKind::Commit(_) => What::Commit,
+            EventKind::Undo => What::Undo,
+            EventKind::Redo => What::Redo,
+            EventKind::Empty(_) => What::Empty,
         }
     }
 }
 
 /// An event under its own number. Numbers ascend from above 0, and some may be missing.
-#[derive(Debug, Drop)]
+#[derive(Drop)]
 pub struct Entry {
     pub at: u64,
     pub event: Event,

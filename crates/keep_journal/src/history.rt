@@ -1,7 +1,7 @@
 ghost use Rattle.std.specs.Prelude.{◌≡◌, ◌<◌, ◌≤◌, ◌++◌, ◌∷◌, [], length, IfSome, IsSome, IsTrue, MatchOption, OnOk, vec_len, vec_capacity, option_copied};
 ghost use Rattle.keep_change.specs.Form.{IsWellFormed};
 
-use crate::event::{Entry, Event};
+use crate::event::{Entry, Event, EventKind};
 use keep_change::Change;
 use std::alloc::{AllocError, Global};
 use std::marker::Model;
@@ -18,7 +18,7 @@ pub enum Status {
 }
 
 /// Where the commit of a change stands among the entries, and whether the change is in force.
-#[derive(Clone, Copy, Debug)]
+#[derive(Clone, Copy)]
 struct Standing {
     place: usize,
     in_force: bool,
@@ -26,7 +26,7 @@ struct Standing {
 
 /// The events of a repository in their order, each under its own number, and what became of each
 /// change.
-#[derive(Debug, Drop)]
+#[derive(Drop)]
 pub struct History {
     entries: Vec<Entry>,
     /// Of the last changes, by number.
@@ -128,8 +128,8 @@ impl History {
         ensures known { IsSome result → IsTrue (is_change self.now.journal n) }
     {
         let standing = self.standing(n)?;
-        match &self.entries.get(standing.place)?.event {
-            Event::Commit(_, change) => Some(change.as_change()),
+        match &self.entries.get(standing.place)?.event.kind {
+            EventKind::Commit(change) => Some(change.as_change()),
             _ => None,
         }
     }
@@ -194,20 +194,20 @@ fn note(standings: &mut Vec<Standing>, entries: &[Entry], last: u64, entry: &Ent
         (posted (journal_of last (length standings.old.items) entries.now) entry.now.at entry.now.event)
         standings.new.items }
 {
-    match &entry.event {
-        Event::Commit(_, _) => standings.push_reserved(Standing {
+    match &entry.event.kind {
+        EventKind::Commit(_) => standings.push_reserved(Standing {
             place: entries.len(),
             in_force: true,
         }),
-        Event::Undo(n) => {
-            let place = place_of(standings.len(), last, *n);
+        EventKind::Undo => {
+            let place = place_of(standings.len(), last, entry.event.number);
             standings[place].in_force = false;
         }
-        Event::Redo(n) => {
-            let place = place_of(standings.len(), last, *n);
+        EventKind::Redo => {
+            let place = place_of(standings.len(), last, entry.event.number);
             standings[place].in_force = true;
         }
-        Event::Empty(_, _) => {}
+        EventKind::Empty(_) => {}
     }
 }
 
@@ -224,8 +224,8 @@ fn place_of(count: usize, last: u64, n: u64) -> usize
 fn final_after(before: u64, event: &Event) -> u64
     ensures { result ≡ final_number_after before event.now }
 {
-    match event {
-        Event::Empty(number, _) => *number,
+    match &event.kind {
+        EventKind::Empty(_) => event.number,
         _ => before,
     }
 }
@@ -234,8 +234,8 @@ fn final_after(before: u64, event: &Event) -> u64
 fn last_after(before: u64, event: &Event) -> u64
     ensures { result ≡ last_change_after before event.now }
 {
-    match event {
-        Event::Commit(number, _) => *number,
+    match &event.kind {
+        EventKind::Commit(_) => event.number,
         _ => before,
     }
 }

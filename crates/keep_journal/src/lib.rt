@@ -4,5 +4,5 @@
 mod event;
 mod history;
 
-pub use event::{Entry, Event};
+pub use event::{Entry, Event, EventKind};
 pub use history::{History, Status};

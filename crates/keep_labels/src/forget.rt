@@ -14,7 +14,7 @@ use crate::policy::{Policy, dropped};
 use crate::swap::{snapshot_files, swap};
 use crate::taking::taken;
 use keep_change::{Change, Planned, StoredFile};
-use keep_hooks::Filter;
+use keep_filters::Filter;
 use keep_plan::PlanError;
 use keep_snap::SnapFacts;
 use keep_view::View;

@@ -16,7 +16,7 @@ use crate::swap::{snapshot_files, swap};
 use crate::taking::catalog;
 use keep_catalog::Catalog;
 use keep_change::{Change, Planned, StoredFile};
-use keep_hooks::Filter;
+use keep_filters::Filter;
 use keep_plan::{PlanError, settle_new};
 use keep_repo::Repo;
 use keep_snap::SnapFacts;

@@ -31,7 +31,7 @@ pub enum Command<'a> {
 }
 
 /// Why a line isn't parsed.
-#[derive(Clone, Copy, Debug, PartialEq, Eq)]
+#[derive(Clone, Copy, PartialEq, Eq)]
 pub enum LineError {
     /// It isn't one of the language.
     Bad(Mistake),

@@ -6,7 +6,7 @@ use crate::word::parse_kind;
 use std::fmt;
 
 /// Why a line isn't one of the language. It prints as an operator is told.
-#[derive(Clone, Copy, Debug, PartialEq, Eq)]
+#[derive(Clone, Copy, PartialEq, Eq)]
 pub enum Mistake {
     /// It has more than 1,048,576 bytes.
     TooLong,

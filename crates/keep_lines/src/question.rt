@@ -5,7 +5,7 @@ ghost use Rattle.keep_lines.specs.Question.{IsQuestion, question_text};
 use crate::word::{Target, is_name, parse_target};
 
 /// What a line asks to be told. Nothing changes for it.
-#[derive(Clone, Copy, Debug, PartialEq, Eq)]
+#[derive(Clone, Copy, PartialEq, Eq)]
 pub enum Question<'a> {
     List,
     Count,

@@ -7,7 +7,7 @@ use keep_names::Kind;
 use std::alloc::{AllocError, Global};
 
 /// A file that a line adds or drops by itself, whatever is in it.
-#[derive(Debug, Drop)]
+#[derive(Drop)]
 pub enum RawFile {
     Add { kind: Kind, bytes: Vec<u8> },
     Drop { kind: Kind, target: Target },

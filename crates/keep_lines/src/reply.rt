@@ -1,11 +1,11 @@
 ghost use Rattle.std.specs.Prelude.{◌≡◌};
 
-use keep_book::Told;
 use keep_change::Change;
+use keep_ledger::Told;
 use std::fmt;
 
 /// The answer to a request that was accepted: the number of its change, and of its event.
-#[derive(Clone, Copy, Debug)]
+#[derive(Clone, Copy)]
 pub struct Accepted(pub Told);
 
 impl fmt::Display for Accepted {
@@ -21,7 +21,7 @@ impl fmt::Display for Accepted {
 }
 
 /// How many facets of each sort a change writes.
-#[derive(Clone, Copy, Debug)]
+#[derive(Clone, Copy)]
 pub struct Sizes {
     adds: usize,
     drops: usize,
@@ -62,7 +62,7 @@ impl fmt::Display for Sizes {
 }
 
 /// The answer to a change that was committed, and how much it writes.
-#[derive(Clone, Copy, Debug)]
+#[derive(Clone, Copy)]
 pub struct Committed {
     pub told: Told,
     pub sizes: Sizes,
@@ -80,7 +80,7 @@ impl fmt::Display for Committed {
 }
 
 /// The answer to what was refused, for this reason.
-#[derive(Clone, Copy, Debug)]
+#[derive(Clone, Copy)]
 pub struct Refused<E>(pub E);
 
 impl<E: fmt::Display> fmt::Display for Refused<E> {
@@ -95,7 +95,7 @@ impl<E: fmt::Display> fmt::Display for Refused<E> {
 }
 
 /// What is said of the line of this number where it isn't one of the language.
-#[derive(Clone, Copy, Debug)]
+#[derive(Clone, Copy)]
 pub struct BadLine(pub u64);
 
 impl fmt::Display for BadLine {

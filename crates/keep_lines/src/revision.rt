@@ -1,10 +1,12 @@
 ghost use Rattle.keep_lines.specs.Prints.{Parses};
-ghost use Rattle.keep_lines.specs.Revision.{IsRevision, revision_text};
+ghost use Rattle.std.specs.Prelude.{◌≡◌};
+ghost use Rattle.keep_lines.specs.Revision.{IsRevision, request_of, revision_text};
 
 use crate::word::parse_number;
+use keep_ledger::Request;
 
-/// What a line asks of the book about the change of a number.
-#[derive(Clone, Copy, Debug, PartialEq, Eq)]
+/// What a line asks about the change of a number.
+#[derive(Clone, Copy, PartialEq, Eq)]
 pub enum Revision {
     /// To take it back.
     Undo(u64),
@@ -12,6 +14,19 @@ pub enum Revision {
     Redo(u64),
     /// To make it final, with all before it.
     Empty(u64),
+}
+
+impl Revision {
+    /// The same, as a book is asked it.
+    pub fn request(self) -> Request
+        ensures { result ≡ request_of self }
+    {
+        match self {
+            Revision::Undo(number) => Request::Undo(number),
+            Revision::Redo(number) => Request::Redo(number),
+            Revision::Empty(number) => Request::Empty(number),
+        }
+    }
 }
 
 /// What the line asks about an earlier change.

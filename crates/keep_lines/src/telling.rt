@@ -7,7 +7,7 @@ use keep_read::Finding;
 use std::fmt;
 
 /// How many files and marks there are.
-#[derive(Clone, Copy, Debug)]
+#[derive(Clone, Copy)]
 pub struct Counts {
     pub files: usize,
     pub marks: usize,
@@ -26,7 +26,7 @@ impl fmt::Display for Counts {
 }
 
 /// A file of the repository: how many bytes it has, and whether it is a marked pack.
-#[derive(Clone, Copy, Debug)]
+#[derive(Clone, Copy)]
 pub struct FileLine {
     pub name: FileName,
     pub length: usize,
@@ -47,7 +47,7 @@ impl fmt::Display for FileLine {
 }
 
 /// An event of the history: its number, what it did, and the number of its change.
-#[derive(Clone, Copy, Debug)]
+#[derive(Clone, Copy)]
 pub struct EventLine {
     pub at: u64,
     pub what: What,
@@ -79,7 +79,7 @@ fn word_of(what: What) -> &'static str
 }
 
 /// A note was taken under this name.
-#[derive(Clone, Copy, Debug)]
+#[derive(Clone, Copy)]
 pub struct Noted<'a>(pub &'a str);
 
 impl fmt::Display for Noted<'_> {
@@ -94,7 +94,7 @@ impl fmt::Display for Noted<'_> {
 }
 
 /// Whether the repository is as the note of this name has it.
-#[derive(Clone, Copy, Debug)]
+#[derive(Clone, Copy)]
 pub struct Compared<'a> {
     pub name: &'a str,
     pub same: bool,
@@ -113,7 +113,7 @@ impl fmt::Display for Compared<'_> {
 }
 
 /// A restored file: its path, and its bytes in hex.
-#[derive(Clone, Copy, Debug)]
+#[derive(Clone, Copy)]
 pub struct RestoredFile<'a> {
     pub path: &'a str,
     pub hex: &'a str,
@@ -132,7 +132,7 @@ impl fmt::Display for RestoredFile<'_> {
 }
 
 /// How many files were restored, and how many nodes were skipped.
-#[derive(Clone, Copy, Debug)]
+#[derive(Clone, Copy)]
 pub struct RestoredCounts {
     pub files: usize,
     pub skipped: u64,
@@ -151,7 +151,7 @@ impl fmt::Display for RestoredCounts {
 }
 
 /// What an audit found, with the number of the refusal where there is one.
-#[derive(Clone, Copy, Debug)]
+#[derive(Clone, Copy)]
 pub struct Found<'a>(pub &'a Finding);
 
 impl fmt::Display for Found<'_> {
@@ -175,7 +175,7 @@ impl fmt::Display for Found<'_> {
 }
 
 /// How many findings an audit has.
-#[derive(Clone, Copy, Debug)]
+#[derive(Clone, Copy)]
 pub struct FoundCount(pub usize);
 
 impl fmt::Display for FoundCount {
@@ -190,7 +190,7 @@ impl fmt::Display for FoundCount {
 }
 
 /// A veto or a watch that was armed.
-#[derive(Clone, Copy, Debug)]
+#[derive(Clone, Copy)]
 pub struct Armed<'a>(pub &'a str);
 
 impl fmt::Display for Armed<'_> {
@@ -205,7 +205,7 @@ impl fmt::Display for Armed<'_> {
 }
 
 /// A watch, and the sum of what it counted.
-#[derive(Clone, Copy, Debug)]
+#[derive(Clone, Copy)]
 pub struct TotalLine<'a> {
     pub name: &'a str,
     pub total: u64,

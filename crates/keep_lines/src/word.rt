@@ -9,7 +9,7 @@ use keep_names::{Id, Kind, decode_hex, parse_id};
 use std::alloc::{AllocError, Global};
 
 /// Which file a line means: one by its name, or the one that a change added.
-#[derive(Clone, Copy, Debug, PartialEq, Eq)]
+#[derive(Clone, Copy, PartialEq, Eq)]
 pub enum Target {
     Named(Id),
     AddedBy(u64),

@@ -40,7 +40,7 @@ impl BlobId {
 }
 
 /// A blob, and where it stands in a pack, as the pack's header and the indexes say it.
-#[derive(Clone, Copy, Debug, PartialEq, Eq, PartialOrd, Ord, Hash)]
+#[derive(Clone, Copy, PartialEq, Eq, PartialOrd, Ord, Hash)]
 pub struct Blob {
     pub blob: BlobId,
     /// How many bytes of the pack stand before it.

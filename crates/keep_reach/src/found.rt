@@ -3,7 +3,7 @@ use keep_names::{BlobId, Id};
 use std::collections::BTreeMap;
 
 /// Where a walk found a blob.
-#[derive(Clone, Copy, Debug, PartialEq, Eq)]
+#[derive(Clone, Copy, PartialEq, Eq)]
 pub struct Found {
     /// How many levels of trees it has: none for a piece of a file.
     pub height: u16,

@@ -2,7 +2,7 @@ use keep_catalog::{ReachError, Unread};
 use keep_names::{BlobId, FileName, Id};
 
 /// Something that is wrong with a repository.
-#[derive(Clone, Copy, Debug, PartialEq, Eq)]
+#[derive(Clone, Copy, PartialEq, Eq)]
 pub enum Finding {
     /// The bytes of the file have another SHA-256 than its name.
     WrongName(FileName),

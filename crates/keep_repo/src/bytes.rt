@@ -8,7 +8,7 @@ use std::marker::Model;
 use std::sync::Arc;
 
 /// A file's bytes, shared by all that hold them.
-#[derive(Debug, Drop)]
+#[derive(Drop)]
 pub struct Bytes {
     shared: Arc<Vec<u8>>,
 }

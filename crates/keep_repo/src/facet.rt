@@ -14,7 +14,7 @@ pub enum Facet {
 }
 
 /// What a repository keeps of a marked pack. That it is there says that the pack may be swept.
-#[derive(Clone, Copy, Debug, PartialEq, Eq)]
+#[derive(Clone, Copy, PartialEq, Eq)]
 pub struct Mark {
     /// When the pack was marked: whole seconds since 1970-01-01T00:00:00Z, less than 0 before it.
     pub moment: i64,

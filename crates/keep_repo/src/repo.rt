@@ -13,7 +13,7 @@ use std::collections::BTreeMap;
 use std::marker::Model;
 
 /// A repository: bytes by file name, and a mark by pack.
-#[derive(Debug, Drop)]
+#[derive(Drop)]
 pub struct Repo {
     alloc: Global,
     files: BTreeMap<FileName, Bytes>,

@@ -20,7 +20,7 @@ use crate::retreed::retreed;
 use keep_backup::store;
 use keep_catalog::Catalog;
 use keep_change::{Change, Listed, Planned, StoredFile};
-use keep_hooks::Filter;
+use keep_filters::Filter;
 use keep_names::{BlobType, Id};
 use keep_plan::{PlanError, Stored, settle_new};
 use keep_reach::reach_all;

@@ -6,7 +6,7 @@ use Rattle.keep_names.specs.declared.id.Id.{Id}
 use Rattle.keep_repo.specs.Repository.{Repository, is_filled}
 use Rattle.keep_repo.specs.declared.facet.Facet.TheVariants.{File}
 use Rattle.keep_change.specs.declared.change.Change.{Change}
-use Rattle.keep_hooks.specs.declared.pick.Pick.{Pick}
+use Rattle.keep_filters.specs.declared.pick.Pick.{Pick}
 use Rattle.keep_sound.specs.Careful.{IsSafe}
 use Rattle.keep_sound.specs.Met.{AddsPart, HasOneText, IsPartOf}
 use Rattle.keep_labels.specs.Edits.{edit_view}

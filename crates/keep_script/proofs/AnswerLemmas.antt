@@ -2,17 +2,17 @@
 use Rattle.std.proofs.Common.{◌≡◌, ◌≢◌, ℕ, List, [], Result, Ok, Err, Bool, true, false, Option, None, Some, is_none, IfOk, IfErr, inl, inr, ap, refl, subst, ◌∙◌}
 use Rattle.std.proofs.KnownBytes.{Appends-kept, Appends-nil}
 use Rattle.std.specs.Io.KnownBytes.{Keeps}
-use Rattle.keep_book.specs.Armed.{hooks_of, ledger_of}
-use Rattle.keep_book.specs.BookState.{BookState}
-use Rattle.keep_book.specs.Reply.{Replies, state_after}
-use Rattle.keep_book.specs.Request.{Request}
+use Rattle.keep_book.specs.Armed.{IsUnchanged, Responds, hooks_of, ledger_of}
+use Rattle.keep_ledger.specs.LedgerState.{LedgerState}
+use Rattle.keep_ledger.specs.Reply.{Replies, state_after}
+use Rattle.keep_ledger.specs.declared.request.Request.{Request}
 use Rattle.keep_book.specs.declared.book.Book.{Book}
-use Rattle.keep_book.specs.declared.reply.Refusal.{Refusal}
-use Rattle.keep_book.specs.declared.reply.Told.{Told}
+use Rattle.keep_ledger.specs.declared.reply.Refusal.{Refusal}
+use Rattle.keep_ledger.specs.declared.reply.Told.{Told}
 use Rattle.keep_change.specs.declared.change.Change.{Change}
 use Rattle.keep_hooks.specs.Guards.{HooksData}
-use Rattle.keep_hooks.specs.Kits.{KitData}
-use Rattle.keep_hooks.specs.declared.pick.Pick.{Pick}
+use Rattle.keep_jobs.specs.Kits.{KitData}
+use Rattle.keep_filters.specs.declared.pick.Pick.{Pick}
 use Rattle.keep_jobs.specs.Job.{SettingsData, by_rule, has_no_filter, job_change, no_memory, or_refused, settings_view}
 use Rattle.keep_jobs.specs.declared.error.JobError.{JobError}
 use Rattle.keep_jobs.specs.declared.error.JobError.TheVariants.{NoFilter, Refused}
@@ -33,7 +33,6 @@ use Rattle.keep_plan.specs.declared.plan_error.PlanError.{PlanError}
 use Rattle.keep_plan.specs.declared.plan_error.PlanError.TheVariants as plan_error
 use Rattle.keep_view.specs.Shown.{Shown}
 use Rattle.keep_script.specs.Answer.{AnswersTo, Committed, Done, Shows, commit_of, shown_by}
-use Rattle.keep_script.specs.Asking.{AsksBook, LeavesBook}
 use Rattle.keep_script.specs.Known.{Puts, Writes}
 use Rattle.keep_script.specs.State.{State, state_of}
 use Rattle.keep_script.specs.declared.session.Session.{Session}
@@ -82,13 +81,13 @@ AnswersLine-unread a state line Memory stop r e bad same = rw (same, e) ([], App
 
 -- what the book is asked decides on it
 pub left_by : {I F g J E h : _} (kit : KitData) (session : Session) (book book' : Book I F g J E h) (request : Request) (reply : Result Told Refusal)
-    → AsksBook book request reply book'
+    → Responds book request reply book'
     → state_of kit session book' ≡ record (state_of kit session book) { book = state_after (ledger_of book) request reply }
 left_by kit session book book' request reply asks = rw (asks.ledger, asks.hooks) refl
 
 -- the change that was made ready is committed
 pub Committed-by : {I F g J E h : _} (kit : KitData) (session : Session) (book book' : Book I F g J E h) (change : Change) (sizes : Sizes) (reply : Result Told Refusal)
-    → AsksBook book (commit_of (ledger_of book) change) reply book' → sizes ≡ sizes_of change
+    → Responds book (commit_of (ledger_of book) change) reply book' → sizes ≡ sizes_of change
     → Committed (state_of kit session book) change (reply_answer (commit_text sizes) reply) (state_of kit session book')
 Committed-by kit session book book' change sizes reply asks counted = record {
   reply = reply;
@@ -99,7 +98,7 @@ Committed-by kit session book book' change sizes reply asks counted = record {
 
 -- what came of a job was answered: it was committed as it was to be planned, it was refused as it was to be, or memory ran out, where its filter was there
 Job-made : {I F g J E h : _} (kit : KitData) (session : Session) (book book' : Book I F g J E h) (job : Job) (made : Result Told Refusal × Sizes) (change : Change)
-    → job_change (shown_by (ledger_of book)) (settings_view session.settings kit.filters) job ≡ Ok change → AsksBook book (commit_of (ledger_of book) change) made.0 book' → made.1 ≡ sizes_of change
+    → job_change (shown_by (ledger_of book)) (settings_view session.settings kit.filters) job ≡ Ok change → Responds book (commit_of (ledger_of book) change) made.0 book' → made.1 ≡ sizes_of change
     → AnswersTo (state_of kit session book) (the_command.Job job) (reply_answer (commit_text made.1) made.0) (state_of kit session book')
 Job-made kit session book book' job made change due asks counted =
     rw due (inl (Committed-by kit session book book' change made.1 made.0 asks counted))
@@ -146,23 +145,23 @@ Job-unnamed : (a b : Option (List ℕ)) (state after : State) (job : Job) (r : R
 Job-unnamed a b state after job r due same bad kept = rw bad ([], Appends-kept a a b [] (Appends-nil a) kept, ((job_unnamed (shown_by state.book) state.settings job due, refl), record { text = refl; same = same }))
 
 -- what is asked of a book that was left alone is asked of the book before
-pub asked_after : {I F g J E h : _} (book same after : Book I F g J E h) (request : Request) (reply : Result Told Refusal) → LeavesBook book same
-    → AsksBook same request reply after → AsksBook book request reply after
+pub asked_after : {I F g J E h : _} (book same after : Book I F g J E h) (request : Request) (reply : Result Told Refusal) → IsUnchanged book same
+    → Responds same request reply after → Responds book request reply after
 asked_after book same after request reply left asks = record {
   replies =
-      subst (λ (ledger : BookState). Replies ledger (hooks_of book).vetoes request reply) left.ledger
+      subst (λ (ledger : LedgerState). Replies ledger (hooks_of book).vetoes request reply) left.ledger
       (subst (λ (hooks : HooksData). Replies (ledger_of same) hooks.vetoes request reply) left.hooks asks.replies);
   ledger = asks.ledger ∙ ap (λ ledger. state_after ledger request reply) left.ledger;
   hooks = asks.hooks ∙ left.hooks;
 }
 
-left_alone : {I F g J E h : _} (kit : KitData) (session : Session) (book book' : Book I F g J E h) → LeavesBook book book'
+left_alone : {I F g J E h : _} (kit : KitData) (session : Session) (book book' : Book I F g J E h) → IsUnchanged book book'
     → state_of kit session book' ≡ state_of kit session book
 left_alone kit session book book' same = rw (same.ledger, same.hooks) refl
 
 pub Job-answer : {I F g J E h : _} (a b : Option (List ℕ)) (kit : KitData) (session : Session) (book book' : Book I F g J E h) (job : Job) (outcome : Result (Result Told Refusal × Sizes) JobError) (r : Result (Unit {0}) Stop)
-    → IfOk outcome (λ made. (change : Change) × (job_change (shown_by (ledger_of book)) (settings_view session.settings kit.filters) job ≡ Ok change) × AsksBook book (commit_of (ledger_of book) change) made.0 book' × (made.1 ≡ sizes_of change))
-    → IfErr outcome (λ refusal. refusal ≢ no_memory → job_change (shown_by (ledger_of book)) (settings_view session.settings kit.filters) job ≡ Err refusal) → IfErr outcome (λ refusal. refusal ≡ no_memory → has_no_filter kit.filters job ≡ false) → IfErr outcome (λ refusal. LeavesBook book book') → AnswersJob a b outcome r
+    → IfOk outcome (λ made. (change : Change) × (job_change (shown_by (ledger_of book)) (settings_view session.settings kit.filters) job ≡ Ok change) × Responds book (commit_of (ledger_of book) change) made.0 book' × (made.1 ≡ sizes_of change))
+    → IfErr outcome (λ refusal. refusal ≢ no_memory → job_change (shown_by (ledger_of book)) (settings_view session.settings kit.filters) job ≡ Err refusal) → IfErr outcome (λ refusal. refusal ≡ no_memory → has_no_filter kit.filters job ≡ false) → IfErr outcome (λ refusal. IsUnchanged book book') → AnswersJob a b outcome r
     → Writes a b (λ t. AnswersCommand (state_of kit session book) (the_command.Job job) t r (state_of kit session book'))
 Job-answer a b kit session book book' job (Ok made) r h refused named same puts =
     AnswersCommand-puts a b _ _ (the_command.Job job) _ r puts (Job-made kit session book book' job made h.0 h.1 h.2 h.3)

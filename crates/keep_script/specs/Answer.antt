@@ -7,14 +7,14 @@ use Rattle.keep_names.specs.declared.id.Id.{Id}
 use Rattle.keep_change.specs.declared.change.Change.{Change}
 use Rattle.keep_journal.specs.History.{length_of}
 use Rattle.keep_view.specs.Shown.{Shown, shown_of}
-use Rattle.keep_book.specs.BookState.{BookState}
+use Rattle.keep_ledger.specs.LedgerState.{LedgerState}
 use Rattle.keep_book.specs.Names.{is_armed}
-use Rattle.keep_book.specs.Reply.{Replies, state_after}
-use Rattle.keep_book.specs.declared.reply.Refusal.{Refusal}
-use Rattle.keep_book.specs.Request.{Request}
-use Rattle.keep_book.specs.Request as request
-use Rattle.keep_book.specs.Sums.{sums_of}
-use Rattle.keep_book.specs.declared.reply.Told.{Told}
+use Rattle.keep_ledger.specs.Reply.{Replies, state_after}
+use Rattle.keep_ledger.specs.declared.reply.Refusal.{Refusal}
+use Rattle.keep_ledger.specs.declared.request.Request.{Request}
+use Rattle.keep_ledger.specs.declared.request.Request.TheVariants as request
+use Rattle.keep_ledger.specs.Sums.{sums_of}
+use Rattle.keep_ledger.specs.declared.reply.Told.{Told}
 use Rattle.keep_read.specs.Findings.{findings_in}
 use Rattle.keep_read.specs.Restored.{restored, snapshot_facet}
 use Rattle.keep_jobs.specs.Job.{has_no_filter, job_change}
@@ -25,32 +25,25 @@ use Rattle.keep_lines.specs.Command.{Asks}
 use Rattle.keep_lines.specs.Line.{IsLine, IsPassedOver}
 use Rattle.keep_lines.specs.Mistake.{IsMistake}
 use Rattle.keep_lines.specs.Reply.{sizes_of, told_text}
+use Rattle.keep_lines.specs.Revision.{request_of}
 use Rattle.keep_lines.specs.declared.command.Command.{Command}
 use Rattle.keep_lines.specs.declared.command.Command.TheVariants.{Arm, Job, RawFile, Revision, Question, Note}
 use Rattle.keep_lines.specs.declared.mistake.Mistake.{Mistake}
 use Rattle.keep_lines.specs.declared.mistake.Mistake.TheVariants.{NoFile, NoFilter, NoHook, NoNote}
 use Rattle.keep_lines.specs.declared.question.Question as the_question
 use Rattle.keep_lines.specs.declared.question.Question.TheVariants.{List as ListFiles, Count, History, Same, Restore, Audit, Totals}
-use Rattle.keep_lines.specs.declared.revision.Revision as the_revision
-use Rattle.keep_lines.specs.declared.revision.Revision.TheVariants.{Undo, Redo, Empty}
 use Rattle.keep_script.specs.Arming.{ArmsOne, IsNowhere, IsSpare}
 use Rattle.keep_script.specs.RawFile.{file_change, file_meant}
 use Rattle.keep_script.specs.State.{State, noted_under}
 use Rattle.keep_script.specs.Text.{armed_answer, commit_text, count_answer, double_name_answer, found_answer, history_answer, list_answer, no_memory_answer, note_answer, reply_answer, restore_answer, same_answer, totals_answer, unplanned_answer}
 
 -- what the book shows
-abbrev pub shown_by : BookState → Shown
+abbrev pub shown_by : LedgerState → Shown
 shown_by book = shown_of book.opening book.events book.live
 
 -- to commit the change, planned on the book as it is
-abbrev pub commit_of : BookState → Change → Request
+abbrev pub commit_of : LedgerState → Change → Request
 commit_of book change = request.Commit (record { change = change; seen = length_of book.events })
-
--- what the book is asked about an earlier change
-abbrev pub request_of : the_revision.Revision → Request
-request_of (Undo n) = request.Undo n
-request_of (Redo n) = request.Redo n
-request_of (Empty n) = request.Empty n
 
 -- this is written, and nothing changes
 pub record Shows (state : State) (shown written : List ℕ) (after : State) : Type 0 where

@@ -1,6 +1,5 @@
 pub mod Answer
 pub mod Arming
-pub mod Asking
 pub mod Input
 pub mod Known
 pub mod Line

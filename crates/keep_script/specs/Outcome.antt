@@ -1,8 +1,8 @@
 -- What is written of what came of a job.
 use Rattle.std.specs.Prelude.{◌≡◌, ℕ, List, Option, Result, Ok, Err}
 use Rattle.std.specs.Io.KnownBytes.{Keeps}
-use Rattle.keep_book.specs.declared.reply.Refusal.{Refusal}
-use Rattle.keep_book.specs.declared.reply.Told.{Told}
+use Rattle.keep_ledger.specs.declared.reply.Refusal.{Refusal}
+use Rattle.keep_ledger.specs.declared.reply.Told.{Told}
 use Rattle.keep_jobs.specs.declared.error.JobError.{JobError}
 use Rattle.keep_jobs.specs.declared.error.JobError.TheVariants as job_error
 use Rattle.keep_lines.specs.declared.mistake.Mistake.TheVariants.{NoFilter}

@@ -18,7 +18,7 @@ use Rattle.keep_change.specs.declared.change.Change.{Change}
 use Rattle.keep_change.specs.NamedBytes.{NamedBytes}
 use Rattle.keep_journal.specs.History.{change_of}
 use Rattle.keep_journal.specs.Journal.{Journal}
-use Rattle.keep_book.specs.BookState.{BookState}
+use Rattle.keep_ledger.specs.LedgerState.{LedgerState}
 
 -- the change that only adds these files and drops those
 abbrev pub change_with : List NamedBytes → List NamedBytes → Change
@@ -70,6 +70,6 @@ file_meant j kind (Named id) = Some (record { kind = kind; id = id })
 file_meant j kind (AddedBy n) = added_in j n kind
 
 -- the change of such a line, where the file that it means is there
-abbrev pub file_change : BookState → RawFile → Option Change
+abbrev pub file_change : LedgerState → RawFile → Option Change
 file_change book (Add kind bytes) = Some (added_file kind bytes.items)
 file_change book (Drop kind target) = option_map (dropped_file book.live) (file_meant book.events kind target)

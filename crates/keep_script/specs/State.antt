@@ -4,10 +4,10 @@ use Rattle.std.specs.BTreeMap.{get_by_text}
 use Rattle.std.specs.Str.{bytes_eq}
 use Rattle.keep_repo.specs.Repository.{Repository, empty_repository}
 use Rattle.keep_book.specs.Armed.{hooks_of, ledger_of}
-use Rattle.keep_book.specs.BookState.{BookState, new_book}
+use Rattle.keep_ledger.specs.LedgerState.{LedgerState, new_ledger}
 use Rattle.keep_book.specs.declared.book.Book.{Book}
 use Rattle.keep_hooks.specs.Guards.{HooksData, Rule, WatchData}
-use Rattle.keep_hooks.specs.Kits.{KitData, NamedRule}
+use Rattle.keep_jobs.specs.Kits.{KitData, NamedRule}
 use Rattle.keep_jobs.specs.Job.{SettingsData, settings_view}
 use Rattle.keep_script.specs.declared.notes.Notes.{Notes}
 use Rattle.keep_script.specs.declared.session.Session.{Session}
@@ -16,7 +16,7 @@ use Rattle.keep_script.specs.declared.session.Session.{Session}
 -- name the repository that was noted last
 pub record State : Type 0 where
   pub settings : SettingsData
-  pub book : BookState
+  pub book : LedgerState
   pub armed : HooksData
   pub spare_vetoes : List Rule
   pub spare_watches : List WatchData
@@ -34,7 +34,7 @@ settled cut now filters = record { cut = cut; now = now; filters = filters }
 abbrev pub begun : ℕ → ℤ → KitData → State
 begun cut now kit = record {
   settings = settled cut now kit.filters;
-  book = new_book empty_repository;
+  book = new_ledger empty_repository;
   armed = record { vetoes = []; watches = [] };
   spare_vetoes = kit.vetoes;
   spare_watches = kit.watches;

@@ -6,13 +6,13 @@ use Rattle.keep_names.specs.declared.file_name.FileName.{FileName}
 use Rattle.keep_names.specs.declared.file_name.Kind.{Kind}
 use Rattle.keep_names.specs.declared.file_name.Kind.TheVariants.{Pack, Index, Snapshot}
 use Rattle.keep_repo.specs.Repository.{Repository}
-use Rattle.keep_journal.specs.Event.{number_of, what_of}
+use Rattle.keep_journal.specs.Event.{what_of}
 use Rattle.keep_journal.specs.Journal.{Journal}
 use Rattle.keep_journal.specs.declared.event.Entry.{Entry}
-use Rattle.keep_book.specs.Refusal.{refusal_text}
-use Rattle.keep_book.specs.declared.reply.Refusal.{Refusal}
-use Rattle.keep_book.specs.declared.reply.Refusal.TheVariants.{Memory}
-use Rattle.keep_book.specs.declared.reply.Told.{Told}
+use Rattle.keep_ledger.specs.Refusal.{refusal_text}
+use Rattle.keep_ledger.specs.declared.reply.Refusal.{Refusal}
+use Rattle.keep_ledger.specs.declared.reply.Refusal.TheVariants.{Memory}
+use Rattle.keep_ledger.specs.declared.reply.Told.{Told}
 use Rattle.keep_hooks.specs.Guards.{Tally}
 use Rattle.keep_plan.specs.Refusal.{plan_text}
 use Rattle.keep_plan.specs.declared.plan_error.PlanError.{PlanError}
@@ -78,7 +78,7 @@ same_answer name same = line (same_text name same)
 
 -- the answer to `history`: a line for each event
 abbrev pub entry_line : Entry → List ℕ
-entry_line entry = line (event_text entry.at (what_of entry.event) (number_of entry.event))
+entry_line entry = line (event_text entry.at (what_of entry.event) entry.event.number)
 
 abbrev pub history_answer : Journal → List ℕ
 history_answer j = flat_map entry_line j.entries

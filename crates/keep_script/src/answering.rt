@@ -1,14 +1,14 @@
 ghost use Rattle.std.specs.Prelude.{◌≡◌, ◌≢◌, ◌≤◌, Err, IfErr, IfOk, Ok, false, length};
 ghost use Rattle.keep_book.specs.Armed.{HasSums, ledger_of};
-ghost use Rattle.keep_book.specs.Request as request;
+ghost use Rattle.keep_ledger.specs.declared.request.Request.TheVariants as request;
 ghost use Rattle.keep_change.specs.declared.change.Change.{Change};
-ghost use Rattle.keep_hooks.specs.Kits.{KitData, filters_of, kit_view};
+ghost use Rattle.keep_jobs.specs.Kits.{KitData, filters_of, kit_view};
 ghost use Rattle.keep_jobs.specs.Job.{has_no_filter, job_change, no_memory, settings_view};
 ghost use Rattle.keep_lines.specs.Line.{longest_line};
 ghost use Rattle.keep_lines.specs.Reply.{sizes_of};
 ghost use Rattle.keep_lines.specs.declared.command.Command.TheVariants as the_command;
-ghost use Rattle.keep_script.specs.Answer.{commit_of, request_of, shown_by};
-ghost use Rattle.keep_script.specs.Asking.{AsksBook, LeavesBook};
+ghost use Rattle.keep_script.specs.Answer.{commit_of, shown_by};
+ghost use Rattle.keep_book.specs.Armed.{IsUnchanged, Responds};
 ghost use Rattle.keep_script.specs.Known.{Writes, WritesLines};
 ghost use Rattle.keep_script.specs.State.{state_of};
 ghost use Rattle.keep_script.specs.Step.{AnswersCommand, AnswersLine};
@@ -20,10 +20,10 @@ use crate::raw_file::{change_of_file, find};
 use crate::reply::{Outcome, answer_job, write_audit, write_committed, write_reply, write_restore};
 use crate::session::Session;
 use crate::status::Stop;
-use keep_book::{Book, Refusal, Told};
+use keep_book::Book;
 use keep_change::{Change, Planned};
-use keep_hooks::Kit;
-use keep_jobs::{Job, JobError, Settings, plan};
+use keep_jobs::{Job, JobError, Kit, Settings, plan};
+use keep_ledger::Request;
 use keep_lines::{
     Armed, Command, Compared, Mistake, Noted, Question, RawFile, Refused, Revision, Sizes, parse,
 };
@@ -132,7 +132,7 @@ impl Session {
             (state_of kit self.now book.new)) }
         ensures whole { result ≢ Err Stop.WriteFailed → WritesLines (W.contents writer.old) (W.contents writer.new) }
     {
-        write_reply(self.alloc, ask(book, revision), writer)
+        write_reply(self.alloc, book.ask(revision.request()), writer)
     }
 
     /// Answers a question.
@@ -226,13 +226,13 @@ fn perform(
     requires { HasSums book.old }
     ensures made { IfOk result (λ made. (change : Change)
         × (job_change (shown_by (ledger_of book.old)) (settings_view settings (filters_of kit.now)) job.now ≡ Ok change)
-        × AsksBook book.old (commit_of (ledger_of book.old) change) made.0 book.new
+        × Responds book.old (commit_of (ledger_of book.old) change) made.0 book.new
         × (made.1 ≡ sizes_of change)) }
     ensures refused { IfErr result (λ refusal. refusal ≢ no_memory
         → job_change (shown_by (ledger_of book.old)) (settings_view settings (filters_of kit.now)) job.now ≡ Err refusal) }
     ensures runs_out { IfErr result (λ refusal. refusal ≡ no_memory
         → has_no_filter (filters_of kit.now) job.now ≡ false) }
-    ensures same { IfErr result (λ refusal. LeavesBook book.old book.new) }
+    ensures same { IfErr result (λ refusal. IsUnchanged book.old book.new) }
 {
     book.refresh();
     let planned = plan(alloc, &book.ledger().view(), settings, kit, job)?;
@@ -242,7 +242,7 @@ fn perform(
 /// Commits a change that is planned on the present state, and says how much it writes.
 fn commit_now(book: &mut Book, change: Change) -> Outcome
     requires { HasSums book.old }
-    ensures asks { AsksBook book.old (commit_of (ledger_of book.old) change) result.0 book.new }
+    ensures asks { Responds book.old (commit_of (ledger_of book.old) change) result.0 book.new }
     ensures sizes { result.1 ≡ sizes_of change }
 {
     let seen = book.ledger().history().length();
@@ -252,21 +252,9 @@ fn commit_now(book: &mut Book, change: Change) -> Outcome
 /// Commits a planned change, and says how much it writes.
 fn commit(book: &mut Book, planned: Planned) -> Outcome
     requires { HasSums book.old }
-    ensures asks { AsksBook book.old (request.Commit planned) result.0 book.new }
+    ensures asks { Responds book.old (request.Commit planned) result.0 book.new }
     ensures sizes { result.1 ≡ sizes_of planned.change }
 {
     let sizes = Sizes::of(&planned.change);
-    (book.commit(planned), sizes)
-}
-
-/// Asks the book about an earlier change.
-fn ask(book: &mut Book, revision: Revision) -> Result<Told, Refusal>
-    requires { HasSums book.old }
-    ensures { AsksBook book.old (request_of revision) result book.new }
-{
-    match revision {
-        Revision::Undo(n) => book.undo(n),
-        Revision::Redo(n) => book.redo(n),
-        Revision::Empty(n) => book.empty(n),
-    }
+    (book.ask(Request::Commit(planned)), sizes)
 }

@@ -1,16 +1,17 @@
 ghost use Rattle.std.specs.Prelude.{◌≡◌, ◌<◌, IfSome, length};
 ghost use Rattle.keep_book.specs.Armed.{HasSums, hooks_of, ledger_of, with_veto};
-ghost use Rattle.keep_hooks.specs.Kits.{kit_view};
+ghost use Rattle.keep_jobs.specs.Kits.{kit_view};
 ghost use Rattle.keep_hooks.specs.Rules.{rules_of, watches_of};
 ghost use Rattle.keep_script.specs.Arming.{Arming, Moves, veto_place, watch_place, with_watch_now};
 ghost use Rattle.keep_script.specs.State.{state_of};
 ghost use Rattle.keep_script.specs.declared.session.Session.{Session};
 
 use keep_book::{Book, NotArmed};
-use keep_hooks::{Kit, Veto, Watch};
+use keep_hooks::{Veto, Watch};
+use keep_jobs::Kit;
 
 /// Why nothing is armed.
-#[derive(Clone, Copy, Debug, PartialEq, Eq)]
+#[derive(Clone, Copy, PartialEq, Eq)]
 pub(crate) enum Unarmed {
     /// A veto or a watch of the name is armed.
     DoubleName,

@@ -22,7 +22,7 @@ const CHUNK: usize = 16_384;
 const LINE_END: u8 = b'\n';
 
 /// The lines of a script, from a reader that is asked for many bytes at once.
-#[derive(Debug, Drop)]
+#[derive(Drop)]
 pub(crate) struct Input {
     alloc: Global,
     /// What the last read gave.
@@ -34,7 +34,7 @@ pub(crate) struct Input {
 }
 
 /// What a script goes on with.
-#[derive(Debug, Drop)]
+#[derive(Drop)]
 pub(crate) enum Piece {
     /// A line whose end was taken too.
     Line(Vec<u8>),

@@ -108,7 +108,7 @@ fn write_entry<W: Write>(alloc: Global, entry: &Entry, writer: &mut W) -> Result
     let event = EventLine {
         at: entry.at,
         what: entry.event.what(),
-        change: entry.event.number(),
+        change: entry.event.number,
     };
     put_line(alloc, &event, writer)
 }

@@ -5,7 +5,7 @@ use std::alloc::{AllocError, Global};
 use std::collections::BTreeMap;
 
 /// The repositories that were noted, by the names that they were noted under.
-#[derive(Debug, Drop)]
+#[derive(Drop)]
 pub(crate) struct Notes {
     alloc: Global,
     held: BTreeMap<String, Repo>,

@@ -1,9 +1,9 @@
 ghost use Rattle.std.specs.Prelude.{◌≡◌, [], ◌∷◌, IfOk};
 ghost use Rattle.keep_script.specs.RawFile.{added_file, added_in, bytes_in, dropped_file, file_change, file_meant, least, names_among};
 
-use keep_book::Ledger;
 use keep_change::{Change, Listed, StoredFile};
 use keep_journal::History;
+use keep_ledger::Ledger;
 use keep_lines::{RawFile, Target};
 use keep_names::{FileName, Kind};
 use keep_repo::{Bytes, Repo};
@@ -12,15 +12,15 @@ use std::alloc::{AllocError, Global};
 /// The change of a line that adds or drops a file by itself; none where the file that it means isn't one.
 pub(crate) fn change_of_file(
     alloc: Global,
-    book: &Ledger,
+    ledger: &Ledger,
     file: RawFile,
 ) -> Result<Option<Change>, AllocError>
-    ensures { IfOk result (λ found. found ≡ file_change book.now file) }
+    ensures { IfOk result (λ found. found ≡ file_change ledger.now file) }
 {
     match file {
         RawFile::Add { kind, bytes } => Ok(Some(added(alloc, kind, bytes)?)),
-        RawFile::Drop { kind, target } => match find(book.history(), kind, target) {
-            Some(name) => Ok(Some(dropped(alloc, book.live(), name)?)),
+        RawFile::Drop { kind, target } => match find(ledger.history(), kind, target) {
+            Some(name) => Ok(Some(dropped(alloc, ledger.live(), name)?)),
             None => Ok(None),
         },
     }

@@ -1,7 +1,7 @@
 ghost use Rattle.std.specs.Prelude.{◌≡◌, ◌≢◌, ◌≤◌, ◌<◌, ◌⊎◌, IfSome, length};
 ghost use Rattle.std.specs.Io.KnownBytes.{Keeps};
 ghost use Rattle.keep_book.specs.Armed.{HasSums, hooks_of, ledger_of};
-ghost use Rattle.keep_hooks.specs.Kits.{filters_of, kit_view};
+ghost use Rattle.keep_jobs.specs.Kits.{filters_of, kit_view};
 ghost use Rattle.keep_jobs.specs.Job.{settings_view};
 ghost use Rattle.keep_script.specs.Known.{Writes, WritesLines};
 ghost use Rattle.keep_script.specs.Line.{longest_script};
@@ -13,8 +13,7 @@ use crate::session::Session;
 use crate::status::Status;
 use keep_backup::Cut;
 use keep_book::Book;
-use keep_hooks::Kit;
-use keep_jobs::Settings;
+use keep_jobs::{Kit, Settings};
 use keep_repo::Repo;
 use std::alloc::Global;
 use std::io::{Read, Write};

@@ -1,6 +1,6 @@
 ghost use Rattle.std.specs.Prelude.{◌≡◌, ◌≢◌, ◌≤◌, ◌<◌, Err, IfOk, IfSome, Ok, OnOk, [], length, true, false};
 ghost use Rattle.keep_book.specs.Armed.{HasSums};
-ghost use Rattle.keep_hooks.specs.Kits.{kit_view};
+ghost use Rattle.keep_jobs.specs.Kits.{kit_view};
 ghost use Rattle.keep_script.specs.Input.{Counted, ahead_of, left_of, unread_of};
 ghost use Rattle.keep_script.specs.Known.{Writes, WritesLines};
 ghost use Rattle.keep_script.specs.Line.{longest_script};
@@ -13,8 +13,7 @@ use crate::notes::Notes;
 use crate::reply::write_bad_line;
 use crate::status::{Status, Stop};
 use keep_book::Book;
-use keep_hooks::Kit;
-use keep_jobs::Settings;
+use keep_jobs::{Kit, Settings};
 use keep_lines::Mistake;
 use std::alloc::{AllocError, Global};
 use std::io::{Read, Write};

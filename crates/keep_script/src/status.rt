@@ -6,7 +6,7 @@ use keep_lines::{LineError, Mistake};
 use std::alloc::{AllocError, AllocFailed};
 
 /// How a run ended.
-#[derive(Clone, Copy, Debug, PartialEq, Eq)]
+#[derive(Clone, Copy, PartialEq, Eq)]
 pub enum Status {
     /// The script ended, and each line was answered.
     Done,
@@ -36,7 +36,7 @@ impl Status {
 }
 
 /// Why a run ends before its script does.
-#[derive(Clone, Copy, Debug, PartialEq, Eq)]
+#[derive(Clone, Copy, PartialEq, Eq)]
 pub(crate) enum Stop {
     BadLine(Mistake),
     ReadFailed,

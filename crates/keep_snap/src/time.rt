@@ -13,7 +13,7 @@ use jiff::civil::{Date, Weekday};
 use std::str;
 
 /// A month of a year.
-#[derive(Clone, Copy, Debug, PartialEq, Eq, PartialOrd, Ord)]
+#[derive(Clone, Copy, PartialEq, Eq, PartialOrd, Ord)]
 pub struct Month {
     /// 0 to 9999.
     pub year: i16,
@@ -22,7 +22,7 @@ pub struct Month {
 }
 
 /// A time as a snapshot has it: its instant, and the day, week, month and year of its written date.
-#[derive(Clone, Copy, Debug, PartialEq, Eq)]
+#[derive(Clone, Copy, PartialEq, Eq)]
 pub struct Time {
     /// Nanoseconds since 1970-01-01T00:00:00Z.
     pub instant: i128,

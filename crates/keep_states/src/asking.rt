@@ -4,11 +4,12 @@ use crate::state::State;
 use crate::stop::Stop;
 use crate::words;
 use keep_hooks::NoHooks;
+use keep_ledger::Request;
 use keep_lines::Counts;
 use std::alloc::AllocError;
 use std::fmt::Write;
 
-/// Answers what is asked of the book and its repository, if the line asks for it.
+/// Answers what is asked of the ledger and its repository, if the line asks for it.
 pub(crate) fn answer(
     state: &mut State,
     verb: &str,
@@ -18,9 +19,18 @@ pub(crate) fn answer(
     let ledger = &mut state.ledger;
     let mut none = NoHooks {};
     match verb {
-        "undo" => reply(ledger.undo(&mut none, words::number(rest)?), out)?,
-        "redo" => reply(ledger.redo(&mut none, words::number(rest)?), out)?,
-        "empty" => reply(ledger.empty(&mut none, words::number(rest)?), out)?,
+        "undo" => reply(
+            ledger.ask(&mut none, Request::Undo(words::number(rest)?)),
+            out,
+        )?,
+        "redo" => reply(
+            ledger.ask(&mut none, Request::Redo(words::number(rest)?)),
+            out,
+        )?,
+        "empty" => reply(
+            ledger.ask(&mut none, Request::Empty(words::number(rest)?)),
+            out,
+        )?,
         "length" => writeln!(out, "length {}", ledger.view().length())?,
         "count" => count(state, out)?,
         "list" => show_repo(ledger.live(), out)?,

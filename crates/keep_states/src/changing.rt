@@ -2,9 +2,9 @@ use crate::shown::{show_ids, show_names};
 use crate::state::{State, no_change};
 use crate::stop::Stop;
 use crate::words;
-use keep_book::{Refusal, Told};
 use keep_change::{Change, Outline, Turn, What};
 use keep_hooks::NoHooks;
+use keep_ledger::{Refusal, Request, Told};
 use keep_lines::{Accepted, Refused};
 use keep_repo::Repo;
 use std::alloc::{AllocError, Global};
@@ -30,7 +30,10 @@ pub(crate) fn answer(
         "turn" => turn(change, &state.ledger.repo()?, out)?,
         "commit" => {
             let planned = mem::replace(&mut state.held, no_change(state.alloc));
-            reply(state.ledger.commit(&mut NoHooks {}, planned), out)?;
+            reply(
+                state.ledger.ask(&mut NoHooks {}, Request::Commit(planned)),
+                out,
+            )?;
         }
         _ => return Ok(false),
     }
@@ -41,7 +44,7 @@ pub(crate) fn yes(holds: bool) -> &'static str {
     if holds { "yes" } else { "no" }
 }
 
-/// Writes what the book answers.
+/// Writes what the ledger answers.
 pub(crate) fn reply(reply: Result<Told, Refusal>, out: &mut String) -> Result<(), AllocError> {
     match reply {
         Ok(told) => writeln!(out, "{}", Accepted(told)),

@@ -7,6 +7,7 @@ use keep_backup::{BackupFacts, Cut, plan_backup, store};
 use keep_change::{Change, Planned};
 use keep_hooks::NoHooks;
 use keep_jobs::{Job, JobError, Settings, plan};
+use keep_ledger::Request;
 use keep_lines::{Command, LineError, Refused, parse};
 use keep_names::BlobType;
 use keep_plan::{PlanError, Stored};
@@ -74,7 +75,10 @@ fn commit(
     out: &mut String,
 ) -> Result<(), AllocError> {
     match planned {
-        Ok(planned) => reply(state.ledger.commit(&mut NoHooks {}, planned), out),
+        Ok(planned) => reply(
+            state.ledger.ask(&mut NoHooks {}, Request::Commit(planned)),
+            out,
+        ),
         Err(refusal) => writeln!(out, "{}", Refused(refusal)),
     }
 }

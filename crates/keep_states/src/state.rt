@@ -1,6 +1,7 @@
-use keep_book::Ledger;
 use keep_change::{Change, Planned};
-use keep_hooks::{Filter, Kit};
+use keep_filters::Filter;
+use keep_jobs::Kit;
+use keep_ledger::Ledger;
 use keep_names::{FileName, Id};
 use keep_repo::{Bytes, Mark, Repo};
 use std::alloc::{AllocError, Global};

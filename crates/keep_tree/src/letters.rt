@@ -5,7 +5,7 @@ use std::alloc::{AllocError, Global};
 use std::marker::Model;
 
 /// Characters, decoded once.
-#[derive(Debug, Drop)]
+#[derive(Drop)]
 pub struct Letters {
     chars: Vec<char>,
 }

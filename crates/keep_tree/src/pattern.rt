@@ -1,7 +1,7 @@
 use crate::letters::Letters;
 
 /// A component of a pattern.
-#[derive(Debug, Drop)]
+#[derive(Drop)]
 pub enum Component {
     /// `**`, which takes any number of components.
     AnyDepth,
@@ -10,7 +10,7 @@ pub enum Component {
 }
 
 /// What paths are to be matched by.
-#[derive(Debug, Drop)]
+#[derive(Drop)]
 pub struct Pattern {
     /// Whether it matches from the root only.
     pub anchored: bool,

@@ -20,7 +20,7 @@ use std::cmp::Ordering;
 use std::marker::Model;
 
 /// What a path has left open of patterns. Two paths that have left the same open have equal ones.
-#[derive(Debug, Drop)]
+#[derive(Drop)]
 pub struct Rests {
     left: Vec<Rest>,
 }

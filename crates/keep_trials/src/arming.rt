@@ -2,11 +2,12 @@ ghost use Rattle.std.specs.Prelude.{◌≡◌};
 ghost use Rattle.keep_hooks.specs.Limits.{refuses};
 ghost use Rattle.keep_hooks.specs.declared.limit.Limit.TheVariants.{FilesWrittenAtMost};
 
-use keep_book::{Book, NotArmed, Refusal, Told};
+use keep_book::{Book, NotArmed};
 use keep_change::{Change, Listed, Outline, Planned, StoredFile, What};
 use keep_hooks::{
     AskOutline, CountOutline, Limit, Measure, Veto, Watch, files_written, makes_change,
 };
+use keep_ledger::{Refusal, Told};
 use keep_names::Kind;
 use keep_repo::Repo;
 use std::alloc::{AllocError, Global};

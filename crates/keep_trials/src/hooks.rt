@@ -2,9 +2,8 @@ ghost use Rattle.std.specs.Prelude.{◌≡◌, IfOk};
 ghost use Rattle.keep_hooks.specs.Written.{name_count};
 
 use keep_change::{Listed, Outline, What};
-use keep_hooks::{
-    ArmedWatch, AskFacts, CountOutline, Filter, Measure, Pick, Watch, has_path, snapshots_dropped,
-};
+use keep_filters::{AskFacts, Filter, Pick, has_path};
+use keep_hooks::{ArmedWatch, CountOutline, Measure, Watch, snapshots_dropped};
 use keep_names::{FileName, id_of};
 use keep_snap::{Month, SnapFacts};
 use std::alloc::{AllocError, Global};

@@ -1,6 +1,6 @@
 use crate::readers::{Endless, LineByLine, Slow};
 use crate::writers::{ByLine, Flushed, Narrow};
-use keep_hooks::Kit;
+use keep_jobs::Kit;
 use keep_lines::Mistake;
 use keep_script::{Status, run};
 use std::alloc::Global;
@@ -34,7 +34,7 @@ const LISTED: &str = "ok 1 at 1 +1 -0 *0 ~0\n\
 fn endless_scripts_are_given_up(rt: HostRuntime) {
     let mut writer = Vec::new(rt.alloc());
     let ended = end_of(rt.alloc(), &mut Endless, &mut writer);
-    assert_eq!(rt; ended, Status::ScriptTooLong);
+    assert!(rt; ended == Status::ScriptTooLong);
     assert!(rt; writer.is_empty());
 }
 
@@ -116,11 +116,8 @@ fn single_bytes_are_read_on(rt: HostRuntime) {
             fails: false,
         };
         let mut writer = Vec::new(alloc);
-        assert_eq!(rt;
-            end_of(alloc, &mut slow, &mut writer),
-            status,
-            "before {answers}"
-        );
+        let ended = end_of(alloc, &mut slow, &mut writer);
+        assert!(rt; ended == status, "before {answers}");
         assert!(rt; writer.as_slice() == answers.as_bytes(), "not {answers}");
     }
 }
@@ -136,7 +133,8 @@ fn a_line_of_single_bytes_is_read_on(rt: HostRuntime) -> Result<(), Fail> {
         fails: false,
     };
     let mut writer = Vec::new(alloc);
-    assert_eq!(rt; end_of(alloc, &mut slow, &mut writer), Status::Done);
+    let ended = end_of(alloc, &mut slow, &mut writer);
+    assert!(rt; ended == Status::Done);
     assert!(rt; writer.as_slice() == b"files 0 marks 0\n".as_slice());
     Ok(())
 }
@@ -155,10 +153,8 @@ fn a_failed_read_ends_the_run(rt: HostRuntime) {
         fails: true,
     };
     let mut writer = Vec::new(alloc);
-    assert_eq!(rt;
-        end_of(alloc, &mut failing, &mut writer),
-        Status::ReadFailed
-    );
+    let ended = end_of(alloc, &mut failing, &mut writer);
+    assert!(rt; ended == Status::ReadFailed);
     assert!(rt; writer.as_slice() == b"ok 1 at 1 +1 -0 *0 ~0\n".as_slice());
 }
 
@@ -194,7 +190,7 @@ fn a_failed_write_ends_the_run(rt: HostRuntime) {
         } else {
             Status::WriteFailed
         };
-        assert_eq!(rt; ended, status, "at {room}");
+        assert!(rt; ended == status, "at {room}");
         let held = &answers.as_bytes()[..room.min(answers.len())];
         assert!(rt; writer.held.as_slice() == held, "at {room}");
     }
@@ -206,10 +202,8 @@ fn lines_are_written_one_by_one(rt: HostRuntime) {
     let mut writer = ByLine {
         held: Vec::new(alloc),
     };
-    assert_eq!(rt;
-        end_of(alloc, &mut LISTING.as_bytes(), &mut writer),
-        Status::Done
-    );
+    let ended = end_of(alloc, &mut LISTING.as_bytes(), &mut writer);
+    assert!(rt; ended == Status::Done);
     assert!(rt; writer.held.as_slice() == LISTED.as_bytes());
 }
 
@@ -233,11 +227,8 @@ fn each_answer_is_handed_on_before_the_next_read(rt: HostRuntime) {
         let mut reader = LineByLine {
             bytes: THREE_LINES.as_bytes(),
         };
-        assert_eq!(rt;
-            end_of(alloc, &mut reader, &mut writer),
-            status,
-            "at {flushes}"
-        );
+        let ended = end_of(alloc, &mut reader, &mut writer);
+        assert!(rt; ended == status, "at {flushes}");
         assert!(rt; writer.lengths.as_slice() == lengths, "at {flushes}");
     }
 }

@@ -1,5 +1,5 @@
 use Rattle.std.proofs.Common.{◌≡◌, ◌∙◌, ap, map, rules, string_bytes}
-use Rattle.keep_hooks.specs.Kits.{named_rule}
+use Rattle.keep_jobs.specs.Kits.{named_rule}
 use Rattle.keep_command.proofs.StoredLemmas.{are-filters, runs-by}
 use Rattle.keep_command.specs.Option.{options_view}
 use Rattle.keep_command.specs.Running.{stored_filters}

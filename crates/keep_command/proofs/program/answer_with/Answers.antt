@@ -1,6 +1,6 @@
 use Rattle.std.proofs.Common.{◌≡◌, ◌∙◌, ℤ, List, ap, map, of_z, rules, string_bytes, subst, to_z, w64}
 use Rattle.keep_hooks.specs.Guards.{Rule, WatchData}
-use Rattle.keep_hooks.specs.Kits.{named_rule}
+use Rattle.keep_jobs.specs.Kits.{named_rule}
 use Rattle.keep_hooks.specs.Rules.{rule_of, watch_of}
 use Rattle.keep_hooks.specs.declared.limit.Limit.TheVariants.{SnapshotDropsAtMost}
 use Rattle.keep_command.proofs.StoredLemmas.{are-vetoes, are-watches}

@@ -1,5 +1,5 @@
 use Rattle.std.proofs.Common.{◌≡◌, drop, map}
-use Rattle.keep_hooks.specs.Kits.{named_rule, rule_named}
+use Rattle.keep_jobs.specs.Kits.{named_rule, rule_named}
 use Rattle.keep_jobs.proofs.filters.filter_named.Given as goal
 
 abbrev pub invariant-loop-filter : goal.invariant-loop-filter

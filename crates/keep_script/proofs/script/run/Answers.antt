@@ -1,6 +1,6 @@
 use Rattle.std.proofs.Common.{◌≡◌, ℤ, refl, subst, w64}
 use Rattle.std.proofs.lemmas.Int.{to_z-of_z}
-use Rattle.keep_hooks.specs.Kits.{kit_view}
+use Rattle.keep_jobs.specs.Kits.{kit_view}
 use Rattle.keep_script.specs.Run.{Ends}
 use Rattle.keep_script.specs.State.{begun, begun_over, settled}
 use Rattle.keep_script.proofs.script.run.Goals as goal

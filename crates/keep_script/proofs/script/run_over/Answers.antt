@@ -1,7 +1,7 @@
 use Rattle.std.proofs.Common.{◌≡◌, ℕ, ◌<◌, List, Option, IfSome, inl, inr, length, sym, ap, ap₂, subst, ◌∙◌, refl}
 use Rattle.std.proofs.KnownBytes.{prepend_known-nil}
 use Rattle.std.specs.Io.KnownBytes.{prepend_known}
-use Rattle.keep_hooks.specs.Kits.{filters_of, kit_view}
+use Rattle.keep_jobs.specs.Kits.{filters_of, kit_view}
 use Rattle.keep_jobs.specs.Job.{settings_view}
 use Rattle.keep_jobs.specs.declared.job.Settings.{Settings}
 use Rattle.keep_repo.specs.Repository.{Repository}

@@ -4,7 +4,7 @@ use Rattle.keep_hooks.specs.Rules.{armed_at, armed_of, tally_of, watch_of}
 use Rattle.keep_journal.specs.History.{length_of}
 use Rattle.keep_book.specs.Armed.{hooks_of}
 use Rattle.keep_book.proofs.Naming.{behind, once_with_watch}
-use Rattle.keep_book.proofs.Sums.{sums_armed}
+use Rattle.keep_ledger.proofs.Sums.{sums_armed}
 use Rattle.keep_book.proofs.book.Book.add_watch.Goals as goal
 
 pub invariant_of-self : goal.invariant_of-self

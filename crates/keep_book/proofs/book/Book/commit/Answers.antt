@@ -1,10 +1,8 @@
--- What is armed stays, and its totals stay sums.
-use Rattle.std.proofs.Common.{subst, sym}
-use Rattle.keep_book.specs.Names.{HaveNoNameTwice}
+-- What was accepted has just been committed.
+use Rattle.keep_book.specs.Armed.{hooks_of, ledger_of}
+use Rattle.keep_book.proofs.Replied.{just_committed}
 use Rattle.keep_book.proofs.book.Book.commit.Goals as goal
 
-pub invariant_of-self : goal.invariant_of-self
-invariant_of-self g c = record {
-  sums = c.commit.ensures.sums;
-  names = subst HaveNoNameTwice (sym c.commit.ensures.hooks) c.args.self.now.names;
-}
+pub returns-clause-made : goal.returns-clause-made
+returns-clause-made g c =
+    just_committed (ledger_of c.args.self.now) (hooks_of c.args.self.now).vetoes c.args.planned c.ask.result (ledger_of c.ask.new.self) c.ask.ensures.open c.ask.ensures.responds.replies c.ask.ensures.responds.ledger

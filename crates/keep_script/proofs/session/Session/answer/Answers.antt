@@ -1,4 +1,4 @@
-use Rattle.keep_hooks.specs.Kits.{kit_view}
+use Rattle.keep_jobs.specs.Kits.{kit_view}
 use Rattle.keep_script.proofs.session.Session.answer.Goals as goal
 
 pub returns-in-RawFile-clause-answers : goal.returns-in-RawFile-clause-answers

@@ -1,6 +1,6 @@
 -- What the lines so far were answered, and enough may still be read for the number.
 use Rattle.std.proofs.Common.{◌+◌, ◌≤◌}
-use Rattle.keep_hooks.specs.Kits.{kit_view}
+use Rattle.keep_jobs.specs.Kits.{kit_view}
 use Rattle.keep_script.proofs.RunLemmas.{Progress}
 use Rattle.keep_script.specs.Input.{Counted, ahead_of, left_of}
 use Rattle.keep_script.specs.Known.{WritesLines}

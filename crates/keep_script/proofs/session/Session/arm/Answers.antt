@@ -1,6 +1,6 @@
 use Rattle.std.proofs.Common.{[], Err, inl, inr, refl}
 use Rattle.std.proofs.KnownBytes.{Appends-nil}
-use Rattle.keep_hooks.specs.Kits.{kit_view}
+use Rattle.keep_jobs.specs.Kits.{kit_view}
 use Rattle.keep_lines.specs.declared.command.Command.TheVariants as the_command
 use Rattle.keep_script.proofs.AnswerLemmas.{AnswersCommand-puts}
 use Rattle.keep_script.specs.Arming.{Arming}

@@ -1,4 +1,4 @@
-use Rattle.keep_hooks.specs.Kits.{kit_view}
+use Rattle.keep_jobs.specs.Kits.{kit_view}
 use Rattle.keep_script.proofs.AnswerLemmas.{Job-answer}
 use Rattle.keep_script.proofs.session.Session.do_job.Goals as goal
 

@@ -1,0 +1,11 @@
+pub mod Asking
+pub mod Doing
+pub mod Looking
+pub mod Marking
+pub mod Redoing
+pub mod Replying
+pub mod Restoring
+pub mod Steps
+pub mod Sums
+pub mod Totals
+pub mod Undoing

@@ -1,0 +1,10 @@
+pub mod Dependents
+pub mod Formed
+pub mod Guarding
+pub mod LedgerState
+pub mod Limits
+pub mod Made
+pub mod Refusal
+pub mod Reply
+pub mod Request
+pub mod Sums

@@ -1,0 +1,15 @@
+-- What has to hold before a request is done.
+use Rattle.std.specs.Prelude.{◌≡◌, None}
+use Rattle.keep_ledger.specs.LedgerState.{LedgerState}
+use Rattle.keep_ledger.specs.Reply.{IsFormed, early_refusal, late_refusal}
+use Rattle.keep_ledger.specs.declared.request.Request.{Request}
+
+-- nothing objects to the request before the vetoes are asked
+pub record CanBegin (b : LedgerState) (request : Request) : Type 0 where
+  pub formed : IsFormed request
+  pub free : early_refusal b request ≡ None
+
+-- and nothing does after they let it pass
+pub record CanBeMade (b : LedgerState) (request : Request) : Type 0 where
+  pub begins : CanBegin b request
+  pub free : late_refusal b request ≡ None
