@@ -2,7 +2,7 @@ use crate::key::Key;
 use keep_repo::Bytes;
 
 /// What a call did.
-#[derive(Debug, Drop)]
+#[derive(Drop)]
 pub(crate) enum Act {
     /// Bytes were read, or the keys listed.
     Looked,

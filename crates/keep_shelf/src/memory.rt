@@ -14,7 +14,7 @@ use std::marker::Model;
 /// A shelf in memory, which can tell what stood on it after each of its calls.
 ///
 /// It keeps its calls, and shares their bytes. A call of it fails where memory doesn't suffice.
-#[derive(Debug, Drop)]
+#[derive(Drop)]
 pub struct MemoryShelf {
     alloc: Global,
     made: Stock,

@@ -11,7 +11,7 @@ use std::collections::BTreeMap;
 use std::marker::Model;
 
 /// Bytes by key.
-#[derive(Debug, Drop)]
+#[derive(Drop)]
 pub(crate) struct Stock {
     alloc: Global,
     bytes: BTreeMap<Key, Bytes>,
