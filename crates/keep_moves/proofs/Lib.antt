@@ -1,0 +1,14 @@
+pub mod About
+pub mod Apart
+pub mod Begun
+pub mod Counts
+pub mod Emptied
+pub mod Entries
+pub mod Erased
+pub mod Keys
+pub mod Listed
+pub mod Played
+pub mod Silenced
+pub mod Swept
+pub mod Trash
+pub mod Turned

@@ -1,0 +1,80 @@
+ghost use Rattle.std.specs.Prelude.{◌≡◌, ◌≤◌, ◌++◌, IfOk, OnOk, filter, map};
+ghost use Rattle.keep_journal.specs.History.{last_change};
+ghost use Rattle.keep_shelf.specs.declared.key.Key.TheVariants.{Trash};
+ghost use Rattle.keep_moves.specs.Lists.{entry_keys, is_silenced, swept_keys, trash_at};
+ghost use Rattle.keep_moves.specs.Standing.{is_told as tells};
+ghost use Rattle.keep_moves.specs.declared.moves.Move.TheVariants.{Erase};
+
+use crate::moves::Move;
+use keep_change::StoredFile;
+use keep_journal::{Entry, Event, EventKind, History};
+use keep_shelf::Key;
+use std::alloc::{AllocError, Global};
+
+/// The moves of an emptying up to n.
+pub fn swept_moves(alloc: Global, history: &History, n: u64) -> Result<Vec<Move>, AllocError>
+    requires { n ≤ last_change history.now.journal }
+    ensures { IfOk result (λ moves. moves.items ≡ map Erase (swept_keys history.now.journal n)) }
+{
+    let final_number = history.final_number();
+    let entries = history.entries();
+    let mut moves = Vec::new(alloc);
+    for before in final_number..n {
+        sweep_change(&mut moves, history, before + 1)?;
+    }
+    sweep_entries(&mut moves, entries, final_number, n)?;
+    Ok(moves)
+}
+
+// Appends the erasures of what the trash of change m has.
+fn sweep_change(moves: &mut Vec<Move>, history: &History, m: u64) -> Result<(), AllocError>
+    ensures { OnOk result (moves.new.items
+        ≡ moves.old.items ++ map Erase (trash_at history.now.journal m)) }
+{
+    if let Some(change) = history.kept_change(m) {
+        return push_erasures(moves, m, change.drops.as_slice());
+    }
+    match history.change(m) {
+        Some(change) => push_erasures(moves, m, change.adds.as_slice()),
+        None => Ok(()),
+    }
+}
+
+// Appends the erasures of these files from the trash of change m.
+fn push_erasures(moves: &mut Vec<Move>, m: u64, files: &[StoredFile]) -> Result<(), AllocError>
+    ensures { OnOk result (moves.new.items
+        ≡ moves.old.items ++ map Erase (map (λ f. Trash m f.name) files.now)) }
+{
+    for file in files {
+        moves.push(Move::Erase(Key::Trash(m, file.name())))?;
+    }
+    Ok(())
+}
+
+// Appends the erasures of the entries that tell nothing once all changes up to n are final.
+fn sweep_entries(
+    moves: &mut Vec<Move>,
+    entries: &[Entry],
+    final_number: u64,
+    n: u64,
+) -> Result<(), AllocError>
+    ensures { let silenced = filter (λ e. is_silenced final_number n e.event) entries.now in
+        OnOk result (moves.new.items ≡ moves.old.items ++ map Erase (entry_keys silenced)) }
+{
+    for entry in entries {
+        if is_told(final_number, &entry.event) && !is_told(n, &entry.event) {
+            moves.push(Move::Erase(Key::Entry(entry.at)))?;
+        }
+    }
+    Ok(())
+}
+
+// Whether the event still tells something where changes up to this number are final.
+fn is_told(final_number: u64, event: &Event) -> bool
+    ensures { result ≡ tells final_number event.now }
+{
+    match &event.kind {
+        EventKind::Empty(_) => final_number <= event.number,
+        EventKind::Commit(_) | EventKind::Undo | EventKind::Redo => final_number < event.number,
+    }
+}
