@@ -1,6 +1,5 @@
 pub mod Asking
 pub mod Doing
-pub mod Looking
 pub mod Marking
 pub mod Redoing
 pub mod Replying

@@ -6,6 +6,8 @@ use Rattle.keep_journal.specs.Event.{committing}
 use Rattle.keep_journal.specs.History.{last_change, length_of}
 use Rattle.keep_journal.specs.Journal.{Journal, posted}
 use Rattle.keep_journal.specs.Opening.{IsOpen, opening_under}
+use Rattle.keep_touch.specs.Mentions.{AreNoted}
+use Rattle.keep_touch.specs.declared.touch.Touch.{Touch}
 
 -- the repository that the kept changes are made of, the events, and the repository that is there now
 pub record LedgerState : Type 0 where
@@ -24,6 +26,11 @@ new_ledger repository = record {
 -- the ledger of these events that made this repository: its opening is what is left where they are taken back
 abbrev pub ledger_of_live : Journal → Repository → LedgerState
 ledger_of_live j live = record { opening = opening_under j live; events = j; live = live }
+
+-- the events make the live repository of the opening, and their committed changes are noted
+pub record IsConsistent (j : Journal) (live : Repository) (touch : Touch) : Type 0 where
+  pub is_open : IsOpen (opening_under j live) j live
+  pub noted : AreNoted touch j
 
 -- the ledger is what an accepted commit, of change n, has just left of the one before it
 pub record JustCommitted (before : LedgerState) (n : ℕ) (now : LedgerState) : Type 0 where

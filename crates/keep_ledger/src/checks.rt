@@ -8,6 +8,7 @@ ghost use Rattle.keep_change.specs.Touch.{facets};
 ghost use Rattle.keep_journal.specs.History.{final_number, is_change, last_change, length_of};
 ghost use Rattle.keep_ledger.specs.Dependents.{leaned_on, blocked_by, Passes};
 ghost use Rattle.keep_journal.specs.Opening.{AreWellFormed};
+ghost use Rattle.keep_touch.specs.Mentions.{AreNoted};
 ghost use Rattle.keep_ledger.specs.Limits.{change_limit, event_limit};
 ghost use Rattle.keep_ledger.specs.Reply.{first_of, is_full, is_full_for, commit_refusal, undo_refusal, redo_refusal, empty_refusal};
 
@@ -16,6 +17,7 @@ use crate::reply::Refusal;
 use keep_change::{Change, Planned};
 use keep_journal::{History, Status};
 use keep_repo::Repo;
+use keep_touch::Touch;
 
 /// The greatest number that an event can have.
 const MAX_EVENTS: u64 = 16_777_216;
@@ -54,8 +56,8 @@ pub(crate) fn check_met(live: &Repo, change: &Change) -> Result<(), Refusal>
 }
 
 /// Why change n can't be taken back, memory aside.
-pub(crate) fn check_undo(history: &History, n: u64) -> Result<(), Refusal>
-    requires { AreWellFormed history.now.journal }
+pub(crate) fn check_undo(history: &History, touch: &Touch, n: u64) -> Result<(), Refusal>
+    requires { AreNoted touch.now history.now.journal }
     ensures refusal { Passes (undo_refusal history.now.journal n (leaned_on history.now.journal n)) result }
     ensures room { OnOk result (length_of history.now.journal < event_limit) }
 {
@@ -64,7 +66,7 @@ pub(crate) fn check_undo(history: &History, n: u64) -> Result<(), Refusal>
         return Err(Refusal::NotInForce);
     }
     check_room(history)?;
-    match leaned_on(history, n) {
+    match leaned_on(history, touch, n) {
         Some(later) => Err(Refusal::LeanedOn(later)),
         None => Ok(()),
     }
@@ -83,11 +85,17 @@ pub(crate) fn check_redo(history: &History, n: u64) -> Result<(), Refusal>
 }
 
 /// Change n can be made again at its place, and the later ones after it.
-pub(crate) fn check_blocked(history: &History, live: &Repo, n: u64) -> Result<(), Refusal>
-    requires { AreWellFormed history.now.journal }
+pub(crate) fn check_blocked(
+    history: &History,
+    touch: &Touch,
+    live: &Repo,
+    n: u64,
+) -> Result<(), Refusal>
+    requires formed { AreWellFormed history.now.journal }
+    requires noted { AreNoted touch.now history.now.journal }
     ensures { Passes (option_map Refusal.Blocked (blocked_by history.now.journal live.now n)) result }
 {
-    match blocked_by(history, live, n) {
+    match blocked_by(history, touch, live, n) {
         Some(blocked) => Err(Refusal::Blocked(blocked)),
         None => Ok(()),
     }

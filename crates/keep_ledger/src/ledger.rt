@@ -2,6 +2,7 @@ ghost use Rattle.std.specs.Prelude.{◌≡◌, ◌<◌, IfOk, IsSome, IsTrue, On
 ghost use Rattle.keep_journal.specs.History.{change_of, length_of};
 ghost use Rattle.keep_journal.specs.Kept.{is_kept};
 ghost use Rattle.keep_journal.specs.Opening.{IsOpen};
+ghost use Rattle.keep_touch.specs.Mentions.{AreNoted};
 ghost use Rattle.keep_view.specs.Shown.{shown_of};
 ghost use Rattle.keep_ledger.specs.Dependents.{Passes};
 ghost use Rattle.keep_ledger.specs.Guarding.{IsOutline, event_outline};
@@ -19,6 +20,7 @@ use keep_change::{Outline, What};
 use keep_hooks::Guard;
 use keep_journal::History;
 use keep_repo::Repo;
+use keep_touch::Touch;
 use keep_view::View;
 use std::alloc::{AllocError, Global};
 use std::marker::Model;
@@ -31,13 +33,14 @@ pub struct Ledger {
     /// What the changes that can still be undone make of the opening.
     pub(crate) live: LiveRepo,
     pub(crate) history: History,
+    /// Of each facet the committed changes that touch it.
+    pub(crate) touch: Touch,
 }
 
 impl Model for Ledger {
     ghost use Rattle.std.specs.Coded.{codes};
     ghost use Rattle.keep_repo.specs.Repository.{coded_repository};
-    ghost use Rattle.keep_journal.specs.Opening.{IsOpen, opening_under};
-    ghost use Rattle.keep_ledger.specs.LedgerState.{LedgerState, ledger_of_live};
+    ghost use Rattle.keep_ledger.specs.LedgerState.{IsConsistent, LedgerState, ledger_of_live};
 
     ghost Value = { LedgerState };
 
@@ -45,7 +48,7 @@ impl Model for Ledger {
 
     ghost view = { λ ledger. ledger_of_live ledger.history.journal ledger.live };
 
-    ghost invariant = { λ ledger. IsOpen (opening_under ledger.history.journal ledger.live) ledger.history.journal ledger.live };
+    ghost invariant = { λ ledger. IsConsistent ledger.history.journal ledger.live ledger.touch };
 }
 
 impl Ledger {
@@ -57,6 +60,7 @@ impl Ledger {
             alloc,
             live: LiveRepo::new(alloc, opening),
             history: History::new(alloc, 0),
+            touch: Touch::new(alloc),
         }
     }
 
@@ -142,10 +146,17 @@ impl Ledger {
     {
         match request {
             Request::Commit(planned) => check_commit(self.history(), planned),
-            Request::Undo(n) => check_undo(self.history(), *n),
+            Request::Undo(n) => check_undo(self.history(), self.touch(), *n),
             Request::Redo(n) => check_redo(self.history(), *n),
             Request::Empty(n) => check_empty(self.history(), *n),
         }
+    }
+
+    /// The notes of the events.
+    fn touch(&self) -> &Touch
+        ensures { AreNoted result.now self.now.events }
+    {
+        &self.touch
     }
 
     /// Why the request is refused once the vetoes let it pass.
@@ -155,7 +166,7 @@ impl Ledger {
     {
         match request {
             Request::Commit(planned) => check_met(self.live(), &planned.change),
-            Request::Redo(n) => check_blocked(self.history(), self.live(), *n),
+            Request::Redo(n) => check_blocked(self.history(), self.touch(), self.live(), *n),
             Request::Undo(_) | Request::Empty(_) => Ok(()),
         }
     }

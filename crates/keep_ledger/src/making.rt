@@ -7,6 +7,7 @@ ghost use Rattle.keep_change.specs.declared.change.Change.{Change};
 ghost use Rattle.keep_journal.specs.History.{Fits, change_of, length_of};
 ghost use Rattle.keep_journal.specs.Journal.{posted};
 ghost use Rattle.keep_journal.specs.Opening.{IsOpen, opening_under};
+ghost use Rattle.keep_touch.specs.Mentions.{AreNoted, NotesOneMore, NoteTheSame};
 ghost use Rattle.keep_ledger.specs.LedgerState.{ledger_of_live};
 ghost use Rattle.keep_ledger.specs.Limits.{event_limit};
 ghost use Rattle.keep_ledger.specs.Made.{event_of, opening_after, with_event};
@@ -18,8 +19,9 @@ use crate::opening_marks::marks_under;
 use crate::reply::Told;
 use crate::request::Request;
 use keep_catalog::LiveRepo;
-use keep_change::SharedChange;
+use keep_change::{Change, SharedChange};
 use keep_journal::{Entry, Event, EventKind, History};
+use keep_touch::{Touch, notes_follow_events};
 use std::alloc::{AllocError, Global};
 
 impl Ledger {
@@ -31,30 +33,43 @@ impl Ledger {
         ensures same { OnErr result (self.new ≡ self.old) }
     {
         self.history.reserve()?;
-        let event = change_live(self.alloc, &self.history, &mut self.live, request)?;
+        let event = change_live(
+            self.alloc,
+            &self.history,
+            &mut self.live,
+            &mut self.touch,
+            request,
+        )?;
         Ok(post(&mut self.history, event))
     }
 }
 
-/// Changes the live repository as the request asks, and answers the event of it.
+/// Changes the live repository as the request asks, notes a commit's change, and answers the event of it.
 fn change_live(
     alloc: Global,
     history: &History,
     live: &mut LiveRepo,
+    touch: &mut Touch,
     request: Request,
 ) -> Result<Event, AllocError>
     requires open { IsOpen (opening_under history.now.journal live.old) history.now.journal live.old }
+    requires noted { AreNoted touch.old history.now.journal }
     requires free { CanBeMade (ledger_of_live history.now.journal live.old) request }
     ensures event { IfOk result (λ event. event ≡ event_of (ledger_of_live history.now.journal live.old) request) }
     ensures made { let b = ledger_of_live history.now.journal live.old in
         OnOk result (IsOpen (opening_after b request) (posted b.events (length_of b.events + 1) (event_of b request)) live.new) }
+    ensures noted { let b = ledger_of_live history.now.journal live.old in
+        OnOk result (AreNoted touch.new (posted b.events (length_of b.events + 1) (event_of b request))) }
     ensures same { OnErr result (live.new ≡ live.old) }
+    ensures same_notes { OnErr result (NoteTheSame touch.old touch.new) }
 {
+    // Whatever the event, the notes are those of the commits again.
+    notes_follow_events();
     match request {
         Request::Commit(planned) => {
             let change = SharedChange::new(alloc, planned.change)?;
-            live.apply(change.as_change())?;
             let number = history.last_change() + 1;
+            apply_noted(live, touch, number, change.as_change())?;
             let kind = EventKind::Commit(change);
             Ok(Event { number, kind })
         }
@@ -74,6 +89,28 @@ fn change_live(
             Ok(Event { number, kind })
         }
     }
+}
+
+/// Notes the change under the number, and makes it. Where memory runs out for either, nothing is changed.
+fn apply_noted(
+    live: &mut LiveRepo,
+    touch: &mut Touch,
+    number: u64,
+    change: &Change,
+) -> Result<(), AllocError>
+    requires once { HasNoFacetTwice change.now }
+    requires ready { is_ready (held live.old) change.now ≡ true }
+    ensures made { OnOk result (live.new ≡ result_of change.now live.old) }
+    ensures noted { OnOk result (NotesOneMore touch.old touch.new (record { number = number; change = change.now })) }
+    ensures same { OnErr result (live.new ≡ live.old) }
+    ensures same_notes { OnErr result (NoteTheSame touch.old touch.new) }
+{
+    touch.note(number, change)?;
+    if let Err(error) = live.apply(change) {
+        touch.forget(change);
+        return Err(error);
+    }
+    Ok(())
 }
 
 /// Appends the event under the next number, for which there is room.

@@ -2,12 +2,14 @@ ghost use Rattle.std.specs.Prelude.{◌≡◌, option_copied, MatchOption};
 ghost use Rattle.keep_change.specs.Touch.{before_of};
 ghost use Rattle.keep_change.specs.Form.{IsWellFormed};
 ghost use Rattle.keep_journal.specs.Opening.{AreWellFormed};
-ghost use Rattle.keep_ledger.specs.Formed.{AreWellFormed-prop};
+ghost use Rattle.keep_touch.specs.Mentions.{AreNoted};
+ghost use Rattle.keep_ledger.specs.Formed.{AreNoted-prop, AreWellFormed-prop};
 
 use keep_change::{Change, Holder};
 use keep_journal::History;
 use keep_names::{FileName, Id};
 use keep_repo::{Bytes, Facet, Mark, Repo};
+use keep_touch::Touch;
 
 /// The place of a change in the history: what each facet holds there, as the later changes in
 /// force tell it. The first of them that writes a facet found there what it asked for, and what
@@ -15,9 +17,11 @@ use keep_repo::{Bytes, Facet, Mark, Repo};
 #[derive(Clone, Copy)]
 pub(crate) struct Place<'a> {
     pub history: &'a History,
+    pub touch: &'a Touch,
     pub number: u64,
     pub live: &'a Repo,
     ghost formed: { AreWellFormed history.now.journal } by { AreWellFormed-prop history.now.journal },
+    ghost noted: { AreNoted touch.now history.now.journal } by { AreNoted-prop touch.now history.now.journal },
 }
 
 impl Place<'_> {
@@ -33,14 +37,8 @@ impl Place<'_> {
             (there facet ≡ held self.now.live.now facet)
             (λ c. IsWellFormed c × (there facet ≡ before_of c facet)) }
     {
-        for before in self.number..self.history.last_change() {
-            if let Some(change) = self.history.kept_change(before + 1) {
-                if change.writes(facet) {
-                    return Some(change);
-                }
-            }
-        }
-        None
+        let writer = self.touch.after(self.history, self.number, facet)?;
+        self.history.kept_change(writer)
     }
 }
 

@@ -1,8 +1,9 @@
 -- Each request is made as the laws of changes say.
-use Rattle.std.proofs.Common.{◌≡◌, ◌∙◌, ap}
+use Rattle.std.proofs.Common.{◌≡◌, ◌∙◌, ◌+◌, ap}
 use Rattle.keep_change.specs.Fold.{fold_of}
 use Rattle.keep_change.specs.Marks.{marks_of}
 use Rattle.keep_journal.specs.Event.{emptying}
+use Rattle.keep_journal.specs.History.{last_change, length_of}
 use Rattle.keep_journal.specs.Kept.{up_to}
 use Rattle.keep_journal.specs.Opening.{opening_under}
 use Rattle.keep_ledger.specs.LedgerState.{ledger_of_live}
@@ -12,13 +13,13 @@ use Rattle.keep_ledger.proofs.Doing.{made-Commit, made-Empty, made-Redo, made-Un
 use Rattle.keep_ledger.proofs.Marking.{new_opening}
 use Rattle.keep_ledger.proofs.making.change_live.Goals as goal
 
-pub apply-requires-clause-once : goal.apply-requires-clause-once
-apply-requires-clause-once c =
+pub apply_noted-requires-clause-once : goal.apply_noted-requires-clause-once
+apply_noted-requires-clause-once c =
     let can_be : CanBeMade (ledger_of_live c.args.history.now.journal c.args.live.now) (Commit c.in-Commit.planned) = rw c.in-Commit.is at c.requires.free in
     rw (c.as_change.ensures, c.in_ok-change-in-Commit.ensures) can_be.begins.formed.once
 
-pub apply-requires-clause-ready : goal.apply-requires-clause-ready
-apply-requires-clause-ready c =
+pub apply_noted-requires-clause-ready : goal.apply_noted-requires-clause-ready
+apply_noted-requires-clause-ready c =
     let can_be : CanBeMade (ledger_of_live c.args.history.now.journal c.args.live.now) (Commit c.in-Commit.planned) = rw c.in-Commit.is at c.requires.free in
     rw (c.as_change.ensures, c.in_ok-change-in-Commit.ensures) (ready-Commit _ c.requires.open c.in-Commit.planned can_be)
 
@@ -38,10 +39,10 @@ apply_change-requires c =
       ready = λ d found. ready-Redo (ledger_of_live c.args.history.now.journal c.args.live.now) c.requires.open c.in-Redo.number d can_be found;
     }
 
-pub returns-in_ok-apply-in-Commit-clause-made : goal.returns-in_ok-apply-in-Commit-clause-made
-returns-in_ok-apply-in-Commit-clause-made c =
+pub returns-in_ok-apply_noted-in-Commit-clause-made : goal.returns-in_ok-apply_noted-in-Commit-clause-made
+returns-in_ok-apply_noted-in-Commit-clause-made c =
     let can_be : CanBeMade (ledger_of_live c.args.history.now.journal c.args.live.now) (Commit c.in-Commit.planned) = rw c.in-Commit.is at c.requires.free in
-    rw (c.in-Commit.is, c.in_ok-apply-in-Commit.ensures.ok, c.as_change.ensures, c.in_ok-change-in-Commit.ensures)
+    rw (c.in-Commit.is, c.in_ok-apply_noted-in-Commit.ensures.made, c.as_change.ensures, c.in_ok-change-in-Commit.ensures)
     (made-Commit (ledger_of_live c.args.history.now.journal c.args.live.now) c.requires.open c.in-Commit.planned can_be)
 
 pub returns-in_ok-unapply_change-in-Undo-clause-made : goal.returns-in_ok-unapply_change-in-Undo-clause-made
@@ -69,3 +70,29 @@ pub returns-in_ok-marks-in-Empty-clause-made : goal.returns-in_ok-marks-in-Empty
 returns-in_ok-marks-in-Empty-clause-made c =
     let can_be : CanBeMade (ledger_of_live c.args.history.now.journal c.args.live.now) (Empty c.in-Empty.number) = rw c.in-Empty.is at c.requires.free in
     rw c.in-Empty.is (made-Empty (ledger_of_live c.args.history.now.journal c.args.live.now) c.requires.open c.in-Empty.number can_be)
+
+-- ---- the notes
+
+pub returns-in_ok-apply_noted-in-Commit-clause-noted : goal.returns-in_ok-apply_noted-in-Commit-clause-noted
+returns-in_ok-apply_noted-in-Commit-clause-noted c =
+    let j = c.args.history.now.journal in
+    let one = rw (c.last_change-number.ensures.exact, c.as_change.ensures, c.in_ok-change-in-Commit.ensures) at c.in_ok-apply_noted-in-Commit.ensures.noted in
+    rw c.in-Commit.is
+    (c.notes_follow_events.ensures.commit c.args.touch.now c.apply_noted.new.touch j (length_of j + 1) (last_change j + 1) c.in-Commit.planned.change c.requires.noted one)
+
+pub returns-in_ok-unapply_change-in-Undo-clause-noted : goal.returns-in_ok-unapply_change-in-Undo-clause-noted
+returns-in_ok-unapply_change-in-Undo-clause-noted c =
+    let j = c.args.history.now.journal in
+    rw c.in-Undo.is (c.notes_follow_events.ensures.undo c.args.touch.now j (length_of j + 1) c.in-Undo.number c.requires.noted)
+
+pub returns-in_ok-apply_change-in-Redo-clause-noted : goal.returns-in_ok-apply_change-in-Redo-clause-noted
+returns-in_ok-apply_change-in-Redo-clause-noted c =
+    let j = c.args.history.now.journal in
+    rw c.in-Redo.is (c.notes_follow_events.ensures.redo c.args.touch.now j (length_of j + 1) c.in-Redo.number c.requires.noted)
+
+pub returns-in_ok-marks-in-Empty-clause-noted : goal.returns-in_ok-marks-in-Empty-clause-noted
+returns-in_ok-marks-in-Empty-clause-noted c =
+    let j = c.args.history.now.journal in
+    let n = c.in-Empty.number in
+    rw c.in-Empty.is
+    (c.notes_follow_events.ensures.empty c.args.touch.now j (length_of j + 1) n (marks_of (fold_of (up_to j n) (opening_under j c.args.live.now))) c.requires.noted)
