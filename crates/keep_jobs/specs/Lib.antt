@@ -1,5 +1,4 @@
-pub mod Edits
 pub mod Job
 pub mod Kits
 pub mod Patterns
-pub mod Policies
+pub mod Resolving

@@ -1,5 +1,5 @@
-use keep_backup::Cut;
-use keep_labels::Count;
+use keep_backup::{BackupFacts, Cut};
+use keep_labels::{Edit, Policy};
 
 /// What all jobs of a run go by.
 #[derive(Clone, Copy)]
@@ -11,85 +11,39 @@ pub struct Settings {
     pub now: i64,
 }
 
-/// What one planner is asked for.
+/// What one planner is asked for, with all that it needs. `F` is how a filter is held ([`crate::HoldsFilter`]).
 #[derive(Drop)]
-pub enum Job {
-    Backup(Backup),
-    Tag(Tag),
-    Forget(Forget),
-    Rewrite(Rewrite),
+pub enum Job<F> {
+    /// Files to back up as a new snapshot, each by the text of its absolute path.
+    Backup {
+        facts: BackupFacts,
+        files: Vec<(String, Vec<u8>)>,
+    },
+    /// Something to do to the snapshots that the filter takes.
+    Filtered {
+        filter: F,
+        task: Task,
+    },
     /// One index of all packs in the place of all that there are.
     Repair,
     /// Marks for the packs that no snapshot needs.
     Mark,
-    /// To drop the packs whose marks have waited so many seconds; without a number, none.
-    Sweep(Option<u64>),
+    /// To drop the packs whose marks have waited so many seconds.
+    Sweep(u64),
 }
 
-/// Files to back up as a new snapshot.
+/// What is done to the snapshots that a filter takes.
 #[derive(Drop)]
-pub struct Backup {
-    pub host: String,
-    /// As RFC 3339 writes it.
-    pub time: String,
-    /// Each by the text of its absolute path, with its bytes.
-    pub files: Vec<(String, Vec<u8>)>,
-}
-
-/// Other tags for the snapshots that a filter takes.
-#[derive(Drop)]
-pub struct Tag {
-    /// The filter's name.
-    pub filter: String,
-    pub words: Vec<TagWord>,
-}
-
-/// Snapshots to drop, of those that a filter takes: the ones that no rule keeps.
-#[derive(Drop)]
-pub struct Forget {
-    /// The filter's name.
-    pub filter: String,
-    pub rules: Vec<Rule>,
-}
-
-/// Snapshots to make anew without what the patterns match, of those that a filter takes.
-#[derive(Drop)]
-pub struct Rewrite {
-    /// The filter's name.
-    pub filter: String,
-    /// Whether the old snapshots go.
-    pub forget: bool,
-    /// As [`keep_tree::parse_pattern`] reads them.
-    pub patterns: Vec<String>,
-}
-
-/// A part of an edit of tags.
-#[derive(Drop)]
-pub enum TagWord {
-    Add(String),
-    Remove(String),
-    /// To put a list in the tags' place, with this one in it. The empty text names none.
-    Set(String),
-}
-
-/// A part of a policy of forget.
-#[derive(Drop)]
-pub enum Rule {
-    Last(Count),
-    Daily(Count),
-    Weekly(Count),
-    Monthly(Count),
-    Yearly(Count),
-    /// Snapshots with this tag are kept.
-    Tag(String),
-}
-
-/// What a rule counts, if it counts.
-#[derive(Clone, Copy)]
-pub enum Span {
-    Last,
-    Day,
-    Week,
-    Month,
-    Year,
+pub enum Task {
+    /// They get other tags.
+    Tag(Edit),
+    /// Those that the policy doesn't keep are dropped.
+    Forget(Policy),
+    /// They are made anew without what the patterns match.
+    Rewrite {
+        /// Whether the old ones go.
+        forget: bool,
+        /// As [`keep_tree::parse_pattern`] reads them.
+        patterns: Vec<String>,
+    },
 }

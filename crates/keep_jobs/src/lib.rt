@@ -1,18 +1,16 @@
-//! Jobs: what a line, or one of a crew, asks a planner for, as data, and the plan that comes of it.
+//! Jobs: what a line, or a worker, asks a planner for, as values, and the plan that comes of it.
 #![tactic(auto)]
 
-mod edits;
-mod error;
-mod filters;
+mod holds_filter;
 mod job;
 mod kit;
 mod patterns;
 mod planning;
-mod policies;
+mod resolving;
+mod task;
 
-pub use edits::edit_of;
-pub use error::JobError;
-pub use job::{Backup, Forget, Job, Rewrite, Rule, Settings, Span, Tag, TagWord};
+pub use holds_filter::HoldsFilter;
+pub use job::{Job, Settings, Task};
 pub use kit::Kit;
 pub use planning::plan;
-pub use policies::policy_of;
+pub use resolving::resolve;

@@ -1,7 +1,6 @@
 -- The words of a line that backs files up: each file's word, and the two words in front.
-use Rattle.std.proofs.Common.{◌≡◌, ◌≢◌, ℕ, ◌+◌, ◌-◌, ◌<◌, ◌≤◌, List, [], ◌∷◌, ◌++◌, length, map, get_or, take, drop, Option, Some, None, MatchOption, Bor, String, Vec, string_bytes, refl, sym, ap, subst, ◌∙◌, take_all, take-append-drop, ap₂, lit<, arith, false, true}
+use Rattle.std.proofs.Common.{◌≡◌, ◌≢◌, ℕ, ◌+◌, ◌-◌, ◌<◌, ◌≤◌, List, [], ◌∷◌, ◌++◌, length, map, get_or, take, drop, Option, Some, None, MatchOption, Bor, string_bytes, refl, sym, ap, subst, ◌∙◌, take_all, take-append-drop, ap₂, lit<, arith, false, true}
 use Rattle.std.proofs.lemmas.Str.Pattern.{NoCharPasses-char, drop_at_char}
-use Rattle.std.specs.Global.{Global}
 use Rattle.std.specs.List.{AllByRecursion, join_with_byte}
 use Rattle.std.proofs.lemmas.List.Splits.{join_with_byte-slice_split}
 use Rattle.std.specs.Str.Iter.{LacksByte}
@@ -14,7 +13,7 @@ use Rattle.keep_lines.specs.BackupLine.{IsBackup, IsFile, backup_text, backup_wo
 use Rattle.keep_lines.specs.Prints.{NonePrints}
 use Rattle.keep_lines.specs.Word.{AreBytes, hex_text, hex_word}
 use Rattle.keep_lines.specs.WordList.{AreAll, AreSpaceless, words_for}
-use Rattle.keep_jobs.specs.declared.job.Backup.{Backup}
+use Rattle.keep_lines.specs.declared.backup_line.BackupLine.{BackupLine}
 
 -- no file's word is this
 abbrev pub IsNoFile : List ℕ → Type 0
@@ -25,7 +24,7 @@ abbrev pub NamesNoBackup : List ℕ → Type 0
 NamesNoBackup = NonePrints IsBackup backup_text
 
 -- the last place of a byte cuts a text in one way
-same_back : (c : ℕ) (a b d e : List ℕ) → LacksByte c b → LacksByte c e → a ++ c ∷ b ≡ d ++ c ∷ e → b ≡ e
+pub same_back : (c : ℕ) (a b d e : List ℕ) → LacksByte c b → LacksByte c e → a ++ c ∷ b ≡ d ++ c ∷ e → b ≡ e
 same_back c [] b [] e h k same = cc
 same_back c [] b (x ∷ d) e h k same =
     let tail : b ≡ d ++ c ∷ e = cc in
@@ -40,7 +39,7 @@ same_back c (x ∷ a) b (y ∷ d) e h k same =
 -- ---- the word of a file
 
 -- a hex word lacks what is neither a digit nor a dash
-hex_lacks : (c : ℕ) → is_lower_hex_digit c ≡ false → 45 ≢ c → (bytes : List ℕ) → IsBytes bytes → LacksByte c (hex_text bytes)
+pub hex_lacks : (c : ℕ) → is_lower_hex_digit c ≡ false → 45 ≢ c → (bytes : List ℕ) → IsBytes bytes → LacksByte c (hex_text bytes)
 hex_lacks c other dash [] h = lacks-cons c 45 [] dash (lacks-nil c)
 hex_lacks c other dash (b ∷ bs) h =
     λ k l e. let digit : is_lower_hex_digit (get_or (hex_text (b ∷ bs)) k 0) ≡ true = AllPass-encode_lower (b ∷ bs) h k 0 l in
@@ -69,7 +68,7 @@ no_bytes word path hex cut lacks none file h e =
 -- ---- the words of a backup
 
 -- the words of a backup's text are its words
-pub backup_split : (backup : Backup) (rest : List ℕ) → IsBackup backup → backup_text backup ≡ rest → parts_of rest ≡ backup_words backup
+pub backup_split : (backup : BackupLine) (rest : List ℕ) → IsBackup backup → backup_text backup ≡ rest → parts_of rest ≡ backup_words backup
 backup_split backup rest h e =
     ap parts_of (sym e)
     ∙ split_joined 32 (string_bytes backup.host) (string_bytes backup.time ∷ map file_word backup.files.items) (h.0.1, (h.1.1, all_lack IsFile file_word (λ file said. said.0) backup.files.items h.2))
@@ -93,7 +92,7 @@ too_few (a ∷ []) rest few cut backup h e = cc (cut ∙ backup_split backup res
 too_few (a ∷ b ∷ words) rest few cut backup h e = absurd (omega arith)
 
 -- the words of a backup, one by one
-same_words : (words : List (Bor (List ℕ))) (d : Bor (List ℕ)) (rest : List ℕ) → 2 ≤ length words → texts words ≡ parts_of rest → (backup : Backup) → IsBackup backup → backup_text backup ≡ rest
+same_words : (words : List (Bor (List ℕ))) (d : Bor (List ℕ)) (rest : List ℕ) → 2 ≤ length words → texts words ≡ parts_of rest → (backup : BackupLine) → IsBackup backup → backup_text backup ≡ rest
     → (string_bytes backup.host ≡ (get_or words 0 d).now) × (string_bytes backup.time ≡ (get_or words 1 d).now) × (map file_word backup.files.items ≡ texts (behind_two words))
 same_words words d rest some cut backup h e =
     let same : backup_words backup ≡ (get_or words 0 d).now ∷ (get_or words 1 d).now ∷ texts (behind_two words) = sym (backup_split backup rest h e) ∙ sym cut ∙ two_and_more words d some in
@@ -122,7 +121,7 @@ spaceless_behind [] rest some cut = absurd (omega arith)
 spaceless_behind (a ∷ words) rest some cut = (subst AreSpaceless (sym cut ∙ two_and_more (a ∷ words) a some) (parts_lack 32 rest)).1.1
 
 -- words of which the first two aren't empty and the others are files are a backup's
-pub backup_of_words : (words : List (Bor (List ℕ))) (d : Bor (List ℕ)) (rest : List ℕ) (backup : Backup) → 2 ≤ length words → texts words ≡ parts_of rest
+pub backup_of_words : (words : List (Bor (List ℕ))) (d : Bor (List ℕ)) (rest : List ℕ) (backup : BackupLine) → 2 ≤ length words → texts words ≡ parts_of rest
     → string_bytes backup.host ≡ (get_or words 0 d).now → string_bytes backup.time ≡ (get_or words 1 d).now → 0 < length (get_or words 0 d).now → 0 < length (get_or words 1 d).now
     → AllByRecursion IsFile backup.files.items → map file_word backup.files.items ≡ texts (behind_two words) → IsBackup backup × (backup_text backup ≡ rest)
 backup_of_words words d rest backup some cut host time host_some time_some files same =

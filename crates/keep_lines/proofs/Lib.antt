@@ -1,8 +1,11 @@
 pub mod BackupWords
+pub mod EditWords
 pub mod HexWord
 pub mod Mistakes
+pub mod OneCommand
 pub mod RewriteWords
 pub mod RuleWords
+pub mod SaidTexts
 pub mod TagWords
 pub mod WordLemmas
 pub mod WordLists

@@ -1,11 +1,11 @@
 -- The words of a rewrite, with the flag and without it.
-use Rattle.std.proofs.Common.{◌≡◌, ◌≢◌, ℕ, ◌<◌, ◌≤◌, Bool, true, false, List, [], ◌∷◌, ◌++◌, codes, length, map, get_or, Bor, String, string_bytes, refl, sym, ap, subst, ◌∙◌, arith}
+use Rattle.std.proofs.Common.{◌≡◌, ℕ, ◌<◌, ◌≤◌, Bool, true, false, List, [], ◌∷◌, codes, length, map, get_or, Bor, String, string_bytes, sym, ap, subst, ◌∙◌, arith}
 use Rattle.std.proofs.lemmas.List.Splits.{join_with_byte-slice_split}
 use Rattle.std.specs.Global.{Global, Vec}
 use Rattle.std.specs.List.{AllByRecursion, join_with_byte}
 use Rattle.std.specs.Str.Iter.{LacksByte}
-use Rattle.keep_jobs.specs.declared.job.Rewrite.{Rewrite}
-use Rattle.keep_lines.proofs.WordLists.{all_lack, behind_one, lacks-cons, lacks-nil, one_and_more, parts_lack, parts_of, spaceless_behind_one, split_joined, texts}
+use Rattle.keep_lines.specs.declared.rewrite_line.RewriteLine.{RewriteLine}
+use Rattle.keep_lines.proofs.WordLists.{all_lack, behind_one, lacks-cons, lacks-nil, one_and_more, parts_lack, parts_of, split_joined, texts}
 use Rattle.keep_lines.specs.Prints.{NonePrints}
 use Rattle.keep_lines.specs.RewriteLine.{CutsFlag, IsClear, IsRewrite, flagged, rewrite_text}
 use Rattle.keep_lines.specs.WordList.{AreSpaceless, IsWord}
@@ -33,7 +33,7 @@ flag_lacks =
     (lacks-cons 32 101 (codes "t") (λ e. omega (arith, e))
     (lacks-cons 32 116 [] (λ e. omega (arith, e)) (lacks-nil 32))))))
 
-flagged_lack : (forget : Bool) (patterns : List (String Global)) → AreWords patterns → AreSpaceless (flagged forget (pattern_texts patterns))
+pub flagged_lack : (forget : Bool) (patterns : List (String Global)) → AreWords patterns → AreSpaceless (flagged forget (pattern_texts patterns))
 flagged_lack true patterns h = (flag_lacks, all_lack (λ (p : String Global). IsWord (string_bytes p)) string_bytes (λ p said. said.1) patterns h)
 flagged_lack false patterns h = all_lack (λ (p : String Global). IsWord (string_bytes p)) string_bytes (λ p said. said.1) patterns h
 
@@ -52,7 +52,7 @@ same_rest false false xs ys e h k = e
 
 -- ---- cut and joined
 
-parts_of_rewrite : (r : Rewrite) (text : List ℕ) → IsRewrite r → rewrite_text r ≡ text
+parts_of_rewrite : (r : RewriteLine) (text : List ℕ) → IsRewrite r → rewrite_text r ≡ text
     → parts_of text ≡ string_bytes r.filter ∷ flagged r.forget (pattern_texts r.patterns.items)
 parts_of_rewrite r text h e =
     ap parts_of (sym e)
@@ -62,7 +62,7 @@ pub no_words_rewrite : (words : List (Bor (List ℕ))) (text : List ℕ) → len
 no_words_rewrite [] text few cut r h e = cc (cut ∙ parts_of_rewrite r text h e)
 no_words_rewrite (a ∷ words) text few cut r h e = absurd (omega arith)
 
-same_words : (words : List (Bor (List ℕ))) (d : Bor (List ℕ)) (text : List ℕ) → 1 ≤ length words → texts words ≡ parts_of text → (r : Rewrite) → IsRewrite r → rewrite_text r ≡ text
+same_words : (words : List (Bor (List ℕ))) (d : Bor (List ℕ)) (text : List ℕ) → 1 ≤ length words → texts words ≡ parts_of text → (r : RewriteLine) → IsRewrite r → rewrite_text r ≡ text
     → (string_bytes r.filter ≡ (get_or words 0 d).now) × (flagged r.forget (pattern_texts r.patterns.items) ≡ texts (behind_one words))
 same_words words d text some cut r h e =
     let same : string_bytes r.filter ∷ flagged r.forget (pattern_texts r.patterns.items) ≡ (get_or words 0 d).now ∷ texts (behind_one words) =
@@ -88,7 +88,7 @@ spaceless_rest words true rest flag h = (subst AreSpaceless flag.0 h).1
 spaceless_rest words false rest flag h = subst AreSpaceless flag.0 h
 
 -- words of which the first isn't empty and the others are patterns, behind the flag where it is set
-pub rewrite_of_words : (words : List (Bor (List ℕ))) (d : Bor (List ℕ)) (text : List ℕ) (r : Rewrite) → 1 ≤ length words → texts words ≡ parts_of text
+pub rewrite_of_words : (words : List (Bor (List ℕ))) (d : Bor (List ℕ)) (text : List ℕ) (r : RewriteLine) → 1 ≤ length words → texts words ≡ parts_of text
     → string_bytes r.filter ≡ (get_or words 0 d).now → 0 < length (get_or words 0 d).now
     → AreWords r.patterns.items → CutsFlag (texts (behind_one words)) r.forget (pattern_texts r.patterns.items) → IsRewrite r × (rewrite_text r ≡ text)
 rewrite_of_words words d text r some cut name name_some patterns flag =

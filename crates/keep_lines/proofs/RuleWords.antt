@@ -1,5 +1,5 @@
 -- The words of a line that forgets snapshots: rules, each cut at its first `=`, and counts that stand once.
-use Rattle.std.proofs.Common.{◌≡◌, ◌≢◌, ℕ, ◌+◌, ◌^◌, ◌<◌, ◌≤◌, Bool, inl, inr, true, false, eqb, List, [], ◌∷◌, ◌++◌, codes, count_by, get_or, is_some, length, map, Option, Some, None, Result, Ok, Err, IsSome, IfSome, ◌↔◌, String, string_bytes, refl, sym, ap, ap₂, subst, ◌∙◌, lit<, arith}
+use Rattle.std.proofs.Common.{◌≡◌, ◌≢◌, ℕ, ◌+◌, ◌^◌, ◌<◌, ◌≤◌, Bool, inl, inr, true, false, eqb, List, [], ◌∷◌, ◌++◌, codes, count_by, get_or, is_some, map, Option, Some, None, Result, Ok, Err, IsSome, IfSome, ◌↔◌, String, string_bytes, refl, sym, ap, ap₂, subst, ◌∙◌, lit<, arith}
 use Rattle.std.proofs.lemmas.Bool.{cases_Bool, eqb-false}
 use Rattle.std.proofs.lemmas.Fmt.{decimal_injective}
 use Rattle.std.proofs.lemmas.List.Sums.{sum_by-cons}
@@ -9,11 +9,11 @@ use Rattle.std.specs.List.{list_any}
 use Rattle.std.specs.Prelude.{⊤, cond, nat_le}
 use Rattle.std.specs.Result.{OkIff, result_ok}
 use Rattle.std.specs.Str.Iter.{LacksByte}
-use Rattle.keep_jobs.specs.Policies.{counted_by}
-use Rattle.keep_jobs.specs.declared.job.Rule.{Rule}
-use Rattle.keep_jobs.specs.declared.job.Rule.TheVariants as rule
-use Rattle.keep_jobs.specs.declared.job.Span.{Span}
-use Rattle.keep_jobs.specs.declared.job.Span.TheVariants.{Last, Day, Week, Month, Year}
+use Rattle.keep_lines.specs.Policies.{counted_by}
+use Rattle.keep_lines.specs.declared.forget_line.Rule.{Rule}
+use Rattle.keep_lines.specs.declared.forget_line.Rule.TheVariants as rule
+use Rattle.keep_lines.specs.declared.forget_line.Span.{Span}
+use Rattle.keep_lines.specs.declared.forget_line.Span.TheVariants.{Last, Day, Week, Month, Year}
 use Rattle.keep_labels.specs.declared.count.Count.{Count}
 use Rattle.keep_lines.proofs.WordLists.{lacks-cons, lacks-nil, lacks-not, lacks-tail, parts_for_filter}
 use Rattle.keep_lines.specs.ForgetLine.{IsCounted, IsForget, IsRule, count_once, forget_text, rule_text, stands_once}
@@ -41,7 +41,7 @@ cut_first c (x ∷ a) b (y ∷ d) e h k same =
     (rw (head, rest.0) refl, rest.1)
 
 -- a text lacks a byte, where no byte of it is that one
-lacks_test : (c : ℕ) (bs : List ℕ) → list_any (λ b. eqb b c) bs ≡ false → LacksByte c bs
+pub lacks_test : (c : ℕ) (bs : List ℕ) → list_any (λ b. eqb b c) bs ≡ false → LacksByte c bs
 lacks_test c [] e = lacks-nil c
 lacks_test c (b ∷ bs) e = elim (cases_Bool (eqb b c)) [
   | inl same ↦ absurd (cc (rw same at e))

@@ -1,8 +1,8 @@
 -- The words of a line that gives snapshots other tags.
-use Rattle.std.proofs.Common.{◌≡◌, ◌≢◌, ℕ, List, ◌∷◌, string_bytes, sym, ◌∙◌}
+use Rattle.std.proofs.Common.{◌≢◌, ℕ, List, ◌∷◌, string_bytes, sym}
 use Rattle.keep_lines.specs.Prints.{NonePrints}
 use Rattle.keep_lines.specs.TagLine.{IsTagWord, tag_word_text}
-use Rattle.keep_jobs.specs.declared.job.TagWord.TheVariants.{Add, Remove, Set}
+use Rattle.keep_lines.specs.declared.tag_line.TagWord.TheVariants.{Add, Remove, Set}
 
 -- a word without one of the signs is none
 pub no_tag_word : (word : List ℕ) → ((rest : List ℕ) → word ≢ 43 ∷ rest) → ((rest : List ℕ) → word ≢ 45 ∷ rest) → ((rest : List ℕ) → word ≢ 61 ∷ rest) → NonePrints IsTagWord tag_word_text word

@@ -8,7 +8,7 @@ use Rattle.std.specs.Global.{Global, Vec}
 use Rattle.std.specs.List.{All, AllByRecursion, join_with_byte, onto_first, slice_split}
 use Rattle.std.specs.Str.Iter.{LacksByte}
 use Rattle.keep_lines.specs.Prints.{NonePrints}
-use Rattle.keep_lines.specs.WordList.{AreSpaceless, IsForFilter, IsWord, filter_text}
+use Rattle.keep_lines.specs.WordList.{AreSpaceless, IsForFilter, filter_text}
 
 -- no values' words are these
 abbrev pub NamesNone : {W : Type 0} → (W → Type 0) → (W → List ℕ) → List (List ℕ) → Type 0

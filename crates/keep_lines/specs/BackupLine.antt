@@ -3,7 +3,7 @@ use Rattle.std.specs.Prelude.{ℕ, List, ◌∷◌, ◌++◌, String, codes, str
 use Rattle.std.specs.Global.{Global, Vec}
 use Rattle.std.specs.List.{join_with_byte}
 use Rattle.std.specs.Str.Iter.{LacksByte}
-use Rattle.keep_jobs.specs.declared.job.Backup.{Backup}
+use Rattle.keep_lines.specs.declared.backup_line.BackupLine.{BackupLine}
 use Rattle.keep_lines.specs.Word.{AreBytes, hex_word}
 use Rattle.keep_lines.specs.WordList.{AreAll, IsWord, words_for}
 
@@ -16,13 +16,13 @@ abbrev pub IsFile : String Global × Vec ℕ → Type 0
 IsFile file = LacksByte 32 (file_word file) × AreBytes file.1
 
 -- the words of a backup: the host, the time, and the files
-abbrev pub backup_words : Backup → List (List ℕ)
+abbrev pub backup_words : BackupLine → List (List ℕ)
 backup_words backup = string_bytes backup.host ∷ string_bytes backup.time ∷ words_for file_word backup.files
 
 -- these, with single spaces between
-abbrev pub backup_text : Backup → List ℕ
+abbrev pub backup_text : BackupLine → List ℕ
 backup_text backup = join_with_byte 32 (backup_words backup)
 
 -- a backup whose words are words
-abbrev pub IsBackup : Backup → Type 0
+abbrev pub IsBackup : BackupLine → Type 0
 IsBackup backup = IsWord (string_bytes backup.host) × IsWord (string_bytes backup.time) × AreAll IsFile backup.files

@@ -2,12 +2,12 @@
 use Rattle.std.specs.Prelude.{ℕ, ⊤, ◌&&◌, nat_le, Bool, IsTrue, List, ◌++◌, codes, count_by, is_some, string_bytes}
 use Rattle.std.specs.Fmt.{decimal}
 use Rattle.std.specs.Str.Iter.{LacksByte}
-use Rattle.keep_jobs.specs.Policies.{counted_by}
-use Rattle.keep_jobs.specs.declared.job.Forget.{Forget}
-use Rattle.keep_jobs.specs.declared.job.Rule.{Rule}
-use Rattle.keep_jobs.specs.declared.job.Rule.TheVariants as rule
-use Rattle.keep_jobs.specs.declared.job.Span.{Span}
-use Rattle.keep_jobs.specs.declared.job.Span.TheVariants.{Last, Day, Week, Month, Year}
+use Rattle.keep_lines.specs.Policies.{counted_by}
+use Rattle.keep_lines.specs.declared.forget_line.ForgetLine.{ForgetLine}
+use Rattle.keep_lines.specs.declared.forget_line.Rule.{Rule}
+use Rattle.keep_lines.specs.declared.forget_line.Rule.TheVariants as rule
+use Rattle.keep_lines.specs.declared.forget_line.Span.{Span}
+use Rattle.keep_lines.specs.declared.forget_line.Span.TheVariants.{Last, Day, Week, Month, Year}
 use Rattle.keep_labels.specs.declared.count.Count.{Count}
 use Rattle.keep_lines.specs.WordList.{IsForFilter, filter_text}
 
@@ -44,8 +44,8 @@ count_once rules =
     && stands_once Year rules
 
 -- `FILTER RULE ..`
-abbrev pub forget_text : Forget → List ℕ
+abbrev pub forget_text : ForgetLine → List ℕ
 forget_text forget = filter_text rule_text (forget.filter, forget.rules)
 
-abbrev pub IsForget : Forget → Type 0
+abbrev pub IsForget : ForgetLine → Type 0
 IsForget forget = IsForFilter IsRule (forget.filter, forget.rules) × IsTrue (count_once forget.rules.items)

@@ -1,9 +1,9 @@
 -- What a line says that gives snapshots other tags.
 use Rattle.std.specs.Prelude.{ℕ, List, ◌++◌, codes, string_bytes}
 use Rattle.std.specs.Str.Iter.{LacksByte}
-use Rattle.keep_jobs.specs.declared.job.Tag.{Tag}
-use Rattle.keep_jobs.specs.declared.job.TagWord.{TagWord}
-use Rattle.keep_jobs.specs.declared.job.TagWord.TheVariants.{Add, Remove, Set}
+use Rattle.keep_lines.specs.declared.tag_line.TagLine.{TagLine}
+use Rattle.keep_lines.specs.declared.tag_line.TagWord.{TagWord}
+use Rattle.keep_lines.specs.declared.tag_line.TagWord.TheVariants.{Add, Remove, Set}
 use Rattle.keep_lines.specs.WordList.{IsForFilter, filter_text}
 
 -- a tag behind the sign of what is done with it
@@ -17,8 +17,8 @@ abbrev pub IsTagWord : TagWord → Type 0
 IsTagWord word = LacksByte 32 (tag_word_text word)
 
 -- `FILTER WORD ..`
-abbrev pub tag_text : Tag → List ℕ
+abbrev pub tag_text : TagLine → List ℕ
 tag_text tag = filter_text tag_word_text (tag.filter, tag.words)
 
-abbrev pub IsTag : Tag → Type 0
+abbrev pub IsTag : TagLine → Type 0
 IsTag tag = IsForFilter IsTagWord (tag.filter, tag.words)

@@ -4,12 +4,21 @@ ghost use Rattle.keep_lines.specs.Prints.{Parses};
 
 use crate::word::parse_hex;
 use crate::word_list::{Word, parse_words};
-use keep_jobs::Backup;
 use std::alloc::{AllocError, Global};
+
+/// Files to back up as a new snapshot.
+#[derive(Drop)]
+pub struct BackupLine {
+    pub host: String,
+    /// As RFC 3339 writes it.
+    pub time: String,
+    /// Each by the text of its absolute path, with its bytes.
+    pub files: Vec<(String, Vec<u8>)>,
+}
 
 /// The backup that these words ask for: `HOST TIME PATH=HEX ..`. Whether the time and the paths are
 /// ones that can be backed up isn't asked.
-pub(crate) fn parse_backup(alloc: Global, text: &str) -> Result<Option<Backup>, AllocError>
+pub(crate) fn parse_backup(alloc: Global, text: &str) -> Result<Option<BackupLine>, AllocError>
     ensures { IfOk result (Parses IsBackup backup_text text.now) }
 {
     let words: Vec<&str> = text.split(' ').collect(alloc)?;
@@ -24,7 +33,7 @@ pub(crate) fn parse_backup(alloc: Global, text: &str) -> Result<Option<Backup>, 
     };
     let host = String::from_str(alloc, host)?;
     let time = String::from_str(alloc, time)?;
-    Ok(Some(Backup { host, time, files }))
+    Ok(Some(BackupLine { host, time, files }))
 }
 
 /// A path and the bytes of its file. A path may have `=` in it, so the last one ends it.

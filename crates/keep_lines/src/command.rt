@@ -7,20 +7,19 @@ ghost use Rattle.keep_lines.specs.Word.{IsName};
 ghost use Rattle.keep_lines.specs.declared.command.LineError.TheVariants as the_error;
 ghost use Rattle.keep_lines.specs.declared.mistake.Mistake.{Mistake};
 
-use crate::job_line::parse_job;
+use crate::job_line::{JobLine, parse_job};
 use crate::line::{is_passed_over, text_of};
 use crate::mistake::{Mistake, mistake_of};
 use crate::question::{Question, parse_question};
 use crate::raw_file::{RawFile, parse_raw_file};
 use crate::revision::{Revision, parse_revision};
 use crate::word::is_name;
-use keep_jobs::Job;
 use std::alloc::{AllocError, Global};
 
 /// What a line asks for.
 #[derive(Drop)]
 pub enum Command<'a> {
-    Job(Job),
+    Job(JobLine),
     RawFile(RawFile),
     Revision(Revision),
     Question(Question<'a>),

@@ -1,19 +1,64 @@
-ghost use Rattle.std.specs.Prelude.{◌≡◌, ◌++◌, ⊤, IfOk, codes, is_some};
+ghost use Rattle.std.specs.Prelude.{◌≡◌, ◌++◌, ⊤, IfOk, codes, is_some, option_map};
 ghost use Rattle.std.specs.Fmt.{decimal};
 ghost use Rattle.std.specs.Str.Iter.{LacksByte};
-ghost use Rattle.keep_jobs.specs.Policies.{counted_by};
+ghost use Rattle.keep_lines.specs.Policies.{counted_by};
 ghost use Rattle.keep_labels.specs.declared.count.Count.{Count};
 ghost use Rattle.keep_lines.specs.ForgetLine.{IsCounted, IsForget, count_once, forget_text, rule_text, stands_once};
 ghost use Rattle.keep_lines.specs.Prints.{Parses};
 
 use crate::word::parse_number;
 use crate::word_list::{Word, parse_for_filter};
-use keep_jobs::{Forget, Rule, Span};
 use keep_labels::Count;
 use std::alloc::{AllocError, Global};
 
+/// Snapshots to drop, of those that a filter takes: the ones that no rule keeps.
+#[derive(Drop)]
+pub struct ForgetLine {
+    /// The filter's name.
+    pub filter: String,
+    pub rules: Vec<Rule>,
+}
+
+/// A part of a policy of forget.
+#[derive(Drop)]
+pub enum Rule {
+    Last(Count),
+    Daily(Count),
+    Weekly(Count),
+    Monthly(Count),
+    Yearly(Count),
+    /// Snapshots with this tag are kept.
+    Tag(String),
+}
+
+/// What a rule counts, if it counts.
+#[derive(Clone, Copy)]
+pub(crate) enum Span {
+    Last,
+    Day,
+    Week,
+    Month,
+    Year,
+}
+
+impl Rule {
+    /// How many of these the rule keeps, if it counts these.
+    pub(crate) fn count_for(&self, span: Span) -> Option<Count>
+        ensures { option_map (λ count. count.number) result ≡ counted_by span self.now }
+    {
+        match (span, self) {
+            (Span::Last, Rule::Last(count)) => Some(*count),
+            (Span::Day, Rule::Daily(count)) => Some(*count),
+            (Span::Week, Rule::Weekly(count)) => Some(*count),
+            (Span::Month, Rule::Monthly(count)) => Some(*count),
+            (Span::Year, Rule::Yearly(count)) => Some(*count),
+            _ => None,
+        }
+    }
+}
+
 /// The forget that these words ask for: `FILTER RULE ..`, where no count stands twice.
-pub(crate) fn parse_forget(alloc: Global, text: &str) -> Result<Option<Forget>, AllocError>
+pub(crate) fn parse_forget(alloc: Global, text: &str) -> Result<Option<ForgetLine>, AllocError>
     ensures { IfOk result (Parses IsForget forget_text text.now) }
 {
     let Some((filter, rules)) = parse_for_filter(alloc, text)? else {
@@ -22,7 +67,7 @@ pub(crate) fn parse_forget(alloc: Global, text: &str) -> Result<Option<Forget>, 
     if !count_once(&rules) {
         return Ok(None);
     }
-    Ok(Some(Forget { filter, rules }))
+    Ok(Some(ForgetLine { filter, rules }))
 }
 
 /// `tag=T`, where T may be empty, or a count: `last=N` and so on, N being 1 to 1,048,576.

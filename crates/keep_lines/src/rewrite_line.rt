@@ -3,12 +3,22 @@ ghost use Rattle.keep_lines.specs.Prints.{Parses};
 ghost use Rattle.keep_lines.specs.RewriteLine.{CutsFlag, IsRewrite, rewrite_text};
 
 use crate::word_list::{Word, parse_words};
-use keep_jobs::Rewrite;
 use std::alloc::{AllocError, Global};
+
+/// Snapshots to make anew without what the patterns match, of those that a filter takes.
+#[derive(Drop)]
+pub struct RewriteLine {
+    /// The filter's name.
+    pub filter: String,
+    /// Whether the old snapshots go.
+    pub forget: bool,
+    /// As [`keep_tree::parse_pattern`] reads them.
+    pub patterns: Vec<String>,
+}
 
 /// The rewrite that these words ask for: `FILTER PATTERN ..`, or `FILTER forget PATTERN ..`. Whether the patterns are
 /// some isn't asked.
-pub(crate) fn parse_rewrite(alloc: Global, text: &str) -> Result<Option<Rewrite>, AllocError>
+pub(crate) fn parse_rewrite(alloc: Global, text: &str) -> Result<Option<RewriteLine>, AllocError>
     ensures { IfOk result (Parses IsRewrite rewrite_text text.now) }
 {
     let words: Vec<&str> = text.split(' ').collect(alloc)?;
@@ -23,7 +33,7 @@ pub(crate) fn parse_rewrite(alloc: Global, text: &str) -> Result<Option<Rewrite>
         return Ok(None);
     };
     let filter = String::from_str(alloc, filter)?;
-    Ok(Some(Rewrite {
+    Ok(Some(RewriteLine {
         filter,
         forget,
         patterns,

@@ -3,17 +3,33 @@ ghost use Rattle.keep_lines.specs.Prints.{Parses};
 ghost use Rattle.keep_lines.specs.TagLine.{IsTag, tag_text};
 
 use crate::word_list::{Word, parse_for_filter};
-use keep_jobs::{Tag, TagWord};
 use std::alloc::{AllocError, Global};
 
+/// Other tags for the snapshots that a filter takes.
+#[derive(Drop)]
+pub struct TagLine {
+    /// The filter's name.
+    pub filter: String,
+    pub words: Vec<TagWord>,
+}
+
+/// A part of an edit of tags.
+#[derive(Drop)]
+pub enum TagWord {
+    Add(String),
+    Remove(String),
+    /// To put a list in the tags' place, with this one in it. The empty text names none.
+    Set(String),
+}
+
 /// The other tags that these words ask for: `FILTER WORD ..`. Whether they make an edit isn't asked.
-pub(crate) fn parse_tag(alloc: Global, text: &str) -> Result<Option<Tag>, AllocError>
+pub(crate) fn parse_tag(alloc: Global, text: &str) -> Result<Option<TagLine>, AllocError>
     ensures { IfOk result (Parses IsTag tag_text text.now) }
 {
     let Some((filter, words)) = parse_for_filter(alloc, text)? else {
         return Ok(None);
     };
-    Ok(Some(Tag { filter, words }))
+    Ok(Some(TagLine { filter, words }))
 }
 
 /// `+T`, `-T` or `=T`, where T may be empty.

@@ -1,5 +1,5 @@
 -- What is written for a command, where its answer is known.
-use Rattle.std.proofs.Common.{◌≡◌, ◌≢◌, ℕ, List, [], Result, Ok, Err, Bool, true, false, Option, None, Some, is_none, IfOk, IfErr, inl, inr, ap, refl, subst, ◌∙◌}
+use Rattle.std.proofs.Common.{◌≡◌, ◌≢◌, ℕ, List, [], Result, Ok, Err, Bool, true, false, not, Option, None, Some, IfOk, IfErr, inl, inr, ap, refl, subst, ◌∙◌}
 use Rattle.std.proofs.KnownBytes.{Appends-kept, Appends-nil}
 use Rattle.std.specs.Io.KnownBytes.{Keeps}
 use Rattle.keep_book.specs.Armed.{IsUnchanged, Responds, hooks_of, ledger_of}
@@ -12,12 +12,10 @@ use Rattle.keep_ledger.specs.declared.reply.Told.{Told}
 use Rattle.keep_change.specs.declared.change.Change.{Change}
 use Rattle.keep_hooks.specs.Guards.{HooksData}
 use Rattle.keep_jobs.specs.Kits.{KitData}
-use Rattle.keep_filters.specs.declared.pick.Pick.{Pick}
-use Rattle.keep_jobs.specs.Job.{SettingsData, by_rule, has_no_filter, job_change, no_memory, or_refused, settings_view}
-use Rattle.keep_jobs.specs.declared.error.JobError.{JobError}
-use Rattle.keep_jobs.specs.declared.error.JobError.TheVariants.{NoFilter, Refused}
-use Rattle.keep_jobs.specs.declared.job.Job.{Job}
-use Rattle.keep_jobs.specs.declared.job.Job.TheVariants as the_job
+use Rattle.keep_jobs.specs.Job as job
+use Rattle.keep_jobs.specs.Job.{JobData, has_bad_edit, job_change, settings_view}
+use Rattle.keep_jobs.specs.Resolving.{job_of, takes_memory}
+use Rattle.keep_labels.specs.Edits.{is_bad_edit}
 use Rattle.keep_lines.specs.Command.{Asks}
 use Rattle.keep_lines.specs.Line.{IsLine}
 use Rattle.keep_lines.specs.Mistake.{IsMistake}
@@ -26,20 +24,19 @@ use Rattle.keep_lines.specs.declared.command.Command.{Command}
 use Rattle.keep_lines.specs.declared.command.Command.TheVariants as the_command
 use Rattle.keep_lines.specs.declared.command.LineError.{LineError}
 use Rattle.keep_lines.specs.declared.command.LineError.TheVariants.{Bad, Memory}
+use Rattle.keep_lines.specs.declared.job_line.JobLine.{JobLine}
 use Rattle.keep_lines.specs.declared.mistake.Mistake.{Mistake}
 use Rattle.keep_lines.specs.declared.mistake.Mistake.TheVariants.{NoFilter as NoSuchFilter}
 use Rattle.keep_lines.specs.declared.reply.Sizes.{Sizes}
 use Rattle.keep_plan.specs.declared.plan_error.PlanError.{PlanError}
 use Rattle.keep_plan.specs.declared.plan_error.PlanError.TheVariants as plan_error
-use Rattle.keep_view.specs.Shown.{Shown}
-use Rattle.keep_script.specs.Answer.{AnswersTo, Committed, Done, Shows, commit_of, shown_by}
+use Rattle.keep_script.specs.Answer.{AnswersTo, Committed, Done, JobAnswered, Shows, commit_of, shown_by}
 use Rattle.keep_script.specs.Known.{Puts, Writes}
 use Rattle.keep_script.specs.State.{State, state_of}
 use Rattle.keep_script.specs.declared.session.Session.{Session}
 use Rattle.keep_script.specs.Status.{stop_of}
 use Rattle.keep_script.specs.Step.{AnswersCommand, AnswersLine}
-use Rattle.keep_script.specs.Outcome.{AnswersJob}
-use Rattle.keep_script.specs.Text.{commit_text, reply_answer, unplanned_answer}
+use Rattle.keep_script.specs.Text.{commit_text, no_memory_answer, outcome_answer, reply_answer, unplanned_answer}
 use Rattle.keep_script.specs.declared.status.Stop.{Stop}
 use Rattle.keep_script.specs.declared.status.Stop.TheVariants.{BadLine, ReadFailed, ScriptTooLong, WriteFailed, NoMemory}
 
@@ -96,53 +93,37 @@ Committed-by kit session book book' change sizes reply asks counted = record {
   left = left_by kit session book book' (commit_of (ledger_of book) change) reply asks;
 }
 
--- what came of a job was answered: it was committed as it was to be planned, it was refused as it was to be, or memory ran out, where its filter was there
-Job-made : {I F g J E h : _} (kit : KitData) (session : Session) (book book' : Book I F g J E h) (job : Job) (made : Result Told Refusal × Sizes) (change : Change)
-    → job_change (shown_by (ledger_of book)) (settings_view session.settings kit.filters) job ≡ Ok change → Responds book (commit_of (ledger_of book) change) made.0 book' → made.1 ≡ sizes_of change
-    → AnswersTo (state_of kit session book) (the_command.Job job) (reply_answer (commit_text made.1) made.0) (state_of kit session book')
+-- ---- jobs
+
+-- what came of a job was answered: it was committed as it was to be planned
+Job-made : {I F g J E h : _} (kit : KitData) (session : Session) (book book' : Book I F g J E h) (job : JobData) (made : Result Told Refusal × Sizes) (change : Change)
+    → job_change (shown_by (ledger_of book)) (settings_view session.settings) job ≡ Ok change → Responds book (commit_of (ledger_of book) change) made.0 book' → made.1 ≡ sizes_of change
+    → JobAnswered (state_of kit session book) job (reply_answer (commit_text made.1) made.0) (state_of kit session book')
 Job-made kit session book book' job made change due asks counted =
     rw due (inl (Committed-by kit session book book' change made.1 made.0 asks counted))
 
-Job-refused : (state after : State) (job : Job) (refusal : PlanError)
-    → (Refused refusal ≢ no_memory → job_change (shown_by state.book) state.settings job ≡ Err (Refused refusal))
-    → (Refused refusal ≡ no_memory → has_no_filter state.settings.filters job ≡ false)
-    → after ≡ state → AnswersTo state (the_command.Job job) (unplanned_answer refusal) after
-Job-refused state after job plan_error.BadPath due named same = rw (due (λ e. cc e)) (inl (record { text = refl; same = same }))
-Job-refused state after job plan_error.SamePathTwice due named same = rw (due (λ e. cc e)) (inl (record { text = refl; same = same }))
-Job-refused state after job plan_error.BadTime due named same = rw (due (λ e. cc e)) (inl (record { text = refl; same = same }))
-Job-refused state after job plan_error.BadEdit due named same = rw (due (λ e. cc e)) (inl (record { text = refl; same = same }))
-Job-refused state after job plan_error.BadPattern due named same = rw (due (λ e. cc e)) (inl (record { text = refl; same = same }))
-Job-refused state after job (plan_error.Unread file) due named same = rw (due (λ e. cc e)) (inl (record { text = refl; same = same }))
-Job-refused state after job (plan_error.Reach why) due named same = rw (due (λ e. cc e)) (inl (record { text = refl; same = same }))
-Job-refused state after job plan_error.TooDeep due named same = rw (due (λ e. cc e)) (inl (record { text = refl; same = same }))
-Job-refused state after job plan_error.Full due named same = rw (due (λ e. cc e)) (inl (record { text = refl; same = same }))
-Job-refused state after job plan_error.SnapshotThere due named same = rw (due (λ e. cc e)) (inl (record { text = refl; same = same }))
-Job-refused state after job plan_error.NothingToDo due named same = rw (due (λ e. cc e)) (inl (record { text = refl; same = same }))
-Job-refused state after job plan_error.Memory due named same = inr (named refl, record { text = refl; same = same })
+-- an edit that isn't refused as bad is none
+good_edit : (bad : Bool) → (bad ≡ true → ◌≡◌ {A = PlanError} plan_error.Memory plan_error.BadEdit) → bad ≡ false
+good_edit true refused = let same : ◌≡◌ {A = PlanError} plan_error.Memory plan_error.BadEdit = refused refl in cc same
+good_edit false refused = refl
 
--- a job is refused for want of its filter just where it names none that is stored
-refused_is_named : (planned : Result Change PlanError) → or_refused planned ≢ Err NoFilter
-refused_is_named (Ok change) e = cc e
-refused_is_named (Err refusal) e = cc e
-
-by_rule_unnamed : (rule : Option Pick) (planned : Pick → Result Change PlanError) → by_rule rule planned ≡ Err NoFilter → is_none rule ≡ true
-by_rule_unnamed None planned e = refl
-by_rule_unnamed (Some rule) planned e = absurd (refused_is_named (planned rule) e)
-
-job_unnamed : (shown : Shown) (settings : SettingsData) (job : Job) → job_change shown settings job ≡ Err NoFilter → has_no_filter settings.filters job ≡ true
-job_unnamed shown settings (the_job.Backup backup) e = absurd (refused_is_named _ e)
-job_unnamed shown settings (the_job.Tag tag) e = by_rule_unnamed _ _ e
-job_unnamed shown settings (the_job.Forget forget) e = by_rule_unnamed _ _ e
-job_unnamed shown settings (the_job.Rewrite rewrite) e = by_rule_unnamed _ _ e
-job_unnamed shown settings the_job.Repair e = absurd (refused_is_named _ e)
-job_unnamed shown settings the_job.Mark e = absurd (refused_is_named _ e)
-job_unnamed shown settings (the_job.Sweep wait) e = absurd (refused_is_named _ e)
-
--- nothing is written for a job that names no filter
-Job-unnamed : (a b : Option (List ℕ)) (state after : State) (job : Job) (r : Result (Unit {0}) Stop)
-    → job_change (shown_by state.book) state.settings job ≡ Err NoFilter → after ≡ state → r ≡ Err (BadLine NoSuchFilter) → Keeps a b
-    → Writes a b (λ t. AnswersCommand state (the_command.Job job) t r after)
-Job-unnamed a b state after job r due same bad kept = rw bad ([], Appends-kept a a b [] (Appends-nil a) kept, ((job_unnamed (shown_by state.book) state.settings job due, refl), record { text = refl; same = same }))
+-- or it was refused as it was to be, or memory ran out, and its edit isn't bad
+Job-refused : (state after : State) (job : JobData) (refusal : PlanError)
+    → (refusal ≢ plan_error.Memory → job_change (shown_by state.book) state.settings job ≡ Err refusal)
+    → (has_bad_edit job ≡ true → refusal ≡ plan_error.BadEdit)
+    → after ≡ state → JobAnswered state job (unplanned_answer refusal) after
+Job-refused state after job plan_error.BadPath due bad same = rw (due (λ e. cc e)) (inl (record { text = refl; same = same }))
+Job-refused state after job plan_error.SamePathTwice due bad same = rw (due (λ e. cc e)) (inl (record { text = refl; same = same }))
+Job-refused state after job plan_error.BadTime due bad same = rw (due (λ e. cc e)) (inl (record { text = refl; same = same }))
+Job-refused state after job plan_error.BadEdit due bad same = rw (due (λ e. cc e)) (inl (record { text = refl; same = same }))
+Job-refused state after job plan_error.BadPattern due bad same = rw (due (λ e. cc e)) (inl (record { text = refl; same = same }))
+Job-refused state after job (plan_error.Unread file) due bad same = rw (due (λ e. cc e)) (inl (record { text = refl; same = same }))
+Job-refused state after job (plan_error.Reach why) due bad same = rw (due (λ e. cc e)) (inl (record { text = refl; same = same }))
+Job-refused state after job plan_error.TooDeep due bad same = rw (due (λ e. cc e)) (inl (record { text = refl; same = same }))
+Job-refused state after job plan_error.Full due bad same = rw (due (λ e. cc e)) (inl (record { text = refl; same = same }))
+Job-refused state after job plan_error.SnapshotThere due bad same = rw (due (λ e. cc e)) (inl (record { text = refl; same = same }))
+Job-refused state after job plan_error.NothingToDo due bad same = rw (due (λ e. cc e)) (inl (record { text = refl; same = same }))
+Job-refused state after job plan_error.Memory due bad same = inr (good_edit (has_bad_edit job) bad, record { text = refl; same = same })
 
 -- what is asked of a book that was left alone is asked of the book before
 pub asked_after : {I F g J E h : _} (book same after : Book I F g J E h) (request : Request) (reply : Result Told Refusal) → IsUnchanged book same
@@ -159,14 +140,20 @@ left_alone : {I F g J E h : _} (kit : KitData) (session : Session) (book book' :
     → state_of kit session book' ≡ state_of kit session book
 left_alone kit session book book' same = rw (same.ledger, same.hooks) refl
 
-pub Job-answer : {I F g J E h : _} (a b : Option (List ℕ)) (kit : KitData) (session : Session) (book book' : Book I F g J E h) (job : Job) (outcome : Result (Result Told Refusal × Sizes) JobError) (r : Result (Unit {0}) Stop)
-    → IfOk outcome (λ made. (change : Change) × (job_change (shown_by (ledger_of book)) (settings_view session.settings kit.filters) job ≡ Ok change) × Responds book (commit_of (ledger_of book) change) made.0 book' × (made.1 ≡ sizes_of change))
-    → IfErr outcome (λ refusal. refusal ≢ no_memory → job_change (shown_by (ledger_of book)) (settings_view session.settings kit.filters) job ≡ Err refusal) → IfErr outcome (λ refusal. refusal ≡ no_memory → has_no_filter kit.filters job ≡ false) → IfErr outcome (λ refusal. IsUnchanged book book') → AnswersJob a b outcome r
-    → Writes a b (λ t. AnswersCommand (state_of kit session book) (the_command.Job job) t r (state_of kit session book'))
-Job-answer a b kit session book book' job (Ok made) r h refused named same puts =
-    AnswersCommand-puts a b _ _ (the_command.Job job) _ r puts (Job-made kit session book book' job made h.0 h.1 h.2 h.3)
-Job-answer a b kit session book book' job (Err (Refused refusal)) r made due named same puts =
-    AnswersCommand-puts a b _ _ (the_command.Job job) _ r puts
-    (Job-refused (state_of kit session book) (state_of kit session book') job refusal due named (left_alone kit session book book' same))
-Job-answer a b kit session book book' job (Err NoFilter) r made due named same (bad, kept) =
-    Job-unnamed a b (state_of kit session book) (state_of kit session book') job r (due (λ e. cc e)) (left_alone kit session book book' same) bad kept
+-- the answer to a line's job, whose values were found
+pub Job-answer : {I F g J E h : _} (a b : Option (List ℕ)) (kit : KitData) (session : Session) (book book' : Book I F g J E h) (line : JobLine) (asked : JobData)
+    (outcome : Result (Result Told Refusal × Sizes) PlanError) (r : Result (Unit {0}) Stop) → job_of kit.filters line ≡ Some asked
+    → IfOk outcome (λ made. (change : Change) × (job_change (shown_by (ledger_of book)) (settings_view session.settings) asked ≡ Ok change) × Responds book (commit_of (ledger_of book) change) made.0 book' × (made.1 ≡ sizes_of change))
+    → IfErr outcome (λ refusal. refusal ≢ plan_error.Memory → job_change (shown_by (ledger_of book)) (settings_view session.settings) asked ≡ Err refusal)
+    → (has_bad_edit asked ≡ true → outcome ≡ Err plan_error.BadEdit) → IfErr outcome (λ refusal. IsUnchanged book book') → Puts a b (outcome_answer outcome) r
+    → Writes a b (λ t. AnswersCommand (state_of kit session book) (the_command.Job line) t r (state_of kit session book'))
+Job-answer a b kit session book book' line asked (Ok made) r named h refused bad same puts =
+    AnswersCommand-puts a b _ _ (the_command.Job line) _ r puts (asked, named, Job-made kit session book book' asked made h.0 h.1 h.2 h.3)
+Job-answer a b kit session book book' line asked (Err refusal) r named made due bad same puts =
+    AnswersCommand-puts a b _ _ (the_command.Job line) _ r puts (
+      asked,
+      named,
+      Job-refused (state_of kit session book) (state_of kit session book') asked refusal due
+          (λ is. let refused : ◌≡◌ {A = Result (Result Told Refusal × Sizes) PlanError} (Err refusal) (Err plan_error.BadEdit) = bad is in cc refused)
+          (left_alone kit session book book' same),
+    )

@@ -17,10 +17,9 @@ use Rattle.keep_ledger.specs.Sums.{sums_of}
 use Rattle.keep_ledger.specs.declared.reply.Told.{Told}
 use Rattle.keep_read.specs.Findings.{findings_in}
 use Rattle.keep_read.specs.Restored.{restored, snapshot_facet}
-use Rattle.keep_jobs.specs.Job.{has_no_filter, job_change}
-use Rattle.keep_jobs.specs.declared.error.JobError.{JobError}
-use Rattle.keep_jobs.specs.declared.error.JobError.TheVariants as job_error
-use Rattle.keep_jobs.specs.declared.job.Job as the_job
+use Rattle.keep_jobs.specs.Job.{JobData, has_bad_edit, job_change}
+use Rattle.keep_jobs.specs.Resolving.{job_of}
+use Rattle.keep_plan.specs.declared.plan_error.PlanError.{PlanError}
 use Rattle.keep_lines.specs.Command.{Asks}
 use Rattle.keep_lines.specs.Line.{IsLine, IsPassedOver}
 use Rattle.keep_lines.specs.Mistake.{IsMistake}
@@ -64,16 +63,16 @@ Committed state change text after =
     Asked state (commit_of state.book change) (commit_text (sizes_of change)) text after
 
 -- a planned change is committed, or its planner's refusal is written and nothing changes
-abbrev pub CommittedOrRefused : State → Result Change JobError → List ℕ → State → Type 0
+abbrev pub CommittedOrRefused : State → Result Change PlanError → List ℕ → State → Type 0
 CommittedOrRefused state (Ok change) text after = Committed state change text after
-CommittedOrRefused state (Err job_error.NoFilter) text after = ⊥
-CommittedOrRefused state (Err (job_error.Refused refusal)) text after =
-    Shows state (unplanned_answer refusal) text after
+CommittedOrRefused state (Err refusal) text after = Shows state (unplanned_answer refusal) text after
 
--- memory runs out for a job whose filter isn't missing: a missing one is found before memory is taken
-abbrev pub RunsOut : State → the_job.Job → List ℕ → State → Type 0
-RunsOut state job text after =
-    (has_no_filter state.settings.filters job ≡ false) × Shows state no_memory_answer text after
+-- a job is planned and committed, or refused; memory may run out, but not for a bad edit, which is found before memory
+-- is taken
+abbrev pub JobAnswered : State → JobData → List ℕ → State → Type 0
+JobAnswered state job text after =
+    CommittedOrRefused state (job_change (shown_by state.book) state.settings job) text after
+    ⊎ ((has_bad_edit job ≡ false) × Shows state no_memory_answer text after)
 
 -- what a restore is answered: its outcome, or that memory runs out where the snapshot isn't missing: a missing one is
 -- found before memory is taken
@@ -104,12 +103,12 @@ Arms state name text after =
     ⊎ (IsSpare state name × Shows state no_memory_answer text after)
     ⊎ ((armed : State) × ArmsOne state name armed × Shows armed (armed_answer name) text after)
 
--- the answer to a command, and the state that it leaves: a job is planned and committed, a file by itself committed, a
--- revision asked of the book; a question changes nothing; a note is kept; what is named is armed
+-- the answer to a command, and the state that it leaves: a job with the filter of its name is planned and committed, a
+-- file by itself committed, a revision asked of the book; a question changes nothing; a note is kept; what is named is
+-- armed
 abbrev pub AnswersTo : State → Command → List ℕ → State → Type 0
-AnswersTo state (Job job) text after =
-    CommittedOrRefused state (job_change (shown_by state.book) state.settings job) text after
-    ⊎ RunsOut state job text after
+AnswersTo state (Job line) text after =
+    (job : JobData) × (job_of state.filters line ≡ Some job) × JobAnswered state job text after
 AnswersTo state (RawFile file) text after =
     (change : Change) × (file_change state.book file ≡ Some change) × Committed state change text after
 AnswersTo state (Revision revision) text after = Asked state (request_of revision) told_text text after
@@ -130,8 +129,7 @@ FindsNothing state Totals why = ⊥
 
 -- a command names what isn't there: so does a job by a filter, a question, or a drop of what a change added
 abbrev pub NamesNothing : State → Command → Mistake → Type 0
-NamesNothing state (Job job) why =
-    (has_no_filter state.settings.filters job ≡ true) × (why ≡ NoFilter)
+NamesNothing state (Job line) why = (job_of state.filters line ≡ None) × (why ≡ NoFilter)
 NamesNothing state (RawFile file) why = (file_change state.book file ≡ None) × (why ≡ NoFile)
 NamesNothing state (Revision revision) why = ⊥
 NamesNothing state (Question question) why = FindsNothing state question why

@@ -3,7 +3,6 @@ pub mod Arming
 pub mod Input
 pub mod Known
 pub mod Line
-pub mod Outcome
 pub mod RawFile
 pub mod Run
 pub mod State

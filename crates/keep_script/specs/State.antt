@@ -12,10 +12,11 @@ use Rattle.keep_jobs.specs.Job.{SettingsData, settings_view}
 use Rattle.keep_script.specs.declared.notes.Notes.{Notes}
 use Rattle.keep_script.specs.declared.session.Session.{Session}
 
--- what jobs go by; a book, and what is armed over it; the vetoes and watches that can still be armed; and under each
--- name the repository that was noted last
+-- what jobs go by, and the filters that lines may name; a book, and what is armed over it; the vetoes and watches that
+-- can still be armed; and under each name the repository that was noted last
 pub record State : Type 0 where
   pub settings : SettingsData
+  pub filters : List NamedRule
   pub book : LedgerState
   pub armed : HooksData
   pub spare_vetoes : List Rule
@@ -26,14 +27,15 @@ pub record State : Type 0 where
 abbrev pub no_notes : List ℕ → Option Repository
 no_notes name = None
 
--- what jobs go by: backups cut files after so many bytes, it is this moment, and these filters are stored
-abbrev pub settled : ℕ → ℤ → List NamedRule → SettingsData
-settled cut now filters = record { cut = cut; now = now; filters = filters }
+-- what jobs go by: backups cut files after so many bytes, and it is this moment
+abbrev pub settled : ℕ → ℤ → SettingsData
+settled cut now = record { cut = cut; now = now }
 
 -- a book over a repository without files and marks, nothing armed, and no notes
 abbrev pub begun : ℕ → ℤ → KitData → State
 begun cut now kit = record {
-  settings = settled cut now kit.filters;
+  settings = settled cut now;
+  filters = kit.filters;
   book = new_ledger empty_repository;
   armed = record { vetoes = []; watches = [] };
   spare_vetoes = kit.vetoes;
@@ -45,6 +47,7 @@ begun cut now kit = record {
 abbrev pub begun_over : {I F g J E h : _} → SettingsData → KitData → Book I F g J E h → State
 begun_over settings kit book = record {
   settings = settings;
+  filters = kit.filters;
   book = ledger_of book;
   armed = hooks_of book;
   spare_vetoes = kit.vetoes;
@@ -63,7 +66,8 @@ notes_of notes name = get_by_text notes.held name
 -- the state that these are, with what the kit still has
 abbrev pub state_of : {I F g J E h : _} → KitData → Session → Book I F g J E h → State
 state_of kit session book = record {
-  settings = settings_view session.settings kit.filters;
+  settings = settings_view session.settings;
+  filters = kit.filters;
   book = ledger_of book;
   armed = hooks_of book;
   spare_vetoes = kit.vetoes;
@@ -73,4 +77,4 @@ state_of kit session book = record {
 
 -- the kit that goes with the state: its filters, and what can still be armed
 abbrev pub kit_of : State → KitData
-kit_of state = record { filters = state.settings.filters; vetoes = state.spare_vetoes; watches = state.spare_watches }
+kit_of state = record { filters = state.filters; vetoes = state.spare_vetoes; watches = state.spare_watches }

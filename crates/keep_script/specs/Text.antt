@@ -47,6 +47,11 @@ abbrev pub reply_answer : (Told → List ℕ) → Result Told Refusal → List �
 reply_answer accepted (Ok told) = line (accepted told)
 reply_answer accepted (Err refusal) = refused_answer refusal
 
+-- the answer to a job that was to be planned and committed
+abbrev pub outcome_answer : Result (Result Told Refusal × Sizes) PlanError → List ℕ
+outcome_answer (Ok made) = reply_answer (commit_text made.1) made.0
+outcome_answer (Err refusal) = unplanned_answer refusal
+
 -- the answer to `count`
 abbrev pub count_answer : Repository → List ℕ
 count_answer repository = line (counts_text (map.len repository.files) (map.len repository.marks))

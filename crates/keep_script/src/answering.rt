@@ -1,12 +1,13 @@
-ghost use Rattle.std.specs.Prelude.{◌≡◌, ◌≢◌, ◌≤◌, Err, IfErr, IfOk, Ok, false, length};
+ghost use Rattle.std.specs.Prelude.{◌≡◌, ◌≢◌, ◌≤◌, Err, IfErr, IfOk, Ok, length, true};
 ghost use Rattle.keep_book.specs.Armed.{HasSums, ledger_of};
 ghost use Rattle.keep_ledger.specs.declared.request.Request.TheVariants as request;
 ghost use Rattle.keep_change.specs.declared.change.Change.{Change};
-ghost use Rattle.keep_jobs.specs.Kits.{KitData, filters_of, kit_view};
-ghost use Rattle.keep_jobs.specs.Job.{has_no_filter, job_change, no_memory, settings_view};
+ghost use Rattle.keep_jobs.specs.Job.{has_bad_edit, job_change, job_view, settings_view};
+ghost use Rattle.keep_jobs.specs.Kits.{KitData, kit_view};
 ghost use Rattle.keep_lines.specs.Line.{longest_line};
 ghost use Rattle.keep_lines.specs.Reply.{sizes_of};
 ghost use Rattle.keep_lines.specs.declared.command.Command.TheVariants as the_command;
+ghost use Rattle.keep_plan.specs.declared.plan_error.PlanError.TheVariants as plan_error;
 ghost use Rattle.keep_script.specs.Answer.{commit_of, shown_by};
 ghost use Rattle.keep_book.specs.Armed.{IsUnchanged, Responds};
 ghost use Rattle.keep_script.specs.Known.{Writes, WritesLines};
@@ -17,17 +18,22 @@ use crate::arming::{Unarmed, arm};
 use crate::listing::{write_count, write_history, write_list, write_totals};
 use crate::output::put_line;
 use crate::raw_file::{change_of_file, find};
-use crate::reply::{Outcome, answer_job, write_audit, write_committed, write_reply, write_restore};
+use crate::reply::{
+    Outcome, write_audit, write_committed, write_outcome, write_reply, write_restore,
+};
 use crate::session::Session;
 use crate::status::Stop;
 use keep_book::Book;
 use keep_change::{Change, Planned};
-use keep_jobs::{Job, JobError, Kit, Settings, plan};
+use keep_filters::Filter;
+use keep_jobs::{Job, Kit, Settings, plan, resolve};
 use keep_ledger::Request;
 use keep_lines::{
-    Armed, Command, Compared, Mistake, Noted, Question, RawFile, Refused, Revision, Sizes, parse,
+    Armed, Command, Compared, JobLine, LineError, Mistake, Noted, Question, RawFile, Refused,
+    Revision, Sizes, parse,
 };
 use keep_names::Kind;
+use keep_plan::PlanError;
 use keep_read::{audit, restore};
 use std::alloc::Global;
 use std::io::Write;
@@ -71,7 +77,7 @@ impl Session {
         ensures input { self.new.input ≡ self.old.input }
     {
         match command {
-            Command::Job(job) => self.do_job(&job, kit, book, writer),
+            Command::Job(line) => self.do_job(line, kit, book, writer),
             Command::RawFile(file) => self.change_file(file, book, writer),
             Command::Revision(revision) => self.revise(revision, book, writer),
             Command::Question(question) => self.tell(question, book, writer),
@@ -80,22 +86,29 @@ impl Session {
         }
     }
 
-    /// Plans the job on the present state, and commits it at once.
+    /// Plans the job that the line asks for on the present state, and commits it at once.
     fn do_job<W: Write>(
         &self,
-        job: &Job,
+        line: JobLine,
         kit: &Kit,
         book: &mut Book,
         writer: &mut W,
     ) -> Result<(), Stop>
         requires { HasSums book.old }
         ensures answers { Writes (W.contents writer.old) (W.contents writer.new) (λ text.
-            AnswersCommand (state_of (kit_view kit.now) self.now book.old) (the_command.Job job.now) text result
+            AnswersCommand (state_of (kit_view kit.now) self.now book.old) (the_command.Job line) text result
             (state_of (kit_view kit.now) self.now book.new)) }
         ensures whole { result ≢ Err Stop.WriteFailed → WritesLines (W.contents writer.old) (W.contents writer.new) }
     {
-        let outcome = perform(self.alloc, job, self.settings, kit, book);
-        answer_job(self.alloc, outcome, writer)
+        let alloc = self.alloc;
+        match resolve(alloc, kit, line) {
+            Ok(job) => {
+                let outcome = perform(alloc, &job, self.settings, book);
+                write_outcome(alloc, outcome, writer)
+            }
+            Err(LineError::Bad(why)) => Err(Stop::BadLine(why)),
+            Err(LineError::Memory) => write_outcome(alloc, Err(PlanError::Memory), writer),
+        }
     }
 
     /// Adds or drops a file by itself.
@@ -218,24 +231,22 @@ impl Session {
 /// Plans the job on the present state, and commits it at once.
 fn perform(
     alloc: Global,
-    job: &Job,
+    job: &Job<&Filter>,
     settings: Settings,
-    kit: &Kit,
     book: &mut Book,
-) -> Result<Outcome, JobError>
+) -> Result<Outcome, PlanError>
     requires { HasSums book.old }
     ensures made { IfOk result (λ made. (change : Change)
-        × (job_change (shown_by (ledger_of book.old)) (settings_view settings (filters_of kit.now)) job.now ≡ Ok change)
+        × (job_change (shown_by (ledger_of book.old)) (settings_view settings) (job_view (λ filter. filter.now.rule) job.now) ≡ Ok change)
         × Responds book.old (commit_of (ledger_of book.old) change) made.0 book.new
         × (made.1 ≡ sizes_of change)) }
-    ensures refused { IfErr result (λ refusal. refusal ≢ no_memory
-        → job_change (shown_by (ledger_of book.old)) (settings_view settings (filters_of kit.now)) job.now ≡ Err refusal) }
-    ensures runs_out { IfErr result (λ refusal. refusal ≡ no_memory
-        → has_no_filter (filters_of kit.now) job.now ≡ false) }
+    ensures refused { IfErr result (λ refusal. refusal ≢ plan_error.Memory
+        → job_change (shown_by (ledger_of book.old)) (settings_view settings) (job_view (λ filter. filter.now.rule) job.now) ≡ Err refusal) }
+    ensures bad_edit { has_bad_edit (job_view (λ filter. filter.now.rule) job.now) ≡ true → result ≡ Err plan_error.BadEdit }
     ensures same { IfErr result (λ refusal. IsUnchanged book.old book.new) }
 {
     book.refresh();
-    let planned = plan(alloc, &book.ledger().view(), settings, kit, job)?;
+    let planned = plan(alloc, &book.ledger().view(), settings, job)?;
     Ok(commit(book, planned))
 }
 

@@ -3,15 +3,14 @@ ghost use Rattle.std.specs.Result.{result_map_both};
 ghost use Rattle.keep_lines.specs.Reply.{told_text};
 ghost use Rattle.keep_read.specs.Restored.{restored_view};
 ghost use Rattle.keep_script.specs.Known.{Puts, WritesLines};
-ghost use Rattle.keep_script.specs.Outcome.{AnswersJob};
 ghost use Rattle.keep_script.specs.Text as texts;
 
 use crate::listing::{write_findings, write_restored};
 use crate::output::put_line;
 use crate::status::Stop;
-use keep_jobs::JobError;
 use keep_ledger::{Refusal, Told};
-use keep_lines::{Accepted, BadLine, Committed, Mistake, Refused, Sizes};
+use keep_lines::{Accepted, BadLine, Committed, Refused, Sizes};
+use keep_plan::PlanError;
 use keep_read::{Finding, RestoreError, Restored};
 use std::alloc::{AllocError, Global};
 use std::io::Write;
@@ -51,19 +50,18 @@ pub(crate) fn write_committed<W: Write>(
     }
 }
 
-/// Answers a job that was to be planned and committed. Where it names no filter the line is bad.
-pub(crate) fn answer_job<W: Write>(
+/// Writes the answer to a job that was to be planned and committed.
+pub(crate) fn write_outcome<W: Write>(
     alloc: Global,
-    outcome: Result<Outcome, JobError>,
+    outcome: Result<Outcome, PlanError>,
     writer: &mut W,
 ) -> Result<(), Stop>
-    ensures answers { AnswersJob (W.contents writer.old) (W.contents writer.new) outcome result }
+    ensures puts { Puts (W.contents writer.old) (W.contents writer.new) (texts.outcome_answer outcome) result }
     ensures whole { result ≢ Err Stop.WriteFailed → WritesLines (W.contents writer.old) (W.contents writer.new) }
 {
     match outcome {
         Ok(committed) => write_committed(alloc, committed, writer),
-        Err(JobError::Refused(refusal)) => put_line(alloc, &Refused(refusal), writer),
-        Err(JobError::NoFilter) => Err(Stop::BadLine(Mistake::NoFilter)),
+        Err(refusal) => put_line(alloc, &Refused(refusal), writer),
     }
 }
 

@@ -1,7 +1,7 @@
 ghost use Rattle.std.specs.Prelude.{◌≡◌, ◌≢◌, ◌≤◌, ◌<◌, ◌⊎◌, IfSome, length};
 ghost use Rattle.std.specs.Io.KnownBytes.{Keeps};
 ghost use Rattle.keep_book.specs.Armed.{HasSums, hooks_of, ledger_of};
-ghost use Rattle.keep_jobs.specs.Kits.{filters_of, kit_view};
+ghost use Rattle.keep_jobs.specs.Kits.{kit_view};
 ghost use Rattle.keep_jobs.specs.Job.{settings_view};
 ghost use Rattle.keep_script.specs.Known.{Writes, WritesLines};
 ghost use Rattle.keep_script.specs.Line.{longest_script};
@@ -70,7 +70,7 @@ fn run_over<R: Read, W: Write>(
     requires { HasSums book.old }
     ensures answers { Writes (W.contents writer.old) (W.contents writer.new) (λ text. (after : State)
         × (ledger_of book.new ≡ after.book) × (hooks_of book.new ≡ after.armed) × (kit_view kit.new ≡ kit_of after)
-        × Ends (begun_over (settings_view settings (filters_of kit.old)) (kit_view kit.old) book.old)
+        × Ends (begun_over (settings_view settings) (kit_view kit.old) book.old)
         (R.remaining reader.old) (R.remaining reader.new) text result after) }
     ensures whole { result ≢ Status.WriteFailed → WritesLines (W.contents writer.old) (W.contents writer.new) }
     ensures limit { result ≡ Status.Done →

@@ -6,9 +6,9 @@ use crate::words;
 use keep_backup::{BackupFacts, Cut, plan_backup, store};
 use keep_change::{Change, Planned};
 use keep_hooks::NoHooks;
-use keep_jobs::{Job, JobError, Settings, plan};
+use keep_jobs::{Settings, plan, resolve};
 use keep_ledger::Request;
-use keep_lines::{Command, LineError, Refused, parse};
+use keep_lines::{Command, JobLine, LineError, Refused, parse};
 use keep_names::BlobType;
 use keep_plan::{PlanError, Stored};
 use std::alloc::{AllocError, Global};
@@ -83,8 +83,8 @@ fn commit(
     }
 }
 
-/// The job of a line of the script language.
-fn job_of(alloc: Global, line: &str) -> Result<Job, Stop> {
+/// The job that a line of the script language says.
+fn said_by(alloc: Global, line: &str) -> Result<JobLine, Stop> {
     match parse(alloc, line.as_bytes()) {
         Ok(Some(Command::Job(job))) => Ok(job),
         Err(LineError::Memory) => Err(Stop::Memory),
@@ -94,22 +94,17 @@ fn job_of(alloc: Global, line: &str) -> Result<Job, Stop> {
 
 /// What the job of the line is planned as.
 fn planned(state: &State, line: &str) -> Result<Result<Planned, PlanError>, Stop> {
-    let job = job_of(state.alloc, line)?;
+    let alloc = state.alloc;
+    let job = match resolve(alloc, &state.kit, said_by(alloc, line)?) {
+        Ok(job) => job,
+        Err(LineError::Memory) => return Err(Stop::Memory),
+        Err(LineError::Bad(_)) => return Err(Stop::NoLine),
+    };
     let settings = Settings {
         cut: Cut::after(CUT),
         now: state.now,
     };
-    match plan(
-        state.alloc,
-        &state.ledger.view(),
-        settings,
-        &state.kit,
-        &job,
-    ) {
-        Ok(planned) => Ok(Ok(planned)),
-        Err(JobError::Refused(refusal)) => Ok(Err(refusal)),
-        Err(JobError::NoFilter) => Err(Stop::NoLine),
-    }
+    Ok(plan(alloc, &state.ledger.view(), settings, &job))
 }
 
 /// Blobs by their types and texts.

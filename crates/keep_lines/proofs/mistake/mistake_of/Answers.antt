@@ -1,6 +1,6 @@
 use Rattle.std.proofs.Common.{◌≡◌, ℕ, inl, inr, List, ◌∷◌, ◌++◌, codes, Some, refl, ap, ◌∙◌}
 use Rattle.std.specs.Fmt.{decimal}
-use Rattle.keep_jobs.specs.declared.job.Job.TheVariants.{Backup, Forget, Rewrite, Sweep, Tag}
+use Rattle.keep_lines.specs.declared.job_line.JobLine.TheVariants.{Backup, Forget, Rewrite, Sweep, Tag}
 use Rattle.keep_lines.proofs.Mistakes.{cut_first, ends_in_no}
 use Rattle.keep_lines.specs.BackupLine.{IsBackup, backup_text}
 use Rattle.keep_lines.specs.ForgetLine.{IsForget, forget_text}

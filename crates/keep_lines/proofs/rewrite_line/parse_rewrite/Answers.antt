@@ -3,7 +3,7 @@ use Rattle.std.proofs.lemmas.Bool.Decides.{nat_tests}
 use Rattle.std.proofs.lemmas.Iterator.Consumers.{map_from_collect}
 use Rattle.std.proofs.lemmas.Iterator.Splits.{YieldsList-from_str_split}
 use Rattle.std.specs.declared.alloc.AllocError.{AllocError}
-use Rattle.keep_jobs.specs.declared.job.Rewrite.{Rewrite}
+use Rattle.keep_lines.specs.declared.rewrite_line.RewriteLine.{RewriteLine}
 use Rattle.keep_lines.proofs.RewriteWords.{no_name_rewrites, no_patterns_rewrite, no_words_rewrite, rewrite_of_words, spaceless_rest}
 use Rattle.keep_lines.proofs.WordLists.{spaceless_behind_one, texts}
 use Rattle.keep_lines.specs.RewriteLine.{CutsFlag}
@@ -45,5 +45,5 @@ returns c =
     let cut = ap texts c.as_slice.ensures.value ∙ map_from_collect {E = AllocError} (Ok c.in_ok-words.words) c.in_ok-words.ensures.ran (YieldsList-from_str_split 32 text (lit< tt) c.split.ensures.text c.split.ensures.has_more c.split.ensures.pattern) in
     let value = rw c.in-Some.is at c.in_ok-patterns.ensures in
     let known : (length _ == 0) ≡ false = sym c.is_empty.ensures ∙ c.if-is_empty.false in
-    let made : Rewrite = record { filter = c.in_ok-filter.filter; forget = c.cut_flag-forget.result.0; patterns = c.in-Some.patterns } in
+    let made : RewriteLine = record { filter = c.in_ok-filter.filter; forget = c.cut_flag-forget.result.0; patterns = c.in-Some.patterns } in
     rewrite_of_words words _ text made c.in-len1-up.len_at_least cut c.in_ok-filter.ensures.ok (grind (arith, nat_tests, known)) value.0 (subst (CutsFlag _ _) (sym value.1) c.cut_flag-forget.ensures)

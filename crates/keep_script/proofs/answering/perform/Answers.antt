@@ -1,8 +1,8 @@
 -- The book that was refreshed is the book before.
 use Rattle.std.proofs.Common.{◌≡◌, ℕ, rules, subst}
-use Rattle.keep_book.specs.Armed.{IsUnchanged, Responds, ledger_of}
-use Rattle.keep_ledger.specs.declared.request.Request.TheVariants as request
+use Rattle.keep_book.specs.Armed.{Responds, ledger_of}
 use Rattle.keep_journal.specs.History.{length_of}
+use Rattle.keep_ledger.specs.declared.request.Request.TheVariants as request
 use Rattle.keep_script.proofs.AnswerLemmas.{asked_after}
 use Rattle.keep_script.proofs.answering.perform.Goals as goal
 
@@ -13,8 +13,7 @@ returns-clause-made g c =
     let due = rw (c.view.ensures, c.ledger.ensures, c.refresh.ensures.ledger) at c.in_ok-planned.ensures.change in
     let seen : planned.seen ≡ length_of (ledger_of book).events = rw (c.view.ensures, c.ledger.ensures, c.refresh.ensures.ledger) at c.in_ok-planned.ensures.seen in
     let asks = subst (λ (seen : ℕ). Responds c.refresh.new.self (request.Commit (record { change = planned.change; seen = seen })) c.commit.result.0 c.commit.new.book) seen c.commit.ensures.asks in
-    let left : IsUnchanged book c.refresh.new.self = record { ledger = c.refresh.ensures.ledger; hooks = c.refresh.ensures.hooks } in
-    (planned.change, due, asked_after book c.refresh.new.self c.commit.new.book _ _ left asks, c.commit.ensures.sizes)
+    (planned.change, due, asked_after book c.refresh.new.self c.commit.new.book _ _ c.refresh.ensures asks, c.commit.ensures.sizes)
 
 pub returns-in_err-planned-clause-refused : goal.returns-in_err-planned-clause-refused
 returns-in_err-planned-clause-refused g c =

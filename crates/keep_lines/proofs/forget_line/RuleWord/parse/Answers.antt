@@ -1,6 +1,5 @@
 use Rattle.std.proofs.Common.{lit<}
 use Rattle.std.proofs.lemmas.Str.Pattern.{split_parts}
-use Rattle.keep_lines.proofs.RuleWords.{counted_parsed, no_sign}
 use Rattle.keep_lines.proofs.forget_line.RuleWord.parse.Goals as goal
 
 pub parse_counted-requires : goal.parse_counted-requires
