@@ -1,9 +1,11 @@
 //! Reads its input as a document, or as a pack that it hashes too, or backs it up as a file, or forgets as many
-//! snapshots as it has bytes, and says how much there was. So the time that this takes can be measured.
+//! snapshots as it has bytes, or reads it as an entry of a journal, which it also writes again, and says how much there
+//! was. So the time that this takes can be measured.
 #![tactic(auto)]
 
 mod backup;
 mod document;
+mod entry;
 mod forget;
 mod input;
 mod pack;
@@ -11,16 +13,20 @@ mod task;
 
 use crate::backup::back_up;
 use crate::document::measure;
+use crate::entry::is_written_so;
 use crate::forget::forget;
 use crate::input::read_all;
 use crate::pack::summarize;
 use crate::task::{Task, task_named};
 use anyhow::Result;
+use keep_entries::read_entry;
 use std::env;
 use std::process::ExitCode;
 
 /// The exit status of an input that can't be read.
 const REFUSED: u8 = 1;
+/// The number of each entry that is read.
+const ENTRY: u64 = 1;
 /// The exit status of a command line that isn't understood.
 const BAD_OPTIONS: u8 = 2;
 
@@ -59,13 +65,25 @@ fn tell(rt: &HostRuntime, task: Task) -> Result<()> {
             Some(count) => println!(rt; "dropped {count}")?,
             None => println!(rt; "too many")?,
         },
+        Task::Entry => {
+            drop(read_entry(alloc, ENTRY, &bytes)?);
+            let count = bytes.len();
+            println!(rt; "entry {count}")?;
+        }
+        Task::EntryAgain => {
+            let entry = read_entry(alloc, ENTRY, &bytes)?;
+            let same = is_written_so(alloc, &entry, &bytes)?;
+            println!(rt; "written so: {same}")?;
+        }
     }
     Ok(())
 }
 
 fn main(rt: HostRuntime) -> ExitCode {
     let Ok(Some(task)) = task_asked(&rt) else {
-        let _ = eprintln!(rt; "usage: keep_bench document|pack|backup|forget < INPUT");
+        let _ = eprintln!(rt;
+            "usage: keep_bench document|pack|backup|forget|entry|entry-again < INPUT"
+        );
         return ExitCode::from(BAD_OPTIONS);
     };
     match tell(&rt, task) {

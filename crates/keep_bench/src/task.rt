@@ -7,6 +7,8 @@ pub(crate) enum Task {
     Pack,
     Backup,
     Forget,
+    Entry,
+    EntryAgain,
 }
 
 /// The task that a word of the command line names.
@@ -15,12 +17,16 @@ pub(crate) fn task_named(word: &str) -> Option<Task>
     ensures pack { (result ≡ Some Task.Pack) ↔ (word.now ≡ codes "pack") }
     ensures backup { (result ≡ Some Task.Backup) ↔ (word.now ≡ codes "backup") }
     ensures forget { (result ≡ Some Task.Forget) ↔ (word.now ≡ codes "forget") }
+    ensures entry { (result ≡ Some Task.Entry) ↔ (word.now ≡ codes "entry") }
+    ensures again { (result ≡ Some Task.EntryAgain) ↔ (word.now ≡ codes "entry-again") }
 {
     match word {
         "document" => Some(Task::Document),
         "pack" => Some(Task::Pack),
         "backup" => Some(Task::Backup),
         "forget" => Some(Task::Forget),
+        "entry" => Some(Task::Entry),
+        "entry-again" => Some(Task::EntryAgain),
         _ => None,
     }
 }
