@@ -1,6 +1,7 @@
 pub mod Building
 pub mod ChosenListing
 pub mod Coming
+pub mod Crossing
 pub mod EachTable
 pub mod Following
 pub mod Gathered

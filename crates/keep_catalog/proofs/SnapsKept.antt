@@ -1,5 +1,5 @@
 -- What is kept of snapshots and of files that can't be read, in the order of their names.
-use Rattle.std.proofs.Common.{◌≡◌, ℕ, true, List, [], ◌∷◌, map, Option, None, Some, option_map, is_some, refl, sym, ap, subst, ◌∙◌}
+use Rattle.std.proofs.Common.{◌≡◌, ℕ, true, List, [], ◌∷◌, map, Option, None, Some, option_map, is_some, slice_get, refl, sym, ap, subst, ◌∙◌}
 use Rattle.std.proofs.lemmas.Map.Made.{keys_of-map_values, lookup-map_values}
 use Rattle.std.specs.BTreeMap.{BTreeMap, IsOrdered, is_at}
 use Rattle.std.specs.BTreeMap as tree
@@ -83,3 +83,8 @@ pub unread_kept : (r : Repository) (unread : BTreeMap FileName FileError) → Is
 unread_kept r unread ordered has =
     ap (map unread_of) (map_gathered name_cmp name_total name_exact (why_unread r) unread (finite.keys r.files) ordered (keys_in_order name_cmp r.files) has (unread_there r))
     ∙ as_unread r (finite.keys r.files)
+
+-- without a first one there is none
+pub none_first : {X : Type 0} (xs : List X) → slice_get xs 0 ≡ None → xs ≡ []
+none_first [] h = refl
+none_first (x ∷ xs) h = cc h

@@ -69,25 +69,36 @@ impl<'a> Catalog<'a> {
         ensures refused { IfErr result (λ error. error ≢ the_error.Memory
             → option_map the_error.Unread (slice_get (unread_in repo.entry.now) 0) ≡ Some error) }
     {
-        let (catalog, unread) = Catalog::read_past(alloc, repo)?;
-        match unread.first() {
-            Some(first) => Err(CatalogError::Unread(*first)),
-            None => Ok(catalog),
+        Catalog::read_past(alloc, repo)?.if_all_read()
+    }
+
+    /// The catalog past the files that can't be read. Those have and list nothing.
+    pub fn read_past(alloc: Global, repo: &'a Repo) -> Result<Catalog<'a>, AllocError>
+        ensures { IfOk result (λ catalog. catalog ≡ repo.entry.now) }
+    {
+        let source = Source::Own(Tables::of(alloc, repo)?);
+        Ok(Catalog { repo, source })
+    }
+
+    // The catalog itself, if nothing was passed over in it. Else the first file that was, by name.
+    pub(crate) fn if_all_read(self) -> Result<Catalog<'a>, CatalogError>
+        ensures catalog { IfOk result (λ catalog. catalog ≡ self.entry) }
+        ensures all_read { IfOk result (λ _. unread_in self.entry ≡ []) }
+        ensures refused { IfErr result (λ error.
+            option_map the_error.Unread (slice_get (unread_in self.entry) 0) ≡ Some error) }
+    {
+        match self.tables().first_unread() {
+            Some(first) => Err(CatalogError::Unread(first)),
+            None => Ok(self),
         }
     }
 
-    /// The catalog, and the files that can't be read, by name. Those have and list nothing.
-    pub fn read_past(
-        alloc: Global,
-        repo: &'a Repo,
-    ) -> Result<(Catalog<'a>, Vec<Unread>), AllocError>
-        ensures catalog { IfOk result (λ made. made.0 ≡ repo.entry.now) }
-        ensures unread { IfOk result (λ made. made.1.items ≡ unread_in repo.entry.now) }
+    /// The files that can't be read, by name.
+    pub fn unread(&self, alloc: Global) -> Result<Vec<Unread>, AllocError>
+        ensures { IfOk result (λ files. files.items ≡ unread_in self.now) }
     {
-        let tables = Tables::of(alloc, repo)?;
-        let unread = unread_files(alloc, &tables.unread)?;
-        let source = Source::Own(tables);
-        Ok((Catalog { repo, source }, unread))
+        let files = unread_files(alloc, &self.tables().unread)?;
+        Ok(files)
     }
 
     // The catalog of a repository that lends its tables.

@@ -13,6 +13,8 @@ ghost use Rattle.keep_catalog.specs.Places.{chosen_listing, is_honest, spots_of}
 ghost use Rattle.keep_catalog.specs.declared.reach_error.ReachError.TheVariants.{MissingBlob, WrongHash};
 ghost use Rattle.keep_catalog.specs.declared.spot.Spot as the_spot;
 
+use crate::live_repo::LiveRepo;
+
 /// The chosen place of a blob is the least of its places in unmarked packs: an index lists it, the header of
 /// its pack has it, and its bytes have the blob's id. The index is the least-named one that lists it. Where
 /// none is chosen, there is no such place.
@@ -59,3 +61,11 @@ pub fn trees_name_what_their_nodes_name()
     ensures { (r : Repository) (tree : the_id.Id)
         → named_by r (tree_at tree) ≡ blobs_named (nodes_under r tree) }
 {}
+
+/// A live repository can be handed to another thread, and lent to several at once.
+pub fn live_repos_cross_threads() {
+    cross::<LiveRepo>()
+}
+
+// What can be handed to another thread, and lent to several at once.
+fn cross<T: Send + Sync>() {}

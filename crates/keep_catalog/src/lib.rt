@@ -22,8 +22,8 @@ mod wrong;
 pub use catalog::Catalog;
 pub use catalog_error::CatalogError;
 pub use laws::{
-    a_wrong_hash_is_not_missing, spots_are_in_order, spots_are_listed_and_stored,
-    the_chosen_place_is_least, trees_name_what_their_nodes_name,
+    a_wrong_hash_is_not_missing, live_repos_cross_threads, spots_are_in_order,
+    spots_are_listed_and_stored, the_chosen_place_is_least, trees_name_what_their_nodes_name,
 };
 pub use live_repo::LiveRepo;
 pub use names::Named;

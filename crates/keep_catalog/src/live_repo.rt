@@ -8,11 +8,10 @@ ghost use Rattle.keep_catalog.specs.Files.{unread_in};
 ghost use Rattle.keep_catalog.specs.Kept.{AreNew, AreThere, IsKept, with_files, without_files};
 ghost use Rattle.keep_catalog.specs.declared.catalog_error.CatalogError.TheVariants as the_error;
 
-use crate::catalog::{Catalog, unread_files};
+use crate::catalog::Catalog;
 use crate::catalog_error::CatalogError;
 use crate::hashing::hash_places;
 use crate::tables::Tables;
-use crate::unread::Unread;
 use keep_change::{Change, StoredFile, Turn};
 use keep_repo::Repo;
 use std::alloc::{AllocError, Global};
@@ -20,13 +19,14 @@ use std::marker::Model;
 
 /// A repository that changes, and lends the catalog of what it holds.
 ///
-/// Its files are read when `refresh` is called first. From then on each change costs what its own files hold.
-/// Where there is no memory for that, the change is made all the same, and the next `refresh` reads all files anew.
+/// Its files are read when it is made. From then on each change costs what its own files hold, and a catalog reads none.
+/// Where there is no memory for that, the change is made all the same: a catalog then reads all files itself, until a
+/// change finds the memory to read them anew.
 #[derive(Drop)]
 pub struct LiveRepo {
     alloc: Global,
     repo: Repo,
-    // What its files say, where they were read, and each change since was followed.
+    // What its files say. None where memory ran out for it.
     tables: Option<Tables>,
 }
 
@@ -45,14 +45,15 @@ impl Model for LiveRepo {
 }
 
 impl LiveRepo {
-    /// The repository, of which nothing is read yet.
+    /// The repository. Each of its packs, indexes and snapshots is read.
     pub fn new(alloc: Global, repo: Repo) -> LiveRepo
         ensures { result ≡ repo }
     {
+        let tables = Tables::of(alloc, &repo).ok();
         LiveRepo {
             alloc,
             repo,
-            tables: None,
+            tables,
         }
     }
 
@@ -62,9 +63,8 @@ impl LiveRepo {
         &self.repo
     }
 
-    /// Reads all files, unless that was done before and each change since was followed. Where there is no memory for
-    /// it, a catalog reads them when it is asked for.
-    pub fn refresh(&mut self)
+    // Reads all files anew, where memory ran out for what they say.
+    fn refresh(&mut self)
         ensures { self.new ≡ self.old }
     {
         if self.tables.is_none() {
@@ -126,6 +126,7 @@ impl LiveRepo {
     {
         change.complete(turn, &mut self.repo);
         self.tables = went(self.tables.take(), change.going_files(turn));
+        self.refresh();
     }
 
     /// Takes the first half back, in place of the second one. It can't fail.
@@ -137,6 +138,7 @@ impl LiveRepo {
     {
         change.abandon(turn, &mut self.repo);
         self.tables = went(self.tables.take(), change.coming_files(turn));
+        self.refresh();
     }
 
     /// The catalog, if each pack, index and snapshot can be read. Else the first that can't, by name.
@@ -146,23 +148,15 @@ impl LiveRepo {
         ensures refused { IfErr result (λ error. error ≢ the_error.Memory
             → option_map the_error.Unread (slice_get (unread_in self.entry.now) 0) ≡ Some error) }
     {
-        let (catalog, unread) = self.read_past(alloc)?;
-        match unread.first() {
-            Some(first) => Err(CatalogError::Unread(*first)),
-            None => Ok(catalog),
-        }
+        self.read_past(alloc)?.if_all_read()
     }
 
-    /// The catalog, and the files that can't be read, by name. Those have and list nothing.
-    pub fn read_past(&self, alloc: Global) -> Result<(Catalog<'_>, Vec<Unread>), AllocError>
-        ensures catalog { IfOk result (λ made. made.0 ≡ self.entry.now) }
-        ensures unread { IfOk result (λ made. made.1.items ≡ unread_in self.entry.now) }
+    /// The catalog past the files that can't be read. Those have and list nothing.
+    pub fn read_past(&self, alloc: Global) -> Result<Catalog<'_>, AllocError>
+        ensures { IfOk result (λ catalog. catalog ≡ self.entry.now) }
     {
         match &self.tables {
-            Some(tables) => {
-                let unread = unread_files(alloc, &tables.unread)?;
-                Ok((Catalog::lent(&self.repo, tables), unread))
-            }
+            Some(tables) => Ok(Catalog::lent(&self.repo, tables)),
             None => Catalog::read_past(alloc, &self.repo),
         }
     }

@@ -1,4 +1,4 @@
-ghost use Rattle.std.specs.Prelude.{◌≡◌, None, Some, IfOk, OnOk, if◌then◌else◌};
+ghost use Rattle.std.specs.Prelude.{◌≡◌, None, Some, IfOk, OnOk, if◌then◌else◌, map, slice_get};
 ghost use Rattle.std.specs.BTreeMap.{IsOrdered};
 ghost use Rattle.std.specs.BTreeMap as tree;
 ghost use Rattle.std.specs.FinMap as finite;
@@ -10,6 +10,7 @@ ghost use Rattle.keep_names.specs.declared.file_name.Kind.TheVariants as the_kin
 ghost use Rattle.keep_repo.specs.Repository.{Repository, empty_repository};
 ghost use Rattle.keep_names.specs.declared.id.Id as the_id;
 ghost use Rattle.keep_snap.specs.Snap.{snap_view};
+ghost use Rattle.keep_catalog.specs.Files.{unread_in};
 ghost use Rattle.keep_catalog.specs.Kept.{AreNew, AreThere, IsKept, snap_at};
 ghost use Rattle.keep_catalog.specs.Kept.{with_file, with_files, without_file, without_files};
 ghost use Rattle.keep_catalog.specs.Orders.{name_eq, same_id};
@@ -17,7 +18,7 @@ ghost use Rattle.keep_catalog.specs.Orders.{name_eq, same_id};
 use crate::listed::{Listed, list, unlist};
 use crate::reading::{read_listed, read_pack, read_snapshot};
 use crate::stored::{Stored, store, unstore};
-use crate::unread::FileError;
+use crate::unread::{FileError, Unread};
 use keep_change::StoredFile;
 use keep_names::{FileName, Id, Kind};
 use keep_repo::Repo;
@@ -83,6 +84,13 @@ impl Tables {
             self.drop_file(file.name(), file.bytes().as_slice())?;
         }
         Ok(())
+    }
+
+    // The first file that can't be read, by name.
+    pub(crate) fn first_unread(&self) -> Option<Unread>
+        ensures { (r : Repository) → IsKept r self.now → result ≡ slice_get (unread_in r) 0 }
+    {
+        first_of(&self.unread)
     }
 
     // Follows a file that comes.
@@ -198,4 +206,16 @@ fn note(
         unread.insert(name, why)?;
     }
     Ok(())
+}
+
+// The first of the files that can't be read, by name.
+fn first_of(unread: &BTreeMap<FileName, FileError>) -> Option<Unread>
+    ensures first { result ≡ slice_get (map (λ e. record { name = e.0; refusal = e.1 }) unread.now.entries) 0 }
+    ensures ordered { IsOrdered name_cmp unread.now }
+{
+    let (name, refusal) = unread.iter().next()?;
+    Some(Unread {
+        name: *name,
+        refusal: *refusal,
+    })
 }

@@ -12,6 +12,7 @@ pub mod Holdings
 pub mod Law
 pub mod Least
 pub mod Once
+pub mod Parts
 pub mod Place
 pub mod Records
 pub mod Sorted

@@ -10,6 +10,7 @@ mod marks;
 mod meets;
 mod member;
 mod outline;
+mod readiness;
 mod shared_change;
 mod stored_file;
 mod touch;

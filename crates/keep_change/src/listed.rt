@@ -1,6 +1,6 @@
-ghost use Rattle.std.specs.Prelude.{◌≡◌, []};
+ghost use Rattle.std.specs.Prelude.{◌≡◌, [], IfOk};
 
-use std::alloc::Global;
+use std::alloc::{AllocError, Global};
 use std::marker::Model;
 
 /// A list that contracts see as its elements.
@@ -47,4 +47,24 @@ impl<T> Listed<T> {
     {
         self.items.as_slice()
     }
+}
+
+impl<T: Copy> Listed<T> {
+    /// Another list of the same elements.
+    pub fn copy(&self, alloc: Global) -> Result<Self, AllocError>
+        ensures { IfOk result (λ copy. copy ≡ self.now) }
+    {
+        let items = copied(alloc, self.as_slice())?;
+        Ok(Listed { items })
+    }
+}
+
+fn copied<T: Copy>(alloc: Global, items: &[T]) -> Result<Vec<T>, AllocError>
+    ensures { IfOk result (λ copy. copy.items ≡ items.now) }
+{
+    let mut copy = Vec::with_capacity(alloc, items.len())?;
+    for item in items {
+        copy.push(*item)?;
+    }
+    Ok(copy)
 }

@@ -1,6 +1,7 @@
-ghost use Rattle.std.specs.Prelude.{◌≡◌};
+ghost use Rattle.std.specs.Prelude.{◌≡◌, IfOk};
 
 use keep_change::{Listed, PackMark, SharedChange, What};
+use std::alloc::{AllocError, Global};
 
 /// What an event did.
 #[derive(Drop)]
@@ -23,8 +24,32 @@ pub struct Event {
     pub kind: EventKind,
 }
 
+impl EventKind {
+    /// The same once more. A commit's change is shared.
+    fn copy(&self, alloc: Global) -> Result<EventKind, AllocError>
+        ensures { IfOk result (λ copy. copy ≡ self.now) }
+    {
+        Ok(match self {
+            EventKind::Commit(change) => EventKind::Commit(change.clone()?),
+            EventKind::Undo => EventKind::Undo,
+            EventKind::Redo => EventKind::Redo,
+            EventKind::Empty(marks) => EventKind::Empty(marks.copy(alloc)?),
+        })
+    }
+}
+
 impl Event {
     ghost use Rattle.keep_journal.specs.Event.{what_of};
+
+    /// The same event once more. A commit's change is shared.
+    pub fn copy(&self, alloc: Global) -> Result<Event, AllocError>
+        ensures { IfOk result (λ copy. copy ≡ self.now) }
+    {
+        Ok(Event {
+            number: self.number,
+            kind: self.kind.copy(alloc)?,
+        })
+    }
 
     pub fn what(&self) -> What
         ensures { result ≡ what_of self.now }

@@ -1,4 +1,4 @@
-ghost use Rattle.std.specs.Prelude.{◌≡◌, ◌<◌, ◌≤◌, ◌++◌, ◌∷◌, [], length, IfSome, IsSome, IsTrue, MatchOption, OnOk, vec_len, vec_capacity, option_copied};
+ghost use Rattle.std.specs.Prelude.{◌≡◌, ◌<◌, ◌≤◌, ◌++◌, ◌∷◌, [], length, IfOk, IfSome, IsSome, IsTrue, MatchOption, OnOk, vec_len, vec_capacity, option_copied};
 ghost use Rattle.keep_change.specs.Form.{IsWellFormed};
 
 use crate::event::{Entry, Event, EventKind};
@@ -72,6 +72,18 @@ impl History {
             final_number,
             last_change: final_number,
         }
+    }
+
+    /// Another history of the same events. The changes are shared.
+    pub fn copy(&self, alloc: Global) -> Result<History, AllocError>
+        ensures { IfOk result (λ copy. copy.journal ≡ self.now.journal) }
+    {
+        Ok(History {
+            entries: copy_entries(alloc, self.entries())?,
+            standings: copy_standings(alloc, self.standings.as_slice())?,
+            final_number: self.final_number,
+            last_change: self.last_change,
+        })
     }
 
     pub fn entries(&self) -> &[Entry]
@@ -238,4 +250,30 @@ fn last_after(before: u64, event: &Event) -> u64
         EventKind::Commit(_) => event.number,
         _ => before,
     }
+}
+
+/// The same entries once more.
+fn copy_entries(alloc: Global, entries: &[Entry]) -> Result<Vec<Entry>, AllocError>
+    ensures { IfOk result (λ copy. copy.items ≡ entries.now) }
+{
+    let mut copy = Vec::with_capacity(alloc, entries.len())?;
+    for entry in entries {
+        let event = entry.event.copy(alloc)?;
+        copy.push(Entry {
+            at: entry.at,
+            event,
+        })?;
+    }
+    Ok(copy)
+}
+
+/// The same standings once more.
+fn copy_standings(alloc: Global, standings: &[Standing]) -> Result<Vec<Standing>, AllocError>
+    ensures { IfOk result (λ copy. copy.items ≡ standings.now) }
+{
+    let mut copy = Vec::with_capacity(alloc, standings.len())?;
+    for standing in standings {
+        copy.push(*standing)?;
+    }
+    Ok(copy)
 }

@@ -3,6 +3,8 @@
 
 mod event;
 mod history;
+mod laws;
 
 pub use event::{Entry, Event, EventKind};
 pub use history::{History, Status};
+pub use laws::histories_cross_threads;

@@ -17,10 +17,10 @@ impl Edit {
     pub fn is_bad(&self) -> bool
         ensures { result ≡ is_bad_edit (edit_view self.now) }
     {
-        let moves_none = self.add.is_empty() & self.remove.is_empty();
+        let moves_none = self.add.is_empty() && self.remove.is_empty();
         match &self.replace {
-            None => moves_none | has_empty_tag(&self.add) | has_empty_tag(&self.remove),
-            Some(set) => !moves_none | has_empty_tag(set),
+            None => moves_none || has_empty_tag(&self.add) || has_empty_tag(&self.remove),
+            Some(set) => !moves_none || has_empty_tag(set),
         }
     }
 

@@ -39,9 +39,9 @@ impl Policy {
     pub(crate) fn has_no_rule(&self) -> bool
         ensures { result ≡ spec.has_no_rule (policy_view self.now) }
     {
-        let by_count = self.last.is_some() | self.daily.is_some() | self.weekly.is_some();
-        let by_month = self.monthly.is_some() | self.yearly.is_some();
-        !by_count & !by_month & self.tags.is_empty()
+        let by_count = self.last.is_some() || self.daily.is_some() || self.weekly.is_some();
+        let by_month = self.monthly.is_some() || self.yearly.is_some();
+        !by_count && !by_month && self.tags.is_empty()
     }
 }
 

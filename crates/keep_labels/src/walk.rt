@@ -30,7 +30,7 @@ pub(crate) fn first_names(
         let is_later = !is_of_group(last, row);
         let is_first = !is_of_turn(counted, last, row);
         let before = if is_later { 0 } else { count };
-        if is_first & (before < most.get() as usize) {
+        if is_first && before < most.get() as usize {
             names.push(row.facts.name)?;
         }
         count = if is_first { before + 1 } else { before };

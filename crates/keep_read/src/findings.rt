@@ -19,7 +19,8 @@ pub fn audit(alloc: Global, view: &View) -> Result<Vec<Finding>, AllocError>
     ensures { IfOk result (λ findings. findings.items ≡ findings_in view.now.repo) }
 {
     let mut findings = wrong_names(alloc, view.repo())?;
-    let (catalog, unread) = view.read_past(alloc)?;
+    let catalog = view.read_past(alloc)?;
+    let unread = catalog.unread(alloc)?;
     add_unread(&mut findings, &unread)?;
     let wrong = catalog.wrong_blobs(alloc)?;
     add_wrong(&mut findings, &wrong)?;

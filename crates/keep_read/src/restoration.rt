@@ -32,7 +32,7 @@ pub fn restore(alloc: Global, view: &View, snapshot: Id) -> Result<Restored, Res
     if !repo.facet_filled(Facet::File(FileName::snapshot(snapshot))) {
         return Err(RestoreError::NoSnapshot);
     }
-    let (catalog, _unread) = view.read_past(alloc)?;
+    let catalog = view.read_past(alloc)?;
     let Some(tree) = root_in(&catalog, snapshot) else {
         return Err(why_unread(alloc, repo, snapshot));
     };

@@ -59,7 +59,7 @@ impl Walk<'_> {
         let mut loses = false;
         for node in nodes {
             let lost = self.leave_node(levels - 1, &asked.1, node, &mut kept, walked)?;
-            loses = loses | lost;
+            loses |= lost;
         }
         let left = finish(self.alloc, tree, loses, kept, walked)?;
         walked.left.insert(asked, left)?;

@@ -1,3 +1,4 @@
+pub mod Crossing
 pub mod Inverse
 pub mod Moments
 pub mod Relabelled

@@ -4,12 +4,14 @@
 
 mod copies;
 mod fact;
+mod laws;
 mod relabel;
 mod snap;
 mod time;
 mod written;
 
 pub use fact::{SnapFacts, facts};
+pub use laws::snaps_cross_threads;
 pub use relabel::{retag, retree};
 pub use snap::{Snap, SnapError, read_snap};
 pub use time::{Month, Time, parse_moment, parse_time};

@@ -82,7 +82,7 @@ fn is_bad(text: &str, parts: &[&str]) -> bool
     let negated = begins_with(text, b'!');
     let reserved = has_reserved(text.as_bytes());
     let hollow = has_empty(parts);
-    negated | reserved | hollow
+    negated || reserved || hollow
 }
 
 fn begins_with(text: &str, byte: u8) -> bool

@@ -31,7 +31,7 @@ pub(crate) fn begin<'a>(index: usize, anchored: bool, ahead: &'a [Rest]) -> Step
     Step {
         rest,
         was,
-        is: was & !anchored,
+        is: was && !anchored,
         ahead: behind(ahead, rest),
     }
 }
@@ -47,7 +47,7 @@ pub(crate) fn advance<'a>(stand: Step<'a>, component: &Component, name: &Letters
     };
     let was = begins_with(stand.ahead, rest);
     let is = if is_deep(component) {
-        stand.is | was
+        stand.is || was
     } else {
         stand.was && takes_name(component, name)
     };

@@ -42,7 +42,7 @@ pub fn plan_repair(alloc: Global, view: &View) -> Result<Planned, PlanError>
     ensures fits { IfOk result (λ _. Fits (spec.packs_there view.now.repo)) }
 {
     a_planned_repair_can_be_made();
-    let (catalog, _) = view.read_past(alloc)?;
+    let catalog = view.read_past(alloc)?;
     let change = repair(alloc, view.repo(), &catalog)?;
     if is_idle(&change) {
         return Err(PlanError::NothingToDo);
@@ -57,9 +57,7 @@ pub fn plan_repair(alloc: Global, view: &View) -> Result<Planned, PlanError>
 fn is_idle(change: &Change) -> bool
     ensures { result ≡ spec.is_idle change.now }
 {
-    let adds_none = change.adds.as_slice().is_empty();
-    let drops_none = change.drops.as_slice().is_empty();
-    adds_none & drops_none
+    change.adds.as_slice().is_empty() && change.drops.as_slice().is_empty()
 }
 
 // The change, if it changes anything.

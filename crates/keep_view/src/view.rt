@@ -9,7 +9,7 @@ ghost use Rattle.keep_journal.specs.Opening.{IsOpen, opening_under};
 ghost use Rattle.keep_view.specs.Shown.{shown_alone, shown_of};
 
 use crate::known::known_snapshots;
-use keep_catalog::{Catalog, CatalogError, LiveRepo, Unread};
+use keep_catalog::{Catalog, CatalogError, LiveRepo};
 use keep_journal::History;
 use keep_names::Id;
 use keep_repo::Repo;
@@ -83,10 +83,9 @@ impl<'a> View<'a> {
         self.live.catalog(alloc)
     }
 
-    /// The catalog, and the files that can't be read, by name. Those have and list nothing.
-    pub fn read_past(&self, alloc: Global) -> Result<(Catalog<'a>, Vec<Unread>), AllocError>
-        ensures catalog { IfOk result (λ made. made.0 ≡ self.now.repo) }
-        ensures unread { IfOk result (λ made. made.1.items ≡ unread_in self.now.repo) }
+    /// The catalog past the files that can't be read. Those have and list nothing.
+    pub fn read_past(&self, alloc: Global) -> Result<Catalog<'a>, AllocError>
+        ensures { IfOk result (λ catalog. catalog ≡ self.now.repo) }
     {
         self.live.read_past(alloc)
     }

@@ -28,8 +28,8 @@ pub returns-clause-restored : goal.returns-clause-restored
 returns-clause-restored c =
     let N : Repository → Type 0 = λ x. refusal_of x c.args.snapshot ≡ None in
     let R : Repository → Type 0 = λ x. option_map (λ (s : SnapData). s.tree) (snap_in x c.args.snapshot) ≡ Some c.in-Some.tree in
-    restored_at c.args.view.now.repo c.args.snapshot c.in-Some.tree (subst R c.in_ok-catalog.ensures.catalog (sym c.in-Some.ensures)) (subst N c.in_ok-catalog.ensures.catalog c.in_ok-reached.ensures.all)
-    ∙ ap Ok (sym (c.in_ok-restored.ensures ∙ ap restored_of (c.in_ok-contents.ensures ∙ ap (λ x. contents_at x most_levels c.in-Some.tree) c.in_ok-catalog.ensures.catalog)))
+    restored_at c.args.view.now.repo c.args.snapshot c.in-Some.tree (subst R c.in_ok-catalog.ensures (sym c.in-Some.ensures)) (subst N c.in_ok-catalog.ensures c.in_ok-reached.ensures.all)
+    ∙ ap Ok (sym (c.in_ok-restored.ensures ∙ ap restored_of (c.in_ok-contents.ensures ∙ ap (λ x. contents_at x most_levels c.in-Some.tree) c.in_ok-catalog.ensures)))
 
 pub returns-in_err-reached-clause-restored : goal.returns-in_err-reached-clause-restored
 returns-in_err-reached-clause-restored c =
@@ -37,5 +37,5 @@ returns-in_err-reached-clause-restored c =
     let R : Repository → Type 0 = λ x. option_map (λ (s : SnapData). s.tree) (snap_in x c.args.snapshot) ≡ Some c.in-Some.tree in
     let N : Repository → Type 0 = λ x. refusal_of x c.args.snapshot ≡ Some c.in_err-reached.field-0.0 in
     rw (due.1, due.2) (λ other.
-    refused_at c.args.view.now.repo c.args.snapshot c.in-Some.tree (subst R c.in_ok-catalog.ensures.catalog (sym c.in-Some.ensures)) _
-    (subst N c.in_ok-catalog.ensures.catalog (c.in_err-reached.ensures.refused (λ e. other (ap Reach e)))))
+    refused_at c.args.view.now.repo c.args.snapshot c.in-Some.tree (subst R c.in_ok-catalog.ensures (sym c.in-Some.ensures)) _
+    (subst N c.in_ok-catalog.ensures (c.in_err-reached.ensures.refused (λ e. other (ap Reach e)))))

@@ -1,4 +1,4 @@
-use Rattle.std.proofs.Common.{◌≡◌, ◌∙◌, ℤ, Some, pos, ap, arith, of_z, refl, subst, sym, to_z, w64, FitsSigned}
+use Rattle.std.proofs.Common.{◌∙◌, Some, pos, ap, arith, subst, sym, w64, FitsSigned}
 use mir.Syntax.{w128}
 use Rattle.std.proofs.lemmas.Int.{to_z-of_z}
 use Rattle.std.specs.Int.{int_div_euclid}

@@ -17,4 +17,4 @@ invariant_of-self c =
     (come_there d c.self.inside.repo once begun) kept c.went.ensures
 
 pub returns : goal.returns
-returns c before ready begun = c.abandon.ensures before ready (c.self.view_is ∙ begun)
+returns c before ready begun = c.refresh.ensures ∙ c.abandon.ensures before ready (c.self.view_is ∙ begun)
