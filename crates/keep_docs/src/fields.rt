@@ -72,8 +72,8 @@ pub fn optional_str_at<'a>(value: &'a Value, key: &str) -> Option<Option<&'a str
     }
 }
 
-// The id whose text the value is.
-pub(crate) fn id_in(value: &Value) -> Option<Id>
+/// The id whose text a value is.
+pub fn id_in(value: &Value) -> Option<Id>
     ensures { result ≡ as_id (view value.now) }
 {
     parse_id(value.as_str()?).ok()

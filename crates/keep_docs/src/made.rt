@@ -1,8 +1,9 @@
 ghost use Rattle.std.specs.Prelude.{◌≡◌, IfOk, OnOk, map, string_bytes};
-ghost use Rattle.std.specs.List.{list_any};
+ghost use Rattle.std.specs.List.{AllByRecursion, list_any};
 ghost use Rattle.std.specs.Str.{bytes_eq};
 ghost use Rattle.serde_json.specs.Data.{put as with_member};
 ghost use Rattle.serde_json.specs.View.{members_view, view};
+ghost use Rattle.keep_names.specs.Id.{IsDigest};
 ghost use Rattle.keep_docs.specs.Fields.{id_data, other_members};
 ghost use Rattle.keep_docs.specs.Fields as spec;
 ghost use Rattle.keep_docs.specs.Lists.{ids_data, texts_data};
@@ -76,14 +77,16 @@ pub fn put(
 
 /// An id as a value: its 64 lower case hex digits.
 pub fn id_value(alloc: Global, id: Id) -> Result<Value, AllocError>
-    ensures { IfOk result (λ value. view value ≡ id_data id) }
+    ensures value { IfOk result (λ value. view value ≡ id_data id) }
+    ensures digest { IfOk result (λ _. IsDigest id) }
 {
     Ok(Value::String(print_id(alloc, id)?))
 }
 
 /// A list of ids as a value.
 pub fn ids_value(alloc: Global, ids: &[Id]) -> Result<Value, AllocError>
-    ensures { IfOk result (λ value. view value ≡ ids_data ids.now) }
+    ensures value { IfOk result (λ value. view value ≡ ids_data ids.now) }
+    ensures digests { IfOk result (λ _. AllByRecursion IsDigest ids.now) }
 {
     let mut items = Vec::with_capacity(alloc, ids.len())?;
     for id in ids {

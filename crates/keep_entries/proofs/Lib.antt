@@ -1,6 +1,6 @@
 pub mod Exact
 pub mod HexBytes
-pub mod LastEvent
+pub mod OpenHistories
 pub mod ReadExactly
 pub mod RoundTrip
 pub mod SameMembers

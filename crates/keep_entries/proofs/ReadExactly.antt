@@ -13,7 +13,7 @@ use Rattle.keep_names.specs.declared.file_name.FileName.{FileName}
 use Rattle.keep_names.specs.declared.id.Id.{Id}
 use Rattle.keep_docs.specs.Doc.{doc_of}
 use Rattle.keep_docs.specs.Fields.{as_id, as_whole, field, id_data}
-use Rattle.keep_docs.specs.Lists.{ids_data}
+use Rattle.keep_docs.specs.Lists.{ids_data, list_data}
 use Rattle.keep_docs.specs.Readable.{IsReadable}
 use Rattle.keep_docs.proofs.Parts.{map_parts, passed, then_parts, whole-field}
 use Rattle.keep_docs.proofs.Reading.{document-doc_of}
@@ -37,20 +37,22 @@ use Rattle.keep_entries.proofs.Written.{readable_kind}
 -- ---- changes
 
 module _ (d : Data) (r : IsReadable d) where
-  files_at : (key : List ℕ) (files : List NamedBytes) → list_of file_in key d ≡ Some files → (get key d ≡ Some (files_data files)) × AllByRecursion FitsFile files
-  files_at key files h =
-      let is = list_at file_in file_data FitsFile (λ f. f) (λ x f s e. let one = file_is x f s e in (one.0, one.1, refl)) key d files r h in
+  -- a list of what each form tells whole
+  plain_at : {A : Type 0} (read : Data → Option A) (write : A → Data) (P : A → Type 0)
+      → ((x : Data) (y : A) → IsReadable x → read x ≡ Some y → (x ≡ write y) × P y)
+      → (key : List ℕ) (xs : List A) → list_of read key d ≡ Some xs → (get key d ≡ Some (list_data (map write xs))) × AllByRecursion P xs
+  plain_at read write P one key xs h =
+      let is = list_at read write P (λ y. y) (λ x y s e. let both = one x y s e in (both.0, both.1, refl)) key d xs r h in
       (is.0, is.1)
+
+  files_at : (key : List ℕ) (files : List NamedBytes) → list_of file_in key d ≡ Some files → (get key d ≡ Some (files_data files)) × AllByRecursion FitsFile files
+  files_at = plain_at file_in file_data FitsFile file_is
 
   names_at : (key : List ℕ) (names : List FileName) → list_of as_name key d ≡ Some names → (get key d ≡ Some (names_data names)) × AllByRecursion FitsName names
-  names_at key names h =
-      let is = list_at as_name name_data FitsName (λ n. n) (λ x n s e. let one = name_is x n e in (one.0, one.1, refl)) key d names r h in
-      (is.0, is.1)
+  names_at = plain_at as_name name_data FitsName (λ x n _ e. name_is x n e)
 
   packs_at : (key : List ℕ) (packs : List Id) → list_of as_id key d ≡ Some packs → (get key d ≡ Some (ids_data packs)) × AllByRecursion IsDigest packs
-  packs_at key packs h =
-      let is = list_at as_id id_data IsDigest (λ i. i) (λ x i s e. let one = id_is x i e in (one.0, one.1, refl)) key d packs r h in
-      (is.0, is.1)
+  packs_at = plain_at as_id id_data IsDigest (λ x i _ e. id_is x i e)
 
   marks_at : (form : Form) (key : List ℕ) (marks : List PackMark) → list_of (mark_in form) key d ≡ Some marks
       → (get key d ≡ Some (marks_data form marks)) × AllByRecursion FitsMark marks × (map (mark_told form) marks ≡ marks)
@@ -159,21 +161,14 @@ module _ (form : Form) (d : Data) (n : ℕ) (r : IsReadable d) where
       in
       subst (λ (k : EventKind). IsDeed form d n k) marks.2 (whole, are.1, ap Empty are.2)
 
-  undo_is : (kind : EventKind) → HasHead form d (codes "undo") n → has_members 3 d ≡ true → Some Undo ≡ Some kind → IsDeed form d n kind
-  undo_is kind head size h =
-      let same : Undo ≡ kind = cc in
-      let whole : d ≡ turn_data form (codes "undo") n =
-      same_object d _ r (readable_kind form n Undo head.small tt) size (head.event, (head.form_at, (head.number_at, tt)))
-      in
-      subst (λ (k : EventKind). IsDeed form d n k) same (whole, tt, refl)
-
-  redo_is : (kind : EventKind) → HasHead form d (codes "redo") n → has_members 3 d ≡ true → Some Redo ≡ Some kind → IsDeed form d n kind
-  redo_is kind head size h =
-      let same : Redo ≡ kind = cc in
-      let whole : d ≡ turn_data form (codes "redo") n =
-      same_object d _ r (readable_kind form n Redo head.small tt) size (head.event, (head.form_at, (head.number_at, tt)))
-      in
-      subst (λ (k : EventKind). IsDeed form d n k) same (whole, tt, refl)
+  -- an undo or a redo
+  turn_is : (turn kind : EventKind) (word : List ℕ) → kind_data form n turn ≡ turn_data form word n → FitsKind turn → kind_told form turn ≡ turn
+      → HasHead form d word n → has_members 3 d ≡ true → Some turn ≡ Some kind → IsDeed form d n kind
+  turn_is turn kind word text fits told head size h =
+      let same : turn ≡ kind = cc in
+      let readable = subst IsReadable text (readable_kind form n turn head.small fits) in
+      let whole : d ≡ turn_data form word n = same_object d _ r readable size (head.event, (head.form_at, (head.number_at, tt))) in
+      subst (λ (k : EventKind). IsDeed form d n k) same (whole ∙ sym text, fits, told)
 
   -- the word that an entry has, and how many members it has then
   head_of : (word due : List ℕ) → bytes_eq word due ≡ true → HasHead form d word n → HasHead form d due n
@@ -189,8 +184,8 @@ module _ (form : Form) (d : Data) (n : ℕ) (r : IsReadable d) where
       → cond a (option_map Commit (change_in form d)) (cond b (Some Undo) (cond c (Some Redo) (cond e (option_map Empty (list_of (mark_in form) (codes "marks") d)) None))) ≡ Some kind
       → IsDeed form d n kind
   by_word word count kind true b c e commit undo redo empty head size due h = commit_is kind (head_of word (codes "commit") commit head) (size_of 12 count due size) h
-  by_word word count kind false true c e commit undo redo empty head size due h = undo_is kind (head_of word (codes "undo") undo head) (size_of 3 count due size) h
-  by_word word count kind false false true e commit undo redo empty head size due h = redo_is kind (head_of word (codes "redo") redo head) (size_of 3 count due size) h
+  by_word word count kind false true c e commit undo redo empty head size due h = turn_is Undo kind (codes "undo") refl tt refl (head_of word (codes "undo") undo head) (size_of 3 count due size) h
+  by_word word count kind false false true e commit undo redo empty head size due h = turn_is Redo kind (codes "redo") refl tt refl (head_of word (codes "redo") redo head) (size_of 3 count due size) h
   by_word word count kind false false false true commit undo redo empty head size due h = empty_is kind (head_of word (codes "empty") empty head) (size_of 4 count due size) h
   by_word word count kind false false false false commit undo redo empty head size due h = cc
 

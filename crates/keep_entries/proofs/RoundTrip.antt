@@ -1,6 +1,7 @@
 -- An event is read back from each of its texts: all that the form tells of it.
 use Rattle.std.proofs.Common.{◌≡◌, ℕ, ◌^◌, ◌++◌, ℤ, pos, negsuc, List, [], ◌∷◌, map, codes, Option, Some, option_map, option_and_then, Ok, refl, ap, ◌∙◌}
 use Rattle.std.proofs.lemmas.Bool.{lt-ltb}
+use Rattle.std.proofs.lemmas.List.{map-id}
 use Rattle.std.proofs.lemmas.Slice.Eq.{bytes_eq-Decides}
 use Rattle.std.specs.List.{AllByRecursion}
 use Rattle.serde_json.specs.Data.{Data}
@@ -46,8 +47,7 @@ module _ {A : Type 0} (P : A → Type 0) (read : Data → Option A) (write : A �
     (one : (x : A) → P x → read (write x) ≡ Some x) where
   -- a list is read back where each value is
   list_back : (xs : List A) → AllByRecursion P xs → each read (values_of (items_of (map write xs))) ≡ Some xs
-  list_back [] h = refl
-  list_back (x ∷ xs) h = rw (one x h.0, list_back xs h.1)
+  list_back xs h = told_back P read write (λ (x : A). x) one xs h ∙ ap Some (map-id xs)
 
 -- ---- names, files, marks
 

@@ -8,7 +8,8 @@ use crate::checks::is_proper;
 use crate::entry_error::EntryError;
 use crate::event_in::read_in;
 use crate::misread::Misread;
-use crate::writing::write_event;
+use crate::writing::event_value;
+use keep_docs::write_doc;
 use keep_journal::{Entry, Event};
 use std::alloc::{AllocError, Global};
 
@@ -17,11 +18,12 @@ pub fn write_entry(alloc: Global, entry: &Entry) -> Result<Vec<u8>, AllocError>
     ensures text { IfOk result (λ bytes. bytes.items ≡ entry_text entry.now.event) }
     ensures fits { IfOk result (λ _. Fits entry.now.event) }
 {
-    write_event(alloc, &entry.event)
+    let value = event_value(alloc, &entry.event)?;
+    write_doc(alloc, &value)
 }
 
 /// Reads the entry of number k, in either form and in no other spelling. Beside the text, what was added or dropped is
-/// held at most twice: as a document and as its text, or as a document and as bytes.
+/// held at most twice: by the reading of the document, and then as a document and as bytes.
 pub fn read_entry(alloc: Global, k: u64, bytes: &[u8]) -> Result<Entry, EntryError>
     ensures number { IfOk result (λ entry. entry.at ≡ k) }
     ensures entry { IfOk result IsEntry }

@@ -13,7 +13,7 @@ use crate::lists_at::{files_at, ids_at, marks_at, names_at};
 use crate::misread::Misread;
 use crate::parts::has_members;
 use keep_change::{Change, SharedChange};
-use keep_docs::{read_doc, str_at, u64_at, write_doc};
+use keep_docs::{is_text_of, read_doc, str_at, u64_at};
 use keep_journal::{Event, EventKind};
 use serde_json::Value;
 use std::alloc::Global;
@@ -27,13 +27,12 @@ pub(crate) fn read_in(alloc: Global, bytes: &[u8]) -> Result<Event, Misread>
     told_in(alloc, &value)
 }
 
-// The value whose text without spaces the bytes are. That text is let go before anything else is made of the value.
+// The value whose text without spaces the bytes are.
 fn compact_doc(alloc: Global, bytes: &[u8]) -> Result<Value, Misread>
     ensures { Answers Memory view (ok_or (spec.compact_doc bytes.now) OtherShape) result }
 {
     let value = read_doc(alloc, bytes)?;
-    let text = write_doc(alloc, &value)?;
-    if bytes != text.as_slice() {
+    if !is_text_of(&value, bytes) {
         return Err(Misread::OtherShape);
     }
     Ok(value)
@@ -44,15 +43,9 @@ fn told_in(alloc: Global, value: &Value) -> Result<Event, Misread>
     ensures { Answers Memory (λ event. event)
         (ok_or (option_map (λ told. told.1) (spec.told_in (view value.now))) OtherShape) result }
 {
-    let form = form_in(value).ok_or(Misread::OtherShape)?;
+    let number = u64_at(value, "form").ok_or(Misread::OtherShape)?;
+    let form = form_of(number).ok_or(Misread::OtherShape)?;
     event_in(alloc, form, value)
-}
-
-// The form that an entry says it has.
-fn form_in(value: &Value) -> Option<Form>
-    ensures { result ≡ spec.form_in (view value.now) }
-{
-    form_of(u64_at(value, "form")?)
 }
 
 // The event that an entry of the form says.

@@ -7,7 +7,6 @@ mod entry_error;
 mod event_in;
 mod form;
 mod laws;
-mod lists;
 mod lists_at;
 mod members;
 mod misread;
@@ -17,4 +16,4 @@ mod writing;
 
 pub use entry::{read_entry, write_entry};
 pub use entry_error::EntryError;
-pub use laws::{one_event_is_spelled, open_histories_end_in_entries};
+pub use laws::{events_of_open_histories_are_entries, one_event_is_spelled};

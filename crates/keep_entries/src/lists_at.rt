@@ -7,8 +7,8 @@ ghost use Rattle.keep_entries.specs.Shape as spec;
 ghost use Rattle.keep_entries.specs.declared.misread.Misread.TheVariants.{Memory, OtherShape};
 
 use crate::form::Form;
-use crate::lists::{files_in, marks_in, names_in};
 use crate::misread::Misread;
+use crate::parts::{file_in, mark_in, name_in};
 use keep_change::{Listed, PackMark, StoredFile};
 use keep_docs::{ids, list_at};
 use keep_names::{FileName, Id};
@@ -20,7 +20,11 @@ pub(crate) fn names_at(alloc: Global, value: &Value, key: &str) -> Result<Listed
     ensures { Answers Memory (λ names. names) (ok_or (list_of as_name key.now (view value.now)) OtherShape) result }
 {
     let values = list_at(value, key).ok_or(Misread::OtherShape)?;
-    let names = names_in(alloc, values)?;
+    let mut names = Vec::new(alloc);
+    for value in values {
+        let name = name_in(value).ok_or(Misread::OtherShape)?;
+        names.push(name)?;
+    }
     Ok(Listed::from_vec(names))
 }
 
@@ -34,7 +38,10 @@ pub(crate) fn files_at(
         (ok_or (list_of spec.file_in key.now (view value.now)) OtherShape) result }
 {
     let values = list_at(value, key).ok_or(Misread::OtherShape)?;
-    let files = files_in(alloc, values)?;
+    let mut files = Vec::new(alloc);
+    for value in values {
+        files.push(file_in(alloc, value)?)?;
+    }
     Ok(Listed::from_vec(files))
 }
 
@@ -49,7 +56,11 @@ pub(crate) fn marks_at(
         (ok_or (list_of (spec.mark_in form) key.now (view value.now)) OtherShape) result }
 {
     let values = list_at(value, key).ok_or(Misread::OtherShape)?;
-    let marks = marks_in(alloc, form, values)?;
+    let mut marks = Vec::new(alloc);
+    for value in values {
+        let mark = mark_in(form, value).ok_or(Misread::OtherShape)?;
+        marks.push(mark)?;
+    }
     Ok(Listed::from_vec(marks))
 }
 

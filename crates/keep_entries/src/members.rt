@@ -5,9 +5,9 @@ ghost use Rattle.keep_entries.specs.Members.{with_files, with_head, with_marks};
 ghost use Rattle.keep_entries.specs.declared.form.Form.TheVariants.{Moments};
 
 use crate::form::FORM;
-use crate::values::{files_value, marks_value, names_value, packs_value};
+use crate::values::{files_value, marks_value, names_value};
 use keep_change::Change;
-use keep_docs::put;
+use keep_docs::{ids_value, put};
 use serde_json::{Map, Value};
 use std::alloc::{AllocError, Global};
 
@@ -45,9 +45,9 @@ pub(crate) fn put_marks(
     put(alloc, members, "sets", sets)?;
     let clears = marks_value(alloc, change.clears.as_slice())?;
     put(alloc, members, "clears", clears)?;
-    let marked = packs_value(alloc, change.marked.as_slice())?;
+    let marked = ids_value(alloc, change.marked.as_slice())?;
     put(alloc, members, "marked", marked)?;
-    let unmarked = packs_value(alloc, change.unmarked.as_slice())?;
+    let unmarked = ids_value(alloc, change.unmarked.as_slice())?;
     put(alloc, members, "unmarked", unmarked)
 }
 

@@ -9,7 +9,7 @@ ghost use Rattle.keep_entries.specs.declared.misread.Misread.TheVariants.{Memory
 use crate::form::Form;
 use crate::misread::Misread;
 use keep_change::{PackMark, StoredFile};
-use keep_docs::id_at;
+use keep_docs::{id_at, id_in};
 use keep_names::{FileName, Id, Kind, decode_hex, parse_id};
 use keep_repo::{Bytes, Mark};
 use serde_json::Value;
@@ -111,13 +111,6 @@ fn moment_in(value: &Value) -> Option<PackMark>
     let pack = id_at(value, "id")?;
     let moment = value.get("moment")?.as_i64()?;
     Some(mark_at(pack, moment))
-}
-
-// The id that a value says.
-fn id_in(value: &Value) -> Option<Id>
-    ensures { result ≡ fields.as_id (view value.now) }
-{
-    id_of_text(value.as_str()?)
 }
 
 fn mark_at(pack: Id, moment: i64) -> PackMark

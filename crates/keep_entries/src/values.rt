@@ -1,16 +1,13 @@
 ghost use Rattle.std.specs.Prelude.{◌≡◌, IfOk};
 ghost use Rattle.std.specs.List.{AllByRecursion};
-ghost use Rattle.hex.specs.Hex.{IsBytes};
 ghost use Rattle.serde_json.specs.View.{view};
-ghost use Rattle.keep_names.specs.Id.{IsDigest};
-ghost use Rattle.keep_docs.specs.Lists.{ids_data};
 ghost use Rattle.keep_entries.specs.Entry.{FitsFile, FitsMark, FitsName};
 ghost use Rattle.keep_entries.specs.Spelling.{file_data, files_data, mark_data, marks_data, name_data, names_data};
 ghost use Rattle.keep_entries.specs.declared.form.Form.TheVariants.{Moments};
 
 use keep_change::{PackMark, StoredFile};
 use keep_docs::id_value;
-use keep_names::{FileName, Id};
+use keep_names::FileName;
 use serde_json::{Value, json};
 use std::alloc::{AllocError, Global};
 
@@ -21,7 +18,6 @@ pub(crate) fn names_value(alloc: Global, names: &[FileName]) -> Result<Value, Al
 {
     let mut values = Vec::with_capacity(alloc, names.len())?;
     for name in names {
-        name_fits(*name);
         values.push(name_value(alloc, *name)?)?;
     }
     Ok(Value::Array(values))
@@ -46,28 +42,15 @@ pub(crate) fn marks_value(alloc: Global, marks: &[PackMark]) -> Result<Value, Al
 {
     let mut values = Vec::with_capacity(alloc, marks.len())?;
     for mark in marks {
-        mark_fits(*mark);
         values.push(mark_value(alloc, *mark)?)?;
-    }
-    Ok(Value::Array(values))
-}
-
-/// Ids as a value.
-pub(crate) fn packs_value(alloc: Global, packs: &[Id]) -> Result<Value, AllocError>
-    ensures value { IfOk result (λ value. view value ≡ ids_data packs.now) }
-    ensures fit { IfOk result (λ _. AllByRecursion IsDigest packs.now) }
-{
-    let mut values = Vec::with_capacity(alloc, packs.len())?;
-    for pack in packs {
-        id_fits(*pack);
-        values.push(id_value(alloc, *pack)?)?;
     }
     Ok(Value::Array(values))
 }
 
 // A file's name as a value.
 fn name_value(alloc: Global, name: FileName) -> Result<Value, AllocError>
-    ensures { IfOk result (λ value. view value ≡ name_data name) }
+    ensures value { IfOk result (λ value. view value ≡ name_data name) }
+    ensures fit { IfOk result (λ _. FitsName name) }
 {
     let text = format!(in alloc; "{}/{}", name.kind, name.id)?;
     Ok(Value::String(text))
@@ -79,8 +62,6 @@ fn file_value(alloc: Global, file: &StoredFile) -> Result<Value, AllocError>
     ensures fit { IfOk result (λ _. FitsFile file.now) }
 {
     let bytes = file.bytes().as_slice();
-    name_fits(file.name());
-    bytes_fit(bytes);
     let digits = hex::encode(alloc, bytes)?;
     let name = name_value(alloc, file.name())?;
     json!(in alloc; {"bytes": digits, "file": name})
@@ -88,28 +69,9 @@ fn file_value(alloc: Global, file: &StoredFile) -> Result<Value, AllocError>
 
 // A mark with its moment as a value.
 fn mark_value(alloc: Global, mark: PackMark) -> Result<Value, AllocError>
-    ensures { IfOk result (λ value. view value ≡ mark_data Moments mark) }
+    ensures value { IfOk result (λ value. view value ≡ mark_data Moments mark) }
+    ensures fit { IfOk result (λ _. FitsMark mark) }
 {
     let id = id_value(alloc, mark.pack)?;
     json!(in alloc; {"id": id, "moment": mark.mark.moment})
 }
-
-// What the types say of a name.
-fn name_fits(name: FileName)
-    ensures { FitsName name }
-{}
-
-// What the types say of a mark.
-fn mark_fits(mark: PackMark)
-    ensures { FitsMark mark }
-{}
-
-// What the type of an id says of it.
-fn id_fits(id: Id)
-    ensures { IsDigest id }
-{}
-
-// What the type of bytes says of them.
-fn bytes_fit(bytes: &[u8])
-    ensures { IsBytes bytes.now }
-{}

@@ -2,29 +2,19 @@ ghost use Rattle.std.specs.Prelude.{◌≡◌, ◌<◌, ◌^◌, IfOk};
 ghost use Rattle.std.specs.List.{AllByRecursion};
 ghost use Rattle.serde_json.specs.View.{view};
 ghost use Rattle.keep_entries.specs.Entry.{FilesFit, Fits, FitsMark, MarksFit};
-ghost use Rattle.keep_entries.specs.Spelling.{commit_data, empty_data, entry_text, event_data, turn_data};
+ghost use Rattle.keep_entries.specs.Spelling.{commit_data, empty_data, event_data, turn_data};
 ghost use Rattle.keep_entries.specs.declared.form.Form.TheVariants.{Moments};
 
 use crate::form::FORM;
 use crate::members::{put_files, put_head, put_marks};
 use crate::values::marks_value;
 use keep_change::{Change, PackMark};
-use keep_docs::write_doc;
 use keep_journal::{Event, EventKind};
 use serde_json::{Map, Value, json};
 use std::alloc::{AllocError, Global};
 
-/// The text of an event.
-pub(crate) fn write_event(alloc: Global, event: &Event) -> Result<Vec<u8>, AllocError>
-    ensures text { IfOk result (λ bytes. bytes.items ≡ entry_text event.now) }
-    ensures fits { IfOk result (λ _. Fits event.now) }
-{
-    let value = event_value(alloc, event)?;
-    write_doc(alloc, &value)
-}
-
-// An event as a value.
-fn event_value(alloc: Global, event: &Event) -> Result<Value, AllocError>
+/// An event as a value.
+pub(crate) fn event_value(alloc: Global, event: &Event) -> Result<Value, AllocError>
     ensures value { IfOk result (λ value. view value ≡ event_data Moments event.now) }
     ensures fits { IfOk result (λ _. Fits event.now) }
 {
