@@ -2,3 +2,4 @@ pub mod Acting
 pub mod Nearer
 pub mod Orders
 pub mod Shifting
+pub mod TakenBack

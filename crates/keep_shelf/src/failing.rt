@@ -51,6 +51,13 @@ impl<S: Shelf> FailingShelf<S> {
         self.failures
     }
 
+    /// The shelf that it stands before, lent.
+    pub fn inner(&self) -> &S
+        ensures { result.now ≡ inner_of self.now }
+    {
+        &self.inner
+    }
+
     pub fn into_inner(self) -> S
         ensures { result ≡ inner_of self }
     {

@@ -1,7 +1,8 @@
 ghost use Rattle.std.specs.Prelude.{◌≡◌, ◌∷◌, ◌≤◌, IfOk, OnOk, OnErr, length, slice_get};
 ghost use Rattle.std.specs.FinMap as map;
-ghost use Rattle.keep_shelf.specs.Acts.{done};
 ghost use Rattle.keep_shelf.specs.Shelved.{called, failed, stocked};
+
+mod beside;
 
 use crate::act::Act;
 use crate::key::Key;
@@ -79,12 +80,25 @@ impl MemoryShelf {
         ensures made { IfOk result (λ shelf. shelf ≡ stocked shelf.content) }
     {
         let made = self.stock_at(i)?;
+        MemoryShelf::over(self.alloc, made)
+    }
+
+    /// A new shelf with what stands on this one.
+    pub fn afresh(self) -> Result<MemoryShelf, AllocError>
+        ensures { IfOk result (λ shelf. shelf ≡ stocked self.content) }
+    {
+        MemoryShelf::over(self.alloc, self.content)
+    }
+
+    fn over(alloc: Global, made: Stock) -> Result<MemoryShelf, AllocError>
+        ensures { IfOk result (λ shelf. shelf ≡ stocked made) }
+    {
         let content = made.copy()?;
         Ok(MemoryShelf {
-            alloc: self.alloc,
+            alloc,
             made,
             content,
-            acts: Vec::new(self.alloc),
+            acts: Vec::new(alloc),
             failures: 0,
         })
     }
@@ -98,15 +112,13 @@ impl MemoryShelf {
         self.made.after(&self.acts[..i])
     }
 
-    /// Does the act and puts it in the record.
+    /// Notes that the content was looked at.
     #[tactic(auto, using(crate::proofs::Acting::acting))]
-    fn perform(&mut self, act: Act) -> Result<(), AllocError>
-        ensures ok { OnOk result (self.new ≡ called self.old (done self.old.content act)) }
+    fn look(&mut self) -> Result<(), AllocError>
+        ensures ok { OnOk result (self.new ≡ called self.old self.old.content) }
         ensures err { OnErr result (self.new ≡ self.old) }
     {
-        self.acts.reserve(1)?;
-        self.content.perform(&act)?;
-        self.acts.push_reserved(act);
+        self.acts.push(Act::Looked)?;
         Ok(())
     }
 
@@ -115,21 +127,9 @@ impl MemoryShelf {
         ensures ok { OnOk result (self.new ≡ called self.old self.old.content) }
         ensures err { OnErr result (self.new ≡ self.old) }
     {
-        let found = match self.content.get(key) {
-            Some(bytes) => Some(bytes.clone()?),
-            None => None,
-        };
-        self.perform(Act::Looked)?;
+        let found = self.content.shared(key)?;
+        self.look()?;
         Ok(found)
-    }
-
-    fn try_write(&mut self, key: Key, bytes: &Bytes) -> Result<(), AllocError>
-        ensures ok { OnOk result
-            (self.new ≡ called self.old (map.insert self.old.content key bytes.now)) }
-        ensures err { OnErr result (self.new ≡ self.old) }
-    {
-        let shared = bytes.clone()?;
-        self.perform(Act::Wrote(key, shared))
     }
 
     fn try_list(&mut self) -> Result<Vec<Key>, AllocError>
@@ -138,7 +138,7 @@ impl MemoryShelf {
         ensures err { OnErr result (self.new ≡ self.old) }
     {
         let keys = self.content.keys()?;
-        self.perform(Act::Looked)?;
+        self.look()?;
         Ok(keys)
     }
 
@@ -162,24 +162,15 @@ impl Shelf for MemoryShelf {
     }
 
     fn write(&mut self, key: Key, bytes: &Bytes) -> Result<(), Fault> {
-        match self.try_write(key, bytes) {
-            Ok(()) => Ok(()),
-            Err(AllocError) => Err(self.fail()),
-        }
+        self.write_with(key, bytes, || Ok(()))
     }
 
     fn shift(&mut self, from: Key, to: Key) -> Result<(), Fault> {
-        match self.perform(Act::Shifted(from, to)) {
-            Ok(()) => Ok(()),
-            Err(AllocError) => Err(self.fail()),
-        }
+        self.shift_with(from, to, || Ok(()))
     }
 
     fn erase(&mut self, key: Key) -> Result<(), Fault> {
-        match self.perform(Act::Erased(key)) {
-            Ok(()) => Ok(()),
-            Err(AllocError) => Err(self.fail()),
-        }
+        self.erase_with(key, || Ok(()))
     }
 
     fn list(&mut self) -> Result<Vec<Key>, Fault> {

@@ -4,10 +4,22 @@ ghost use Rattle.keep_shelf.specs.Shelved.{called, failed, shifted};
 
 use crate::key::Key;
 use keep_repo::Bytes;
+use std::alloc::AllocError;
 
 /// A call failed, and what stands on the shelf is as it was.
 #[derive(Clone, Copy, Debug, PartialEq, Eq)]
 pub struct Fault;
+
+/// Want of memory is a failure like any other.
+impl From<AllocError> for Fault {
+    ghost use Rattle.std.specs.Prelude.{⊤};
+
+    ghost from_gives = { λ _ _. ⊤ };
+
+    fn from(_error: AllocError) -> Fault {
+        Fault
+    }
+}
 
 /// Keeps bytes under keys.
 ///

@@ -1,7 +1,7 @@
-ghost use Rattle.std.specs.Prelude.{◌≡◌, IfOk, OnOk, OnErr, option_copied};
+ghost use Rattle.std.specs.Prelude.{◌≡◌, ℕ, IfOk, List, OnOk, OnErr, option_copied};
 ghost use Rattle.std.specs.FinMap as map;
 ghost use Rattle.keep_shelf.specs.Acts.{content_after, done};
-ghost use Rattle.keep_shelf.specs.Shelved.{shifted};
+ghost use Rattle.keep_shelf.specs.Shelved.{Content, shifted};
 
 use crate::act::Act;
 use crate::key::Key;
@@ -54,6 +54,16 @@ impl Stock {
         self.bytes.get(&key)
     }
 
+    /// What is under the key, with another holder.
+    pub(crate) fn shared(&self, key: Key) -> Result<Option<Bytes>, AllocError>
+        ensures { IfOk result (λ found. found ≡ map.get self.now key) }
+    {
+        match self.get(key) {
+            Some(bytes) => Ok(Some(bytes.clone()?)),
+            None => Ok(None),
+        }
+    }
+
     /// In order.
     pub(crate) fn keys(&self) -> Result<Vec<Key>, AllocError>
         ensures { IfOk result (λ keys. keys.items ≡ map.keys self.now) }
@@ -78,25 +88,37 @@ impl Stock {
         ensures err { OnErr result (self.new ≡ self.old) }
     {
         match act {
-            Act::Looked => Ok(()),
+            Act::Looked => {}
             Act::Wrote(key, bytes) => {
-                let shared = bytes.clone()?;
-                self.write(*key, shared)
+                self.write(*key, bytes.clone()?)?;
             }
-            Act::Shifted(from, to) => self.shift(*from, *to),
-            Act::Erased(key) => {
-                self.erase(*key);
-                Ok(())
-            }
+            Act::Shifted(from, to) => self.shift(*from, *to)?,
+            Act::Erased(key) => self.erase(*key),
         }
+        Ok(())
     }
 
-    fn write(&mut self, key: Key, bytes: Bytes) -> Result<(), AllocError>
+    /// Puts the bytes under the key, and answers what was there. In the place of others they take no memory.
+    pub(crate) fn write(&mut self, key: Key, bytes: Bytes) -> Result<Option<Bytes>, AllocError>
+        ensures was { IfOk result (λ was. was ≡ map.get self.old key) }
         ensures ok { OnOk result (self.new ≡ map.insert self.old key bytes) }
         ensures err { OnErr result (self.new ≡ self.old) }
+        ensures absent { OnErr result (map.get self.old key ≡ None) }
     {
-        self.bytes.insert(key, bytes)?;
-        Ok(())
+        Ok(self.bytes.insert(key, bytes)?)
+    }
+
+    /// Takes back that bytes were put under the key, where this was there before.
+    pub(crate) fn put_back(&mut self, key: Key, was: Option<Bytes>)
+        ensures { (before : Content) (put : List ℕ) → map.get before key ≡ was
+            → self.old ≡ map.insert before key put → self.new ≡ before }
+    {
+        match was {
+            Some(bytes) => {
+                let _ = self.write(key, bytes);
+            }
+            None => self.erase(key),
+        }
     }
 
     #[tactic(auto, using(crate::proofs::Shifting::shifting))]
@@ -104,16 +126,14 @@ impl Stock {
         ensures ok { OnOk result (self.new ≡ shifted self.old from to) }
         ensures err { OnErr result (self.new ≡ self.old) }
     {
-        let shared = match self.get(from) {
-            Some(bytes) => bytes.clone()?,
-            None => return Ok(()),
-        };
-        self.write(to, shared)?;
-        self.erase(from);
+        if let Some(bytes) = self.shared(from)? {
+            self.write(to, bytes)?;
+            self.erase(from);
+        }
         Ok(())
     }
 
-    fn erase(&mut self, key: Key)
+    pub(crate) fn erase(&mut self, key: Key)
         ensures { self.new ≡ map.remove self.old key }
     {
         self.bytes.remove(&key);

@@ -1,0 +1,5 @@
+pub mod Apart
+pub mod Cutting
+pub mod Digits
+pub mod Folders
+pub mod Numbers

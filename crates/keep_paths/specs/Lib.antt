@@ -1,0 +1,4 @@
+pub mod Folder
+pub mod KeyPath
+pub mod Number
+pub mod Parses
