@@ -1,69 +1,65 @@
-ghost use Rattle.std.specs.Prelude.{map};
-ghost use Rattle.keep_hooks.specs.Rules.{armed_of, hooks_data, tallies_of};
+ghost use Rattle.std.specs.FinMap as finite;
+ghost use Rattle.keep_hooks.specs.Rules.{tallies_of};
 ghost use Rattle.keep_book.specs.Names.{HaveNoNameTwice};
-ghost use Rattle.keep_ledger.specs.Sums.{AreSums};
 
 use crate::hooks::{Hooks, has_veto, has_watch};
 use crate::not_armed::NotArmed;
 use keep_change::Planned;
 use keep_hooks::{ArmedWatch, Veto, Watch};
-use keep_ledger::{Ledger, Refusal, Request, Told};
-use keep_repo::Repo;
+use keep_ledger::{Ledger, OpenError, Refusal, Request, Told};
+use keep_shelf::Shelf;
 use std::alloc::{AllocError, Global};
 
-/// A ledger, with the vetoes and watches that are armed over it. The total of a watch is the sum of its measure over
-/// the events since it was armed, and no name is armed twice.
+/// A ledger on a shelf, with the vetoes and watches that are armed over it. The total of a watch is the sum of its measure
+/// over the events since it was armed: each call that changes a book asks for that, and leaves it so. No name is armed
+/// twice.
 #[derive(Drop)]
-pub struct Book {
-    ledger: Ledger,
+pub struct Book<S: Shelf> {
+    ledger: Ledger<S>,
     hooks: Hooks,
-    ghost sums: { AreSums ledger.events (map armed_of hooks.watches.items) (tallies_of hooks.watches.items) },
-    ghost names: { HaveNoNameTwice (hooks_data hooks.vetoes.items hooks.watches.items) },
 }
 
-// What changes a book requires of it what holds of every book: without a `requires` it would count as a call that may
-// store a question of its own.
-impl Book {
-    ghost use Rattle.std.specs.Prelude.{◌≡◌, ◌<◌, [], false, string_bytes, IfErr, IfOk, IsSome, IsTrue, OnOk};
+// What changes a book requires of it what holds of every book that was opened and changed by calls alone.
+impl<S: Shelf> Book<S> {
+    ghost use Rattle.std.specs.Prelude.{◌≡◌, ◌≢◌, ◌<◌, [], None, Err, false, string_bytes, IfErr, IfOk, IsSome, IsTrue, OnOk};
     ghost use Rattle.keep_journal.specs.History.{change_of, length_of};
     ghost use Rattle.keep_journal.specs.Kept.{is_kept};
     ghost use Rattle.keep_hooks.specs.Rules.{armed_at, rule_of, watch_of};
     ghost use Rattle.keep_journal.specs.Opening.{IsOpen};
-    ghost use Rattle.keep_ledger.specs.LedgerState.{JustCommitted, LedgerState, new_ledger};
+    ghost use Rattle.keep_ledger.specs.Ends.{heard};
+    ghost use Rattle.keep_ledger.specs.LedgerState.{JustCommitted, LedgerState};
     ghost use Rattle.keep_ledger.specs.Limits.{event_limit};
+    ghost use Rattle.keep_ledger.specs.Opened.{IsNotOpened, bad_entry, opened};
     ghost use Rattle.keep_ledger.specs.Reply.{Restores, TakesBack};
     ghost use Rattle.keep_ledger.specs.Sums.{sums_of};
     ghost use Rattle.keep_ledger.specs.declared.request.Request.TheVariants as request;
-    ghost use Rattle.keep_book.specs.Armed.{Responds, HasSums, IsUnchanged, hook_of, hooks_of, is_double, ledger_of, with_veto, with_watch};
+    ghost use Rattle.keep_book.specs.Armed.{Responds, HasSums, IsUnchanged, hook_of, hooks_of, is_double, ledger_of, on_shelf, with_veto, with_watch};
     ghost use Rattle.keep_book.specs.Names.{is_armed};
 
-    /// A book over this repository, without changes, vetoes and watches.
-    pub fn new(alloc: Global, opening: Repo) -> Book
-        ensures ledger { ledger_of result ≡ new_ledger opening }
-        ensures hooks { hooks_of result ≡ record { vetoes = []; watches = [] } }
+    /// Opens a shelf that has live files alone, as a book without changes, vetoes and watches over the repository of these
+    /// files: `Ledger::open`, with the same errors.
+    pub fn open(alloc: Global, shelf: S) -> Result<Book<S>, OpenError>
+        ensures opened { IfOk result (λ book. on_shelf book ≡ opened (S.shelved shelf)) }
+        ensures hooks { IfOk result (λ book. hooks_of book ≡ record { vetoes = []; watches = [] }) }
+        ensures sums { IfOk result (λ book. HasSums book) }
+        ensures free { OnOk result (bad_entry (finite.keys (S.shelved shelf).content) ≡ None) }
+        ensures refused { IfErr result (IsNotOpened (bad_entry (finite.keys (S.shelved shelf).content))) }
     {
-        Book {
-            ledger: Ledger::new(alloc, opening),
+        let ledger = Ledger::open(alloc, shelf)?;
+        Ok(Book {
+            ledger,
             hooks: Hooks {
                 vetoes: Vec::new(alloc),
                 watches: Vec::new(alloc),
             },
-        }
+        })
     }
 
     /// The repository under its changes.
-    pub fn ledger(&self) -> &Ledger
-        ensures { result.now ≡ ledger_of self.now }
+    pub fn ledger(&self) -> &Ledger<S>
+        ensures { result.now ≡ on_shelf self.now }
     {
         &self.ledger
-    }
-
-    /// `Ledger::refresh`.
-    pub fn refresh(&mut self)
-        requires { HasSums self.old }
-        ensures { IsUnchanged self.old self.new }
-    {
-        self.ledger.refresh();
     }
 
     /// `Ledger::hash_all`.
@@ -92,7 +88,8 @@ impl Book {
         ensures handed { IfErr result (λ refusal. hook_of refusal ≡ veto) }
         ensures armed { OnOk result (hooks_of self.new ≡ with_veto (rule_of veto) (hooks_of self.old)) }
         ensures refused { IfErr result (λ refusal. hooks_of self.new ≡ hooks_of self.old) }
-        ensures ledger { ledger_of self.new ≡ ledger_of self.old }
+        ensures ledger { on_shelf self.new ≡ on_shelf self.old }
+        ensures sums { HasSums self.new }
     {
         if self.is_armed(veto.name.as_str()) {
             return Err(NotArmed::DoubleName(veto));
@@ -114,7 +111,8 @@ impl Book {
         ensures armed { let since = length_of (ledger_of self.old).events in
             OnOk result (hooks_of self.new ≡ with_watch (armed_at since (watch_of watch)) (hooks_of self.old)) }
         ensures refused { IfErr result (λ refusal. hooks_of self.new ≡ hooks_of self.old) }
-        ensures ledger { ledger_of self.new ≡ ledger_of self.old }
+        ensures ledger { on_shelf self.new ≡ on_shelf self.old }
+        ensures sums { HasSums self.new }
     {
         if self.is_armed(watch.name()) {
             return Err(NotArmed::DoubleName(watch));
@@ -132,12 +130,13 @@ impl Book {
     /// The watches in the order in which they were armed, each with its total: the sum of its measure over the events
     /// since it was.
     pub fn totals(&self) -> &[ArmedWatch]
+        requires { HasSums self.now }
         ensures { tallies_of result.now ≡ sums_of (ledger_of self.now).events (hooks_of self.now).watches }
     {
         self.hooks.watches.as_slice()
     }
 
-    /// Does what is asked, or refuses it and changes nothing: `Ledger::ask`, with the vetoes and watches that are armed.
+    /// Does what is asked, or refuses it: `Ledger::ask`, with the vetoes and watches that are armed.
     pub fn ask(&mut self, request: Request) -> Result<Told, Refusal>
         requires { HasSums self.old }
         ensures responds { Responds self.old request result self.new }
@@ -150,7 +149,9 @@ impl Book {
     pub fn commit(&mut self, planned: Planned) -> Result<Told, Refusal>
         requires { HasSums self.old }
         ensures responds { Responds self.old (request.Commit planned) result self.new }
-        ensures made { IfOk result (λ told. JustCommitted (ledger_of self.old) told.number (ledger_of self.new)) }
+        ensures made { let before = ledger_of self.old in
+            IfOk (heard before (request.Commit planned) result)
+            (λ told. JustCommitted before told.number (ledger_of self.new)) }
     {
         self.ask(Request::Commit(planned))
     }
@@ -163,12 +164,13 @@ impl Book {
         // A change in force that isn't final is taken back where the others, in their order, can be
         // made of the opening, and what they make of it is left; else the first that can't is named.
         ensures exact { let before = ledger_of self.old in
-            IsSome (change_of before.events n) → IsTrue (is_kept before.events n) →
-            length_of before.events < event_limit → TakesBack before n result (ledger_of self.new).live }
+            result ≢ Err Refusal.Fault → IsSome (change_of before.events n) → IsTrue (is_kept before.events n) →
+            length_of before.events < event_limit →
+            TakesBack before n (heard before (request.Undo n) result) (ledger_of self.new).live }
 
         // Nothing can lean on a commit that was just accepted, and its undo leaves what was there.
         ensures restores { (before : LedgerState) → JustCommitted before n (ledger_of self.old) →
-            Restores before.live result (ledger_of self.new).live }
+            Restores before.live (heard (ledger_of self.old) (request.Undo n) result) (ledger_of self.new).live }
     {
         self.ask(Request::Undo(n))
     }

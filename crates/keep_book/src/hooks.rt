@@ -1,24 +1,23 @@
 ghost use Rattle.std.specs.Prelude.{◌≡◌, ◌^◌, ◌≤◌, map};
 ghost use Rattle.std.specs.List.{All, list_any};
 ghost use Rattle.keep_hooks.specs.Guards.{HasRoom, tallies_after};
-ghost use Rattle.keep_hooks.specs.Rules.{armed_of, rules_of, tallies_of};
+ghost use Rattle.keep_hooks.specs.Rules.{armed_of, hooks_data, rules_of, tallies_of};
 ghost use Rattle.keep_hooks.specs.Written.{name_count};
-ghost use Rattle.keep_book.specs.Names.{names_veto, names_watch};
+ghost use Rattle.keep_book.specs.Names.{HaveNoNameTwice, names_veto, names_watch};
 
 use keep_change::Outline;
 use keep_hooks::{ArmedWatch, Guard, HookName, Veto, first_veto};
 use std::alloc::AllocError;
 
-/// The vetoes and watches that are armed, each list in its order.
+/// The vetoes and watches that are armed, each list in its order. No name is armed twice.
 #[derive(Drop)]
 pub(crate) struct Hooks {
     pub vetoes: Vec<Veto>,
     pub watches: Vec<ArmedWatch>,
+    ghost names: { HaveNoNameTwice (hooks_data vetoes.items watches.items) },
 }
 
 impl Guard for Hooks {
-    ghost use Rattle.keep_hooks.specs.Rules.{hooks_data};
-
     ghost armed = { λ hooks. hooks_data hooks.vetoes.items hooks.watches.items };
 
     ghost tallies = { λ hooks. tallies_of hooks.watches.items };

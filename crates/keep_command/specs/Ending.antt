@@ -2,22 +2,25 @@
 use Rattle.std.specs.Prelude.{◌≡◌, ℕ, List, [], ◌++◌, Some, None, codes}
 use Rattle.std.specs.Borrow.{Bor}
 use Rattle.std.specs.Fmt.{decimal}
+use Rattle.keep_ledger.specs.OpenError.{open_error_text}
 use Rattle.keep_lines.specs.Mistake.{mistake_text}
-use Rattle.keep_script.specs.declared.status.Status.TheVariants.{Done, BadLine, ReadFailed, ScriptTooLong, WriteFailed, NoMemory}
+use Rattle.keep_script.specs.declared.status.Status.TheVariants.{Done, Faulted, BadLine, ReadFailed, ScriptTooLong, WriteFailed, NoMemory, NotOpened}
 use Rattle.keep_command.specs.Option.{IsBadWord}
 use Rattle.keep_command.specs.declared.ending.Ending.{Ending}
 use Rattle.keep_command.specs.declared.ending.Ending.TheVariants as ending
 use Rattle.keep_command.specs.declared.options.BadOptions.{BadOptions}
 use Rattle.keep_command.specs.declared.options.BadOptions.TheVariants.{Memory, Refused}
 
--- the exit status: 0 where the script was answered, 2 where a line isn't of the language or the words aren't options, 1 where the run failed
+-- the exit status: 0 where the script was answered and the shelf never failed, 1 where it did or the run failed, 2 where a line isn't of the language or the words aren't options
 abbrev pub code_of : Ending → ℕ
 code_of (ending.Ran Done) = 0
+code_of (ending.Ran Faulted) = 1
 code_of (ending.Ran (BadLine number why)) = 2
 code_of (ending.Ran ReadFailed) = 1
 code_of (ending.Ran ScriptTooLong) = 1
 code_of (ending.Ran WriteFailed) = 1
 code_of (ending.Ran NoMemory) = 1
+code_of (ending.Ran (NotOpened error)) = 1
 code_of (ending.BadOptions word) = 2
 
 -- the end where no options are read, and no word is named
@@ -32,17 +35,19 @@ usage = codes "usage: keepd [--cut N] [--now TIME] [--host H] [--tagged T] [--dr
 -- the line on standard error
 abbrev pub ending_text : Ending → List ℕ
 ending_text (ending.Ran Done) = codes "keepd: done"
+ending_text (ending.Ran Faulted) = codes "keepd: the shelf failed"
 ending_text (ending.Ran (BadLine number why)) =
     codes "keepd: line " ++ (decimal number ++ (codes ": " ++ mistake_text why))
 ending_text (ending.Ran ReadFailed) = codes "keepd: cannot read the script"
 ending_text (ending.Ran ScriptTooLong) = codes "keepd: the script has more than 67,108,863 bytes"
 ending_text (ending.Ran WriteFailed) = codes "keepd: cannot write the answers"
 ending_text (ending.Ran NoMemory) = codes "keepd: no memory"
+ending_text (ending.Ran (NotOpened error)) = codes "keepd: cannot open: " ++ open_error_text error
 ending_text (ending.BadOptions None) = codes "keepd: bad options; " ++ usage
 ending_text (ending.BadOptions (Some word)) =
     codes "keepd: bad options: " ++ (word.now ++ (codes "; " ++ usage))
 
--- what is written on standard error: that line, unless each line of the script was answered
+-- what is written on standard error: that line, unless each line of the script was answered and the shelf never failed
 abbrev pub told_text : Ending → List ℕ
 told_text (ending.Ran Done) = []
 told_text ended = ending_text ended ++ codes "\n"

@@ -1,5 +1,6 @@
 -- What a run by the options does.
 use Rattle.std.specs.Prelude.{◌≡◌, ◌≢◌, ◌≤◌, ℕ, List, [], ◌∷◌, length, IfSome, Option, String, codes, string_bytes}
+use Rattle.std.specs.FinMap as map
 use Rattle.std.specs.Global.{Global}
 use Rattle.std.specs.Io.KnownBytes.{Keeps}
 use Rattle.keep_hooks.specs.Guards.{Rule, WatchData}
@@ -7,9 +8,10 @@ use Rattle.keep_jobs.specs.Kits.{KitData, NamedRule}
 use Rattle.keep_hooks.specs.declared.limit.Limit.TheVariants.{NoEmpty, SnapshotDropsAtMost}
 use Rattle.keep_hooks.specs.declared.measure.Measure.TheVariants.{Events, FilesWritten}
 use Rattle.keep_filters.specs.declared.pick.Pick.TheVariants.{Any, Host, Tagged}
+use Rattle.keep_shelf.specs.Shelved.{Shelved, stocked}
 use Rattle.keep_script.specs.Known.{Writes, WritesLines}
 use Rattle.keep_script.specs.Line.{longest_script}
-use Rattle.keep_script.specs.Run.{Ends}
+use Rattle.keep_script.specs.Run.{EndsOver}
 use Rattle.keep_script.specs.State.{State, begun}
 use Rattle.keep_script.specs.declared.status.Status.{Status}
 use Rattle.keep_script.specs.declared.status.Status.TheVariants.{ScriptTooLong, WriteFailed}
@@ -35,11 +37,15 @@ stored_watches =
 abbrev pub stored : List NamedRule → ℕ → KitData
 stored filters drops = record { filters = filters; vetoes = stored_vetoes drops; watches = stored_watches }
 
--- the script is answered by the options, with these filters
+-- a shelf that was just made, with nothing on it
+abbrev pub empty_shelf : Shelved
+empty_shelf = stocked map.empty
+
+-- the script is answered by the options over an empty shelf, with these filters
 abbrev pub RunsWith : List NamedRule → OptionsData → (known left old new : Option (List ℕ)) → Status → Type 0
 RunsWith filters options known left old new status =
     Writes old new (λ text. (after : State)
-    × Ends (begun options.cut options.now (stored filters options.drops)) known left text status after)
+    × EndsOver empty_shelf (begun options.cut options.now (stored filters options.drops) empty_shelf) known left text status after)
 
 -- the script is answered by the options
 pub record Runs (options : OptionsData) (known left old new : Option (List ℕ)) (status : Status) : Type 0 where

@@ -11,7 +11,7 @@ use std::io::{self, Write};
 const USAGE: &str =
     "usage: keepd [--cut N] [--now TIME] [--host H] [--tagged T] [--drops N] < SCRIPT";
 
-/// Says on standard error why the program ended, unless each line was answered. Answers the exit status, which is the
+/// Says on standard error why the program ended, unless each line was answered and the shelf never failed. Answers the exit status, which is the
 /// same where that can't be written, and whether it could.
 pub fn tell<E: Write>(ending: Ending<'_>, errors: &mut E) -> (u8, io::Result<()>)
     ensures code { result.0 ≡ code_of ending.entry }
@@ -25,7 +25,7 @@ pub fn tell<E: Write>(ending: Ending<'_>, errors: &mut E) -> (u8, io::Result<()>
 }
 
 /// How the program ended. It prints as the line on standard error that says why.
-#[derive(Clone, Copy)]
+#[derive(Drop)]
 pub enum Ending<'a> {
     /// The script was run, to this end.
     Ran(Status),
@@ -38,22 +38,23 @@ impl Ending<'_> {
     ghost use Rattle.keep_command.specs.Ending.{code_of};
     ghost use Rattle.keep_command.specs.declared.ending.Ending.TheVariants as the_ending;
 
-    /// The exit status: 0 where each line was answered, 1 where the run failed, 2 where a line isn't
-    /// of the language or the words aren't options.
-    pub fn code(self) -> u8
-        ensures { result ≡ code_of self.entry }
+    /// The exit status: 0 where each line was answered and the shelf never failed, 1 where it did or the run failed, 2
+    /// where a line isn't of the language or the words aren't options.
+    pub fn code(&self) -> u8
+        ensures { result ≡ code_of self.now }
     {
         match self {
             Ending::Ran(Status::Done) => 0,
             Ending::Ran(Status::ReadFailed | Status::ScriptTooLong) => 1,
             Ending::Ran(Status::WriteFailed | Status::NoMemory) => 1,
+            Ending::Ran(Status::Faulted | Status::NotOpened(_)) => 1,
             Ending::Ran(Status::BadLine(_, _)) | Ending::BadOptions(_) => 2,
         }
     }
 
-    /// Whether each line was answered, so that there is nothing to say.
-    pub fn is_done(self) -> bool
-        ensures { IsTrue result ↔ (self.entry ≡ the_ending.Ran the_status.Done) }
+    /// Whether each line was answered and the shelf never failed, so that there is nothing to say.
+    pub fn is_done(&self) -> bool
+        ensures { IsTrue result ↔ (self.now ≡ the_ending.Ran the_status.Done) }
     {
         matches!(self, Ending::Ran(Status::Done))
     }
@@ -81,6 +82,7 @@ impl fmt::Display for Ending<'_> {
     fn fmt<W: fmt::Write>(&self, f: &mut fmt::Formatter<W>) -> fmt::Result {
         match self {
             Ending::Ran(Status::Done) => f.write_str("keepd: done"),
+            Ending::Ran(Status::Faulted) => f.write_str("keepd: the shelf failed"),
             Ending::Ran(Status::BadLine(number, why)) => write!(f, "keepd: line {number}: {why}"),
             Ending::Ran(Status::ReadFailed) => f.write_str("keepd: cannot read the script"),
             Ending::Ran(Status::ScriptTooLong) => {
@@ -88,6 +90,7 @@ impl fmt::Display for Ending<'_> {
             }
             Ending::Ran(Status::WriteFailed) => f.write_str("keepd: cannot write the answers"),
             Ending::Ran(Status::NoMemory) => f.write_str("keepd: no memory"),
+            Ending::Ran(Status::NotOpened(error)) => write!(f, "keepd: cannot open: {error}"),
             Ending::BadOptions(None) => write!(f, "keepd: bad options; {USAGE}"),
             Ending::BadOptions(Some(word)) => write!(f, "keepd: bad options: {word}; {USAGE}"),
         }

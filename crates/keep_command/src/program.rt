@@ -16,12 +16,13 @@ use keep_hooks::{
 };
 use keep_jobs::Kit;
 use keep_script::{Status, run};
+use keep_shelf::MemoryShelf;
 use keep_snap::SnapFacts;
 use std::alloc::{AllocError, Global};
 use std::io::{Read, Write};
 
-/// Answers the script that the reader gives, by the options that the words behind the program's
-/// name give.
+/// Answers the script that the reader gives over a shelf in memory with nothing on it, by the options that the words behind
+/// the program's name give.
 pub fn keepd<'a, R: Read, W: Write>(
     alloc: Global,
     words: &[&'a str],
@@ -124,7 +125,16 @@ fn answer_with<R: Read, W: Write>(
         vetoes: vec![in alloc; few_drops, no_empty]?,
         watches: vec![in alloc; events, files]?,
     };
-    Ok(run(alloc, reader, writer, &mut kit, options.cut, options.now))
+    let shelf = MemoryShelf::new(alloc);
+    Ok(run(
+        alloc,
+        reader,
+        writer,
+        shelf,
+        &mut kit,
+        options.cut,
+        options.now,
+    ))
 }
 
 /// The end where the words aren't options.

@@ -1,10 +1,16 @@
+pub mod Answered
 pub mod Asking
+pub mod Counted
 pub mod Doing
+pub mod Entered
+pub mod Finishing
 pub mod Marking
 pub mod Redoing
 pub mod Replying
 pub mod Restoring
+pub mod Standing
 pub mod Steps
 pub mod Sums
+pub mod Taken
 pub mod Totals
 pub mod Undoing

@@ -1,4 +1,4 @@
--- A ledger as a value, and what a commit has just left.
+-- What a ledger says, as a value, and what a commit has just left.
 use Rattle.std.specs.Prelude.{◌≡◌, ℕ, ◌+◌, []}
 use Rattle.keep_repo.specs.Repository.{Repository}
 use Rattle.keep_change.specs.declared.change.Change.{Change}

@@ -1,9 +1,15 @@
 pub mod Dependents
+pub mod Ends
+pub mod Entering
 pub mod Formed
 pub mod Guarding
+pub mod Intake
 pub mod LedgerState
 pub mod Limits
 pub mod Made
+pub mod OnShelf
+pub mod OpenError
+pub mod Opened
 pub mod Refusal
 pub mod Reply
 pub mod Request

@@ -1,4 +1,4 @@
-ghost use Rattle.std.specs.Prelude.{◌≡◌, ◌<◌, ◌≤◌, ◌==◌, nat_le, true, not, ◌&&◌, [], ◌∷◌, length, OnOk};
+ghost use Rattle.std.specs.Prelude.{◌≡◌, ◌<◌, ◌≤◌, ◌==◌, nat_le, true, not, ◌&&◌, [], ◌∷◌, length, IfErr, OnOk};
 ghost use Rattle.std.specs.Option.{option_map};
 ghost use Rattle.keep_repo.specs.Repository.{held};
 ghost use Rattle.keep_change.specs.Change.{is_met};
@@ -7,6 +7,7 @@ ghost use Rattle.keep_change.specs.Limits.{facet_limit};
 ghost use Rattle.keep_change.specs.Touch.{facets};
 ghost use Rattle.keep_journal.specs.History.{final_number, is_change, last_change, length_of};
 ghost use Rattle.keep_ledger.specs.Dependents.{leaned_on, blocked_by, Passes};
+ghost use Rattle.keep_ledger.specs.Entering.{is_plain};
 ghost use Rattle.keep_journal.specs.Opening.{AreWellFormed};
 ghost use Rattle.keep_touch.specs.Mentions.{AreNoted};
 ghost use Rattle.keep_ledger.specs.Limits.{change_limit, event_limit};
@@ -34,6 +35,7 @@ pub(crate) fn check_commit(history: &History, planned: &Planned) -> Result<(), R
     ensures room { OnOk result (length_of history.now.journal < event_limit) }
     ensures numbers { OnOk result (last_change history.now.journal < change_limit) }
     ensures within { OnOk result (length (facets planned.now.change) ≤ facet_limit) }
+    ensures plain { IfErr result (λ refusal. is_plain refusal ≡ true) }
 {
     let change = &planned.change;
     if !change.well_formed() {
@@ -48,6 +50,7 @@ pub(crate) fn check_met(live: &Repo, change: &Change) -> Result<(), Refusal>
     requires { IsWellFormed change.now }
     ensures refusal { Passes (option_map Refusal.Unmet (least_unmet (held live.now) change.now)) result }
     ensures met { OnOk result (is_met (held live.now) change.now ≡ true) }
+    ensures plain { IfErr result (λ refusal. is_plain refusal ≡ true) }
 {
     match change.meets(live) {
         Ok(()) => Ok(()),
@@ -60,6 +63,7 @@ pub(crate) fn check_undo(history: &History, touch: &Touch, n: u64) -> Result<(),
     requires { AreNoted touch.now history.now.journal }
     ensures refusal { Passes (undo_refusal history.now.journal n (leaned_on history.now.journal n)) result }
     ensures room { OnOk result (length_of history.now.journal < event_limit) }
+    ensures plain { IfErr result (λ refusal. is_plain refusal ≡ true) }
 {
     check_open(history, n)?;
     if history.status(n) != Status::InForce {
@@ -76,6 +80,7 @@ pub(crate) fn check_undo(history: &History, touch: &Touch, n: u64) -> Result<(),
 pub(crate) fn check_redo(history: &History, n: u64) -> Result<(), Refusal>
     ensures refusal { Passes (redo_refusal history.now.journal n) result }
     ensures room { OnOk result (length_of history.now.journal < event_limit) }
+    ensures plain { IfErr result (λ refusal. is_plain refusal ≡ true) }
 {
     check_open(history, n)?;
     if history.status(n) == Status::InForce {
@@ -93,7 +98,8 @@ pub(crate) fn check_blocked(
 ) -> Result<(), Refusal>
     requires formed { AreWellFormed history.now.journal }
     requires noted { AreNoted touch.now history.now.journal }
-    ensures { Passes (option_map Refusal.Blocked (blocked_by history.now.journal live.now n)) result }
+    ensures passes { Passes (option_map Refusal.Blocked (blocked_by history.now.journal live.now n)) result }
+    ensures plain { IfErr result (λ refusal. is_plain refusal ≡ true) }
 {
     match blocked_by(history, touch, live, n) {
         Some(blocked) => Err(Refusal::Blocked(blocked)),
@@ -105,6 +111,7 @@ pub(crate) fn check_blocked(
 pub(crate) fn check_empty(history: &History, n: u64) -> Result<(), Refusal>
     ensures refusal { Passes (empty_refusal history.now.journal n) result }
     ensures room { OnOk result (length_of history.now.journal < event_limit) }
+    ensures plain { IfErr result (λ refusal. is_plain refusal ≡ true) }
 {
     check_open(history, n)?;
     check_room(history)
@@ -112,10 +119,11 @@ pub(crate) fn check_empty(history: &History, n: u64) -> Result<(), Refusal>
 
 /// Change n is there and isn't final.
 fn check_open(history: &History, n: u64) -> Result<(), Refusal>
-    ensures { Passes
+    ensures passes { Passes
         (first_of ((not (is_change history.now.journal n), Refusal.Unknown)
         ∷ (nat_le n (final_number history.now.journal), Refusal.Final) ∷ []))
         result }
+    ensures plain { IfErr result (λ refusal. is_plain refusal ≡ true) }
 {
     match history.status(n) {
         Status::Unknown => Err(Refusal::Unknown),
@@ -128,6 +136,7 @@ fn check_open(history: &History, n: u64) -> Result<(), Refusal>
 fn check_room(history: &History) -> Result<(), Refusal>
     ensures refusal { Passes (first_of ((is_full history.now.journal, Refusal.Full) ∷ [])) result }
     ensures room { OnOk result (length_of history.now.journal < event_limit) }
+    ensures plain { IfErr result (λ refusal. is_plain refusal ≡ true) }
 {
     if history.length() >= MAX_EVENTS {
         return Err(Refusal::Full);
@@ -143,6 +152,7 @@ fn check_room_for(history: &History, change: &Change) -> Result<(), Refusal>
     ensures room { OnOk result (length_of history.now.journal < event_limit) }
     ensures numbers { OnOk result (last_change history.now.journal < change_limit) }
     ensures within { OnOk result (length (facets change.now) ≤ facet_limit) }
+    ensures plain { IfErr result (λ refusal. is_plain refusal ≡ true) }
 {
     check_room(history)?;
     if history.last_change() >= MAX_CHANGES || !change.is_within_limit() {
@@ -153,12 +163,13 @@ fn check_room_for(history: &History, change: &Change) -> Result<(), Refusal>
 
 /// A strict change was planned on just this history.
 fn check_seen(history: &History, planned: &Planned) -> Result<(), Refusal>
-    ensures { Passes
+    ensures passes { Passes
         (first_of ((
           planned.now.change.strict && not (planned.now.seen == length_of history.now.journal),
           Refusal.Stale (length_of history.now.journal),
         ) ∷ []))
         result }
+    ensures plain { IfErr result (λ refusal. is_plain refusal ≡ true) }
 {
     let length = history.length();
     if planned.change.strict && planned.seen != length {

@@ -1,9 +1,10 @@
-ghost use Rattle.std.specs.Prelude.{◌≡◌, ◌^◌, ◌≤◌, IfOk, IfSome};
+ghost use Rattle.std.specs.Prelude.{◌≡◌, ◌^◌, ◌≤◌, IfErr, IfOk, IfSome, true};
 ghost use Rattle.std.specs.List.{All};
 ghost use Rattle.keep_change.specs.Outline.{outline_of};
 ghost use Rattle.keep_change.specs.declared.outline.Outline.{Outline};
 ghost use Rattle.keep_hooks.specs.Guards.{HasRoom, tallies_after};
 ghost use Rattle.keep_hooks.specs.Written.{name_count};
+ghost use Rattle.keep_ledger.specs.Entering.{is_plain};
 ghost use Rattle.keep_ledger.specs.Guarding.{IsOutline, Vetoes, event_outline, outline_at, rules_for};
 
 use crate::reply::Refusal;
@@ -54,9 +55,10 @@ pub(crate) fn check_vetoes<V: Guard>(
     request: &Request,
     outline: &Result<Option<Outline>, AllocError>,
 ) -> Result<(), Refusal>
-    ensures { (asked : Outline)
+    ensures vetoes { (asked : Outline)
         → IfOk outline.now (λ made. IsOutline (V.armed guard.now).vetoes (V.tallies guard.now) asked made)
         → Vetoes (rules_for (V.armed guard.now).vetoes request.now) asked result }
+    ensures plain { IfErr result (λ refusal. is_plain refusal ≡ true) }
 {
     if !guard.has_vetoes() {
         return Ok(());

@@ -1,89 +1,112 @@
-ghost use Rattle.std.specs.Prelude.{◌≡◌, ◌<◌, IfOk, IsSome, IsTrue, OnOk, None};
+ghost use Rattle.std.specs.Prelude.{◌≡◌, ◌≢◌, ◌<◌, ℕ, IfErr, IfOk, IsSome, IsTrue, OnErr, OnOk, Ok, Err, None, [], length, map, true};
+ghost use Rattle.std.specs.FinMap as finite;
 ghost use Rattle.keep_journal.specs.History.{change_of, length_of};
 ghost use Rattle.keep_journal.specs.Kept.{is_kept};
 ghost use Rattle.keep_journal.specs.Opening.{IsOpen};
 ghost use Rattle.keep_touch.specs.Mentions.{AreNoted};
+ghost use Rattle.keep_moves.specs.Behind.{IsBehind};
 ghost use Rattle.keep_view.specs.Shown.{shown_of};
 ghost use Rattle.keep_ledger.specs.Dependents.{Passes};
+ghost use Rattle.keep_ledger.specs.Ends.{Ends, FaultsAtMoves, FaultsLast, heard};
+ghost use Rattle.keep_ledger.specs.Entering.{Enters, is_plain};
 ghost use Rattle.keep_ledger.specs.Guarding.{IsOutline, event_outline};
-ghost use Rattle.keep_ledger.specs.LedgerState.{new_ledger};
-ghost use Rattle.keep_ledger.specs.Reply.{IsFormed, Replies, early_refusal, late_refusal, state_after};
-ghost use Rattle.keep_ledger.specs.Request.{CanBegin};
+ghost use Rattle.keep_ledger.specs.OnShelf.{settled};
+ghost use Rattle.keep_ledger.specs.Opened.{IsNotOpened, bad_entry, opened};
+ghost use Rattle.keep_ledger.specs.Reply.{IsFormed, Replies, early_refusal, late_refusal, state_after, told_of};
+ghost use Rattle.keep_ledger.specs.Request.{CanBegin, CanBeMade};
 ghost use Rattle.keep_ledger.specs.Sums.{AreSums};
 
 use crate::checks::{check_blocked, check_commit, check_empty, check_met, check_redo, check_undo};
 use crate::guarding::{check_vetoes, outline_at, outline_for, tell};
+use crate::open_error::OpenError;
+use crate::opening::read_live;
 use crate::reply::{Refusal, Told};
 use crate::request::Request;
 use keep_catalog::LiveRepo;
 use keep_change::{Outline, What};
 use keep_hooks::Guard;
 use keep_journal::History;
+use keep_moves::{Move, settle};
 use keep_repo::Repo;
+use keep_shelf::{Fault, Shelf};
 use keep_touch::Touch;
 use keep_view::View;
 use std::alloc::{AllocError, Global};
 use std::marker::Model;
 
-/// A repository under numbered changes. Each call that changes it is lent the vetoes that may refuse the event and
-/// the watches that are told of it, whose totals are sums over the events since each was armed, and stay so.
+/// A repository under numbered changes, whose files stand on a shelf. Each call that changes it is lent the vetoes that
+/// may refuse the event and the watches that are told of it, whose totals are sums over the events since each was armed,
+/// and stay so.
+///
+/// The live repository and the history are in memory too. Where a call of the shelf fails after an event is in, the moves
+/// that are left of it are due, and whatever changes the ledger next begins with them.
 #[derive(Drop)]
-pub struct Ledger {
+pub struct Ledger<S: Shelf> {
     pub(crate) alloc: Global,
     /// What the changes that can still be undone make of the opening.
     pub(crate) live: LiveRepo,
     pub(crate) history: History,
     /// Of each facet the committed changes that touch it.
     pub(crate) touch: Touch,
+    /// The moves of the last event.
+    pub(crate) moves: Vec<Move>,
+    /// How many of them were made. The others are due.
+    pub(crate) made: usize,
+    pub(crate) shelf: S,
 }
 
-impl Model for Ledger {
+impl<S: Shelf> Model for Ledger<S> {
+    ghost use Rattle.std.specs.Prelude.{drop};
     ghost use Rattle.std.specs.Coded.{codes};
     ghost use Rattle.keep_repo.specs.Repository.{coded_repository};
-    ghost use Rattle.keep_ledger.specs.LedgerState.{IsConsistent, LedgerState, ledger_of_live};
+    ghost use Rattle.keep_shelf.specs.Shelved.{coded_shelved};
+    ghost use Rattle.keep_ledger.specs.OnShelf.{IsKept, OnShelf, ledger_on};
 
-    ghost Value = { LedgerState };
+    ghost Value = { OnShelf };
 
-    ghost coded = { Prim.hlevel (codes, coded_repository) };
+    ghost coded = { Prim.hlevel (codes, coded_repository, coded_shelved) };
 
-    ghost view = { λ ledger. ledger_of_live ledger.history.journal ledger.live };
+    ghost view = { λ l. ledger_on l.history.journal l.live (drop l.made l.moves.items) (S.shelved l.shelf) };
 
-    ghost invariant = { λ ledger. IsConsistent ledger.history.journal ledger.live ledger.touch };
+    ghost invariant = { λ l. IsKept l.history.journal l.live l.touch l.moves.items l.made (S.shelved l.shelf) };
 }
 
-impl Ledger {
-    /// A ledger over this repository, without changes.
-    pub fn new(alloc: Global, opening: Repo) -> Ledger
-        ensures { result ≡ new_ledger opening }
+impl<S: Shelf> Ledger<S> {
+    /// Opens a shelf that has live files alone, as a ledger without changes over the repository of these files, which has
+    /// no marks. The keys are listed and each file is read; nothing is changed on the shelf.
+    ///
+    /// `BadEntry` where something stands under another key; `Fault` where one of those calls fails; `Memory` where there
+    /// is none for the files. The shelf is let go then.
+    pub fn open(alloc: Global, shelf: S) -> Result<Ledger<S>, OpenError>
+        ensures opened { IfOk result (λ ledger. ledger ≡ opened (S.shelved shelf)) }
+        ensures free { OnOk result (bad_entry (finite.keys (S.shelved shelf).content) ≡ None) }
+        ensures refused { IfErr result (IsNotOpened (bad_entry (finite.keys (S.shelved shelf).content))) }
     {
-        Ledger {
+        let mut shelf = shelf;
+        let repo = read_live(alloc, &mut shelf)?;
+        Ok(Ledger {
             alloc,
-            live: LiveRepo::new(alloc, opening),
+            live: LiveRepo::new(alloc, repo),
             history: History::new(alloc, 0),
             touch: Touch::new(alloc),
-        }
+            moves: Vec::new(alloc),
+            made: 0,
+            shelf,
+        })
     }
 
     /// The present repository, with the bytes shared.
     pub fn repo(&self) -> Result<Repo, AllocError>
-        ensures { IfOk result (λ repo. repo ≡ self.now.live) }
+        ensures { IfOk result (λ repo. repo ≡ self.now.state.live) }
     {
         self.live.repo().copy()
     }
 
     /// The present repository, lent.
     pub fn live(&self) -> &Repo
-        ensures { result.now ≡ self.now.live }
+        ensures { result.now ≡ self.now.state.live }
     {
         self.live.repo()
-    }
-
-    /// Reads the files of the live repository, unless each was read before. A view then lends what they say, and
-    /// each change costs what its own files hold. Where there is no memory for it, a view reads them itself.
-    pub fn refresh(&mut self)
-        ensures { self.new ≡ self.old }
-    {
-        self.live.refresh();
     }
 
     /// Hashes each blob of the live repository that wasn't hashed before, if its files were read. Where memory runs
@@ -97,35 +120,79 @@ impl Ledger {
     /// The live repository, the snapshots that it knows, and the number of the last event. It
     /// takes no memory.
     pub fn view(&self) -> View<'_>
-        ensures { result ≡ shown_of self.now.opening self.now.events self.now.live }
+        ensures { let b = self.now.state in result ≡ shown_of b.opening b.events b.live }
     {
         View::of(&self.live, &self.history)
     }
 
     /// The events. They are legal, no change among them touches more facets than it may, and those in force make
-    /// the live repository of the opening.
+    /// the live repository of the opening. The shelf is behind them by the moves that are due.
     pub fn history(&self) -> &History
-        ensures events { result.now.journal ≡ self.now.events }
-        ensures open { IsOpen self.now.opening self.now.events self.now.live }
+        ensures events { result.now.journal ≡ self.now.state.events }
+        ensures open { let b = self.now.state in IsOpen b.opening b.events b.live }
+        ensures behind { let b = self.now.state in
+            IsBehind b.events b.live self.now.due (finite.get self.now.shelf.content) }
     {
         &self.history
     }
 
-    /// Does what is asked, or refuses it and changes nothing. The first of these that holds is the refusal:
+    /// The shelf, lent.
+    pub fn shelf(&self) -> &S
+        ensures { S.shelved result.now ≡ self.now.shelf }
+    {
+        &self.shelf
+    }
+
+    /// Does what is asked, or refuses it. First the moves that are due are made, whatever is asked. Then the first of
+    /// these that holds is the refusal, and nothing else is changed:
     ///
-    /// - of a commit `Malformed`, `Full`, `Stale`, `Vetoed`, `Unmet`, `Memory`;
-    /// - of an undo `Unknown`, `Final`, `NotInForce`, `Full`, `LeanedOn`, `Memory`: no veto is asked;
-    /// - of a redo `Unknown`, `Final`, `InForce`, `Full`, `Vetoed`, `Blocked`, `Memory`;
-    /// - of an emptying `Unknown`, `Final`, `Full`, `Vetoed`, `Memory`.
+    /// - of a commit `Malformed`, `Full`, `Stale`, `Vetoed`, `Unmet`, `Memory`, `Fault`;
+    /// - of an undo `Unknown`, `Final`, `NotInForce`, `Full`, `LeanedOn`, `Memory`, `Fault`: no veto is asked;
+    /// - of a redo `Unknown`, `Final`, `InForce`, `Full`, `Vetoed`, `Blocked`, `Memory`, `Fault`;
+    /// - of an emptying `Unknown`, `Final`, `Full`, `Vetoed`, `Memory`, `Fault`.
     ///
-    /// Where there is a veto, want of memory may be found before `Vetoed` and what stands behind it.
+    /// Where there is a veto, want of memory may be found before `Vetoed` and what stands behind it. `Fault` is answered
+    /// where the shelf fails at a move that was due, at a file of the trash that comes back, or at the event's entry; where
+    /// it fails after that, the event is in, the watches are told of it, and the answer is `Unsettled`.
     pub fn ask<V: Guard>(&mut self, guard: &mut V, request: Request) -> Result<Told, Refusal>
-        requires sums { AreSums self.old.events (V.armed guard.old).watches (V.tallies guard.old) }
-        ensures reply { Replies self.old (V.armed guard.old).vetoes request result }
-        ensures after { self.new ≡ state_after self.old request result }
-        ensures open { IsOpen self.old.opening self.old.events self.old.live }
+        requires sums { AreSums self.old.state.events (V.armed guard.old).watches (V.tallies guard.old) }
+        ensures reply { result ≢ Err Refusal.Fault →
+            Replies self.old.state (V.armed guard.old).vetoes request (heard self.old.state request result) }
+        ensures after { self.new.state ≡ state_after self.old.state request (heard self.old.state request result) }
+        ensures ends { Ends self.old request result self.new }
+        ensures faults { FaultsLast self.old (V.armed guard.old).vetoes request result self.new }
+        ensures open { let b = self.old.state in IsOpen b.opening b.events b.live }
         ensures hooks { V.armed guard.new ≡ V.armed guard.old }
-        ensures sums { AreSums self.new.events (V.armed guard.new).watches (V.tallies guard.new) }
+        ensures sums { AreSums self.new.state.events (V.armed guard.new).watches (V.tallies guard.new) }
+    {
+        self.finish()?;
+        let told = self.try_ask(guard, request)?;
+        match self.finish() {
+            Ok(()) => Ok(told),
+            Err(Fault) => Err(Refusal::Unsettled(told.number)),
+        }
+    }
+
+    /// Makes the moves that are due, in their order. Where a call fails, the others stay due.
+    fn finish(&mut self) -> Result<(), Fault>
+        ensures ok { OnOk result (self.new ≡ settled self.old) }
+        ensures err { OnErr result (FaultsAtMoves self.old self.new) }
+        ensures open { let b = self.old.state in IsOpen b.opening b.events b.live }
+    {
+        settle(&mut self.shelf, self.moves.as_slice(), &mut self.made)
+    }
+
+    /// Does what is asked where no move is due, but for the moves of its event, or refuses it.
+    fn try_ask<V: Guard>(&mut self, guard: &mut V, request: Request) -> Result<Told, Refusal>
+        requires settled { self.old.due ≡ [] }
+        requires sums { AreSums self.old.state.events (V.armed guard.old).watches (V.tallies guard.old) }
+        ensures reply { result ≢ Err Refusal.Fault →
+            Replies self.old.state (V.armed guard.old).vetoes request result }
+        ensures enters { Enters self.old request result self.new }
+        ensures free { let told = told_of self.old.state.events request in
+            result ≡ Err Refusal.Fault → Replies self.old.state (V.armed guard.old).vetoes request (Ok told) }
+        ensures hooks { V.armed guard.new ≡ V.armed guard.old }
+        ensures sums { AreSums self.new.state.events (V.armed guard.new).watches (V.tallies guard.new) }
     {
         self.check(&request)?;
         let outline = self.outline(guard, &request);
@@ -140,9 +207,10 @@ impl Ledger {
     /// Why the request is refused, whatever the vetoes say.
     fn check(&self, request: &Request) -> Result<(), Refusal>
         ensures malformed { ¬ IsFormed request.now → result ≡ Err Refusal.Malformed }
-        ensures formed { IsFormed request.now → Passes (early_refusal self.now request.now) result }
-        ensures begins { OnOk result (CanBegin self.now request.now) }
-        ensures open { IsOpen self.now.opening self.now.events self.now.live }
+        ensures formed { IsFormed request.now → Passes (early_refusal self.now.state request.now) result }
+        ensures begins { OnOk result (CanBegin self.now.state request.now) }
+        ensures open { let b = self.now.state in IsOpen b.opening b.events b.live }
+        ensures plain { IfErr result (λ refusal. is_plain refusal ≡ true) }
     {
         match request {
             Request::Commit(planned) => check_commit(self.history(), planned),
@@ -154,15 +222,16 @@ impl Ledger {
 
     /// The notes of the events.
     fn touch(&self) -> &Touch
-        ensures { AreNoted result.now self.now.events }
+        ensures { AreNoted result.now self.now.state.events }
     {
         &self.touch
     }
 
     /// Why the request is refused once the vetoes let it pass.
     fn check_state(&self, request: &Request) -> Result<(), Refusal>
-        requires { CanBegin self.now request.now }
-        ensures { Passes (late_refusal self.now request.now) result }
+        requires { CanBegin self.now.state request.now }
+        ensures passes { Passes (late_refusal self.now.state request.now) result }
+        ensures plain { IfErr result (λ refusal. is_plain refusal ≡ true) }
     {
         match request {
             Request::Commit(planned) => check_met(self.live(), &planned.change),
@@ -173,8 +242,8 @@ impl Ledger {
 
     /// The outline of the event that the request makes, where there is a veto or a watch.
     fn outline<V: Guard>(&self, guard: &V, request: &Request) -> Result<Option<Outline>, AllocError>
-        requires { CanBegin self.now request.now }
-        ensures { let asked = event_outline self.now request.now in
+        requires { CanBegin self.now.state request.now }
+        ensures { let asked = event_outline self.now.state request.now in
             IfOk result (λ made. IsOutline (V.armed guard.now).vetoes (V.tallies guard.now) asked made) }
     {
         let alloc = self.alloc;

@@ -2,6 +2,7 @@ ghost use Rattle.std.specs.Prelude.{◌≡◌};
 
 use keep_hooks::HookName;
 use keep_repo::Facet;
+use keep_shelf::Fault;
 use std::alloc::AllocError;
 use std::fmt;
 use thiserror::Error;
@@ -40,6 +41,12 @@ pub enum Refusal {
     Blocked(u64),
     /// Memory ran out. Nothing was changed.
     Memory,
+    /// A call of the shelf failed: one of the moves that were due, or one before the event was in. Nothing was changed,
+    /// and what is left of those moves stays due.
+    Fault,
+    /// What was asked of the change of this number is done, and is in the history; then a call of the shelf failed. The
+    /// moves that are left of it are due, and the next request begins with them.
+    Unsettled(u64),
 }
 
 impl fmt::Display for Refusal {
@@ -62,6 +69,8 @@ impl fmt::Display for Refusal {
             Refusal::LeanedOn(number) => write!(f, "LeanedOn {number}"),
             Refusal::Blocked(number) => write!(f, "Blocked {number}"),
             Refusal::Memory => f.write_str("Memory"),
+            Refusal::Fault => f.write_str("Fault"),
+            Refusal::Unsettled(number) => write!(f, "Unsettled {number}"),
         }
     }
 }
@@ -73,5 +82,15 @@ impl From<AllocError> for Refusal {
 
     fn from(_error: AllocError) -> Refusal {
         Refusal::Memory
+    }
+}
+
+impl From<Fault> for Refusal {
+    ghost use Rattle.keep_ledger.specs.declared.reply.Refusal.TheVariants as the_refusal;
+
+    ghost from_gives = { λ _ refusal. refusal ≡ the_refusal.Fault };
+
+    fn from(_fault: Fault) -> Refusal {
+        Refusal::Fault
     }
 }

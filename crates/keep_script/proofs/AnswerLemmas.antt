@@ -1,21 +1,16 @@
 -- What is written for a command, where its answer is known.
-use Rattle.std.proofs.Common.{◌≡◌, ◌≢◌, ℕ, List, [], Result, Ok, Err, Bool, true, false, not, Option, None, Some, IfOk, IfErr, inl, inr, ap, refl, subst, ◌∙◌}
-use Rattle.std.proofs.KnownBytes.{Appends-kept, Appends-nil}
-use Rattle.std.specs.Io.KnownBytes.{Keeps}
-use Rattle.keep_book.specs.Armed.{IsUnchanged, Responds, hooks_of, ledger_of}
-use Rattle.keep_ledger.specs.LedgerState.{LedgerState}
-use Rattle.keep_ledger.specs.Reply.{Replies, state_after}
+use Rattle.std.proofs.Common.{◌≡◌, ◌≢◌, ℕ, List, [], Result, Ok, Err, Bool, true, false, Option, Some, IfOk, IfErr, inl, inr, ap, refl, subst}
+use Rattle.std.proofs.KnownBytes.{Appends-nil}
+use Rattle.keep_book.specs.Armed.{IsUnchanged, Responds, ledger_of, on_shelf}
+use Rattle.keep_ledger.proofs.Counted.{faults_counted}
 use Rattle.keep_ledger.specs.declared.request.Request.{Request}
 use Rattle.keep_book.specs.declared.book.Book.{Book}
 use Rattle.keep_ledger.specs.declared.reply.Refusal.{Refusal}
 use Rattle.keep_ledger.specs.declared.reply.Told.{Told}
 use Rattle.keep_change.specs.declared.change.Change.{Change}
-use Rattle.keep_hooks.specs.Guards.{HooksData}
 use Rattle.keep_jobs.specs.Kits.{KitData}
-use Rattle.keep_jobs.specs.Job as job
 use Rattle.keep_jobs.specs.Job.{JobData, has_bad_edit, job_change, settings_view}
-use Rattle.keep_jobs.specs.Resolving.{job_of, takes_memory}
-use Rattle.keep_labels.specs.Edits.{is_bad_edit}
+use Rattle.keep_jobs.specs.Resolving.{job_of}
 use Rattle.keep_lines.specs.Command.{Asks}
 use Rattle.keep_lines.specs.Line.{IsLine}
 use Rattle.keep_lines.specs.Mistake.{IsMistake}
@@ -26,17 +21,16 @@ use Rattle.keep_lines.specs.declared.command.LineError.{LineError}
 use Rattle.keep_lines.specs.declared.command.LineError.TheVariants.{Bad, Memory}
 use Rattle.keep_lines.specs.declared.job_line.JobLine.{JobLine}
 use Rattle.keep_lines.specs.declared.mistake.Mistake.{Mistake}
-use Rattle.keep_lines.specs.declared.mistake.Mistake.TheVariants.{NoFilter as NoSuchFilter}
 use Rattle.keep_lines.specs.declared.reply.Sizes.{Sizes}
 use Rattle.keep_plan.specs.declared.plan_error.PlanError.{PlanError}
 use Rattle.keep_plan.specs.declared.plan_error.PlanError.TheVariants as plan_error
-use Rattle.keep_script.specs.Answer.{AnswersTo, Committed, Done, JobAnswered, Shows, commit_of, shown_by}
+use Rattle.keep_script.specs.Answer.{AnswersTo, Committed, Done, JobAnswered, Shows, commit_of, replied, shown_by}
 use Rattle.keep_script.specs.Known.{Puts, Writes}
-use Rattle.keep_script.specs.State.{State, state_of}
+use Rattle.keep_script.specs.State.{State, session_after, state_of}
 use Rattle.keep_script.specs.declared.session.Session.{Session}
 use Rattle.keep_script.specs.Status.{stop_of}
 use Rattle.keep_script.specs.Step.{AnswersCommand, AnswersLine}
-use Rattle.keep_script.specs.Text.{commit_text, no_memory_answer, outcome_answer, reply_answer, unplanned_answer}
+use Rattle.keep_script.specs.Text.{commit_text, outcome_answer, reply_answer, unplanned_answer}
 use Rattle.keep_script.specs.declared.status.Stop.{Stop}
 use Rattle.keep_script.specs.declared.status.Stop.TheVariants.{BadLine, ReadFailed, ScriptTooLong, WriteFailed, NoMemory}
 
@@ -76,31 +70,34 @@ AnswersLine-unread a state line Memory stop r e bad same = rw (same, e) ([], App
 
 -- ---- commits
 
--- what the book is asked decides on it
-pub left_by : {I F g J E h : _} (kit : KitData) (session : Session) (book book' : Book I F g J E h) (request : Request) (reply : Result Told Refusal)
-    → Responds book request reply book'
-    → state_of kit session book' ≡ record (state_of kit session book) { book = state_after (ledger_of book) request reply }
-left_by kit session book book' request reply asks = rw (asks.ledger, asks.hooks) refl
+-- what the book replies decides on what is left
+pub left_by : {S I F g J E h : _} (kit : KitData) (session session' : Session) (book book' : Book S I F g J E h) (request : Request) (reply : Result Told Refusal)
+    → Responds book request reply book' → session' ≡ session_after session reply
+    → state_of kit session' book' ≡ replied (state_of kit session book) request reply
+left_by kit session session' book book' request reply asks noted =
+    let counted = faults_counted (on_shelf book) (on_shelf book') request reply asks.ends in
+    rw (noted, asks.ledger, asks.hooks, counted) refl
 
 -- the change that was made ready is committed
-pub Committed-by : {I F g J E h : _} (kit : KitData) (session : Session) (book book' : Book I F g J E h) (change : Change) (sizes : Sizes) (reply : Result Told Refusal)
-    → Responds book (commit_of (ledger_of book) change) reply book' → sizes ≡ sizes_of change
-    → Committed (state_of kit session book) change (reply_answer (commit_text sizes) reply) (state_of kit session book')
-Committed-by kit session book book' change sizes reply asks counted = record {
+pub Committed-by : {S I F g J E h : _} (kit : KitData) (session session' : Session) (book book' : Book S I F g J E h) (change : Change) (sizes : Sizes) (reply : Result Told Refusal)
+    → Responds book (commit_of (ledger_of book) change) reply book' → session' ≡ session_after session reply → sizes ≡ sizes_of change
+    → Committed (state_of kit session book) change (reply_answer (commit_text sizes) reply) (state_of kit session' book')
+Committed-by kit session session' book book' change sizes reply asks noted counted = record {
   reply = reply;
   replies = asks.replies;
   text = ap (λ s. reply_answer (commit_text s) reply) counted;
-  left = left_by kit session book book' (commit_of (ledger_of book) change) reply asks;
+  left = left_by kit session session' book book' (commit_of (ledger_of book) change) reply asks noted;
 }
 
 -- ---- jobs
 
 -- what came of a job was answered: it was committed as it was to be planned
-Job-made : {I F g J E h : _} (kit : KitData) (session : Session) (book book' : Book I F g J E h) (job : JobData) (made : Result Told Refusal × Sizes) (change : Change)
-    → job_change (shown_by (ledger_of book)) (settings_view session.settings) job ≡ Ok change → Responds book (commit_of (ledger_of book) change) made.0 book' → made.1 ≡ sizes_of change
-    → JobAnswered (state_of kit session book) job (reply_answer (commit_text made.1) made.0) (state_of kit session book')
-Job-made kit session book book' job made change due asks counted =
-    rw due (inl (Committed-by kit session book book' change made.1 made.0 asks counted))
+Job-made : {S I F g J E h : _} (kit : KitData) (session session' : Session) (book book' : Book S I F g J E h) (job : JobData) (made : Result Told Refusal × Sizes) (change : Change)
+    → job_change (shown_by (ledger_of book)) (settings_view session.settings) job ≡ Ok change → Responds book (commit_of (ledger_of book) change) made.0 book'
+    → session' ≡ session_after session made.0 → made.1 ≡ sizes_of change
+    → JobAnswered (state_of kit session book) job (reply_answer (commit_text made.1) made.0) (state_of kit session' book')
+Job-made kit session session' book book' job made change due asks noted counted =
+    rw due (inl (Committed-by kit session session' book book' change made.1 made.0 asks noted counted))
 
 -- an edit that isn't refused as bad is none
 good_edit : (bad : Bool) → (bad ≡ true → ◌≡◌ {A = PlanError} plan_error.Memory plan_error.BadEdit) → bad ≡ false
@@ -125,35 +122,25 @@ Job-refused state after job plan_error.SnapshotThere due bad same = rw (due (λ 
 Job-refused state after job plan_error.NothingToDo due bad same = rw (due (λ e. cc e)) (inl (record { text = refl; same = same }))
 Job-refused state after job plan_error.Memory due bad same = inr (good_edit (has_bad_edit job) bad, record { text = refl; same = same })
 
--- what is asked of a book that was left alone is asked of the book before
-pub asked_after : {I F g J E h : _} (book same after : Book I F g J E h) (request : Request) (reply : Result Told Refusal) → IsUnchanged book same
-    → Responds same request reply after → Responds book request reply after
-asked_after book same after request reply left asks = record {
-  replies =
-      subst (λ (ledger : LedgerState). Replies ledger (hooks_of book).vetoes request reply) left.ledger
-      (subst (λ (hooks : HooksData). Replies (ledger_of same) hooks.vetoes request reply) left.hooks asks.replies);
-  ledger = asks.ledger ∙ ap (λ ledger. state_after ledger request reply) left.ledger;
-  hooks = asks.hooks ∙ left.hooks;
-}
-
-left_alone : {I F g J E h : _} (kit : KitData) (session : Session) (book book' : Book I F g J E h) → IsUnchanged book book'
-    → state_of kit session book' ≡ state_of kit session book
-left_alone kit session book book' same = rw (same.ledger, same.hooks) refl
+-- nothing was asked of the book
+left_alone : {S I F g J E h : _} (kit : KitData) (session session' : Session) (book book' : Book S I F g J E h) → IsUnchanged book book' → session' ≡ session
+    → state_of kit session' book' ≡ state_of kit session book
+left_alone kit session session' book book' same kept = rw (kept, same.ledger, same.hooks) refl
 
 -- the answer to a line's job, whose values were found
-pub Job-answer : {I F g J E h : _} (a b : Option (List ℕ)) (kit : KitData) (session : Session) (book book' : Book I F g J E h) (line : JobLine) (asked : JobData)
+pub Job-answer : {S I F g J E h : _} (a b : Option (List ℕ)) (kit : KitData) (session session' : Session) (book book' : Book S I F g J E h) (line : JobLine) (asked : JobData)
     (outcome : Result (Result Told Refusal × Sizes) PlanError) (r : Result (Unit {0}) Stop) → job_of kit.filters line ≡ Some asked
-    → IfOk outcome (λ made. (change : Change) × (job_change (shown_by (ledger_of book)) (settings_view session.settings) asked ≡ Ok change) × Responds book (commit_of (ledger_of book) change) made.0 book' × (made.1 ≡ sizes_of change))
+    → IfOk outcome (λ made. (change : Change) × (job_change (shown_by (ledger_of book)) (settings_view session.settings) asked ≡ Ok change) × Responds book (commit_of (ledger_of book) change) made.0 book' × (session' ≡ session_after session made.0) × (made.1 ≡ sizes_of change))
     → IfErr outcome (λ refusal. refusal ≢ plan_error.Memory → job_change (shown_by (ledger_of book)) (settings_view session.settings) asked ≡ Err refusal)
-    → (has_bad_edit asked ≡ true → outcome ≡ Err plan_error.BadEdit) → IfErr outcome (λ refusal. IsUnchanged book book') → Puts a b (outcome_answer outcome) r
-    → Writes a b (λ t. AnswersCommand (state_of kit session book) (the_command.Job line) t r (state_of kit session book'))
-Job-answer a b kit session book book' line asked (Ok made) r named h refused bad same puts =
-    AnswersCommand-puts a b _ _ (the_command.Job line) _ r puts (asked, named, Job-made kit session book book' asked made h.0 h.1 h.2 h.3)
-Job-answer a b kit session book book' line asked (Err refusal) r named made due bad same puts =
+    → (has_bad_edit asked ≡ true → outcome ≡ Err plan_error.BadEdit) → IfErr outcome (λ refusal. IsUnchanged book book' × (session' ≡ session)) → Puts a b (outcome_answer outcome) r
+    → Writes a b (λ t. AnswersCommand (state_of kit session book) (the_command.Job line) t r (state_of kit session' book'))
+Job-answer a b kit session session' book book' line asked (Ok made) r named h refused bad same puts =
+    AnswersCommand-puts a b _ _ (the_command.Job line) _ r puts (asked, named, Job-made kit session session' book book' asked made h.0 h.1 h.2 h.3 h.4)
+Job-answer a b kit session session' book book' line asked (Err refusal) r named made due bad same puts =
     AnswersCommand-puts a b _ _ (the_command.Job line) _ r puts (
       asked,
       named,
-      Job-refused (state_of kit session book) (state_of kit session book') asked refusal due
+      Job-refused (state_of kit session book) (state_of kit session' book') asked refusal due
           (λ is. let refused : ◌≡◌ {A = Result (Result Told Refusal × Sizes) PlanError} (Err refusal) (Err plan_error.BadEdit) = bad is in cc refused)
-          (left_alone kit session book book' same),
+          (left_alone kit session session' book book' same.0 same.1),
     )

@@ -1,5 +1,5 @@
 -- How many bytes may still come, beside how many are left.
-use Rattle.std.proofs.Common.{◌≡◌, ℕ, ◌+◌, ◌<◌, ◌≤◌, List, [], ◌∷◌, ◌++◌, Option, Some, None, IfSome, length, refl, ap, ◌∙◌, arith}
+use Rattle.std.proofs.Common.{◌≡◌, ℕ, ◌+◌, ◌<◌, ◌≤◌, Bool, true, false, List, [], ◌∷◌, ◌++◌, Option, Some, None, IfSome, inl, inr, length, refl, sym, ap, ◌∙◌, arith}
 use Rattle.std.proofs.lemmas.List.{length-append}
 use Rattle.std.specs.Io.KnownBytes.{Consumes, IsAtEnd}
 use Rattle.keep_script.specs.Input.{Counted, Takes, size_of}
@@ -7,6 +7,7 @@ use Rattle.keep_script.specs.declared.input.Piece.{Piece}
 use Rattle.keep_script.specs.declared.input.Piece.TheVariants.{Line, Last}
 use Rattle.keep_script.specs.Line.{longest_script}
 use Rattle.keep_script.specs.Run.{StopsAt}
+use Rattle.keep_script.specs.Status.{ReachesEnd, status_at_end}
 use Rattle.keep_script.specs.declared.status.Status.{Status}
 use Rattle.keep_script.specs.declared.status.Status.TheVariants as ended_as
 use Rattle.keep_script.specs.declared.status.Stop.{Stop}
@@ -69,10 +70,16 @@ StopsAt-write a b number ScriptTooLong status h e = cc e
 StopsAt-write a b number WriteFailed status h e = h.0
 StopsAt-write a b number NoMemory status h e = cc e
 
--- a run that stops isn't done
-pub StopsAt-Done : (a b : Option (List ℕ)) (number : ℕ) (stop : Stop) → StopsAt a b number stop ended_as.Done → ⊥
-StopsAt-Done a b number (BadLine why) h = h
-StopsAt-Done a b number ReadFailed h = cc h.0
-StopsAt-Done a b number ScriptTooLong h = cc h.0
-StopsAt-Done a b number WriteFailed h = cc h.0
-StopsAt-Done a b number NoMemory h = cc h.0
+-- a run that stops doesn't reach the script's end
+pub StopsAt-end : (a b : Option (List ℕ)) (number : ℕ) (stop : Stop) (status : Status) → StopsAt a b number stop status → ReachesEnd status → ⊥
+StopsAt-end a b number (BadLine why) status h (inl done) = rw done at h
+StopsAt-end a b number (BadLine why) status h (inr faulted) = rw faulted at h
+StopsAt-end a b number ReadFailed status h end = elim end [ inl done ↦ cc (sym done ∙ h.0) | inr faulted ↦ cc (sym faulted ∙ h.0) ]
+StopsAt-end a b number ScriptTooLong status h end = elim end [ inl done ↦ cc (sym done ∙ h.0) | inr faulted ↦ cc (sym faulted ∙ h.0) ]
+StopsAt-end a b number WriteFailed status h end = elim end [ inl done ↦ cc (sym done ∙ h.0) | inr faulted ↦ cc (sym faulted ∙ h.0) ]
+StopsAt-end a b number NoMemory status h end = elim end [ inl done ↦ cc (sym done ∙ h.0) | inr faulted ↦ cc (sym faulted ∙ h.0) ]
+
+-- nor is one that does for another cause
+pub at_end-long : (faulted : Bool) → status_at_end faulted ≡ ended_as.ScriptTooLong → ⊥
+at_end-long true e = cc e
+at_end-long false e = cc e

@@ -6,6 +6,7 @@ pub mod KnownLemmas
 pub mod LineLemmas
 pub mod ListLines
 pub mod NextLine
+pub mod OpeningLemmas
 pub mod RestoreLemmas
 pub mod RunLemmas
 pub mod StatusLemmas

@@ -1,5 +1,5 @@
 -- What a run has done after some lines, and what it has done when it ends.
-use Rattle.std.proofs.Common.{◌≡◌, ℕ, ◌+◌, List, [], ◌∷◌, ◌++◌, Option, Some, None, IfSome, Err, ◌⊎◌, inl, inr, refl, sym, ap, subst, ◌∙◌, append_assoc, append-nil}
+use Rattle.std.proofs.Common.{◌≡◌, ℕ, ◌+◌, Bool, true, false, List, [], ◌∷◌, ◌++◌, Option, Some, None, IfSome, Err, ◌⊎◌, inl, inr, refl, sym, ap, subst, ◌∙◌, append_assoc, append-nil}
 use Rattle.std.proofs.KnownBytes.{Appends-kept, Appends-nil, Appends-trans, Consumes-nil, Consumes-trans}
 use Rattle.std.proofs.lemmas.Grind.{flat_map-append}
 use Rattle.std.specs.Io.KnownBytes.{Appends, Consumes, IsAtEnd, Keeps}
@@ -11,6 +11,7 @@ use Rattle.keep_script.specs.Known.{Writes}
 use Rattle.keep_script.specs.Line.{HasLineEnd, ended, lines_of}
 use Rattle.keep_script.specs.Run.{Answer, BreaksOff, Ends, IsAnswer, ReadUpTo, Refuses, StopsAt}
 use Rattle.keep_script.specs.State.{State}
+use Rattle.keep_script.specs.Status.{ReachesEnd, status_at_end}
 use Rattle.keep_script.specs.Step.{AnswersLast, AnswersNext, BeginsAnswer, BeginsWith}
 use Rattle.keep_script.specs.Text.{bad_line_answer}
 use Rattle.keep_lines.specs.declared.mistake.Mistake.{Mistake}
@@ -63,8 +64,8 @@ Progress-more known left ahead old new newer begun now next number line t so_far
 -- ---- how it ends
 
 -- the answers to the last line, which has no end
-Answer-last : (state after : State) (number : ℕ) (line t : List ℕ) → (HasLineEnd line → ⊥) → AnswersLast state line t after → Answer state number (lines_of line) t ended_as.Done after
-Answer-last state after number [] t none answer = (answer.text, refl, answer.same)
+Answer-last : (state after : State) (number : ℕ) (line t : List ℕ) → (HasLineEnd line → ⊥) → AnswersLast state line t after → Answer state number (lines_of line) t (status_at_end after.faulted) after
+Answer-last state after number [] t none answer = (answer.text, ap (λ (s : State). status_at_end s.faulted) answer.same, answer.same)
 Answer-last state after number (b ∷ line) t none answer = rw (lines_of-last b line none) (inr (t, [], after, answer, sym (append-nil t), (refl, refl, refl)))
 
 -- what holds of the lines that were read and those that are left holds of the lines of all
@@ -83,16 +84,23 @@ all-lines (Some xs) (Some ys) lines line P each read end h =
     let all : xs ≡ ended lines ++ line = read ∙ ap (λ l. (ended lines ++ line) ++ l) end ∙ append-nil (ended lines ++ line) in
     subst P (sym (ap lines_of all ∙ lines_of-front lines line each)) h
 
+-- the script's end
+at_end : (known left : Option (List ℕ)) (begun after : State) (text : List ℕ) (faulted : Bool) → IsAtEnd left → IsAnswer begun known text (status_at_end faulted) after
+    → Ends begun known left text (status_at_end faulted) after
+at_end known left begun after text true end answer = (end, answer)
+at_end known left begun after text false end answer = (end, answer)
+
 -- all was read and answered
-pub Ends-Done : (known left ahead left' old new newer : Option (List ℕ)) (begun now after : State) (number : ℕ) (line t : List ℕ)
+pub Ends-end : (known left ahead left' old new newer : Option (List ℕ)) (begun now after : State) (number : ℕ) (line t : List ℕ)
     → Progress known left old new begun now number → (HasLineEnd line → ⊥) → Consumes left ahead line → IsAtEnd ahead → IsAtEnd left' → AnswersLast now line t after → Appends new newer t
-    → Writes old newer (λ text. Ends begun known left' text ended_as.Done after)
-Ends-Done known left ahead left' old new newer begun now after number line t so_far none taken end end' answer appended =
+    → Writes old newer (λ text. Ends begun known left' text (status_at_end after.faulted) after)
+Ends-end known left ahead left' old new newer begun now after number line t so_far none taken end end' answer appended =
     let read = Consumes-trans known left ahead (ended so_far.lines) line so_far.read taken in
-    let whole = so_far.goes_on (lines_of line) t ended_as.Done after (Answer-last now after number line t none answer) in (
+    let whole = so_far.goes_on (lines_of line) t (status_at_end after.faulted) after (Answer-last now after number line t none answer) in (
       so_far.text ++ t,
       Appends-trans old new newer so_far.text t so_far.written appended,
-      (end', all-lines known ahead so_far.lines line (λ ls. Answer begun 1 ls (so_far.text ++ t) ended_as.Done after) so_far.each read end whole),
+      at_end known left' begun after (so_far.text ++ t) after.faulted end'
+          (all-lines known ahead so_far.lines line (λ ls. Answer begun 1 ls (so_far.text ++ t) (status_at_end after.faulted) after) so_far.each read end whole),
     )
 
 -- nothing more is written
@@ -104,7 +112,7 @@ pub Ends-unread : (known left left' old new newer : Option (List ℕ)) (begun no
     → Progress known left old new begun now number → LosesPiece left left' → Shows now [] t after → Appends new newer t
     → Writes old newer (λ text. ReadUpTo begun known left' text after)
 Ends-unread known left left' old new newer begun now after number t so_far lost shown appended =
-    let whole = so_far.goes_on [] [] ended_as.Done after (refl, refl, shown.same) in (
+    let whole = so_far.goes_on [] [] (status_at_end after.faulted) after (refl, ap (λ (s : State). status_at_end s.faulted) shown.same, shown.same) in (
       so_far.text,
       Appends-nothing old new newer so_far.text t so_far.written appended shown.text,
       record {
@@ -123,12 +131,12 @@ Ends-unread known left left' old new newer begun now after number t so_far lost 
 broken-none : (known left old new : Option (List ℕ)) (begun now after : State) (number : ℕ) (t : List ℕ) (more : List (List ℕ)) (so_far : Progress known left old new begun now number)
     → Shows now [] t after → BreaksOff begun (so_far.lines ++ more) (so_far.text ++ t) after
 broken-none known left old new begun now after number t more so_far shown =
-    let whole = so_far.goes_on [] (t ++ []) ended_as.Done after (append-nil t ∙ shown.text, refl, shown.same) in
+    let whole = so_far.goes_on [] (t ++ []) (status_at_end now.faulted) after (append-nil t ∙ shown.text, refl, shown.same) in
     record {
       lines = so_far.lines;
       others = more;
       rest = [];
-      status = ended_as.Done;
+      status = status_at_end now.faulted;
       split = refl;
       answer = rw (append-nil so_far.lines, ← append_assoc so_far.text t []) at whole;
     }
@@ -138,12 +146,12 @@ broken-within : (known left old new : Option (List ℕ)) (begun now after : Stat
     → BeginsAnswer now line t after → BreaksOff begun (so_far.lines ++ line ∷ more) (so_far.text ++ t) after
 broken-within known left old new begun now after number line t more so_far (inl shown) = broken-none known left old new begun now after number t (line ∷ more) so_far shown
 broken-within known left old new begun now after number line t more so_far (inr (rest, answer)) =
-    let whole = so_far.goes_on (line ∷ []) (t ++ rest) ended_as.Done after (inr (t ++ rest, [], after, answer, sym (append-nil (t ++ rest)), (refl, refl, refl))) in
+    let whole = so_far.goes_on (line ∷ []) (t ++ rest) (status_at_end after.faulted) after (inr (t ++ rest, [], after, answer, sym (append-nil (t ++ rest)), (refl, refl, refl))) in
     record {
       lines = so_far.lines ++ line ∷ [];
       others = more;
       rest = rest;
-      status = ended_as.Done;
+      status = status_at_end after.faulted;
       split = sym (append_assoc so_far.lines (line ∷ []) more);
       answer = rw (← append_assoc so_far.text t rest) at whole;
     }
@@ -195,6 +203,8 @@ pub Ends-bad : (known left left' old new newer newest : Option (List ℕ)) (begu
     → Progress known left old new begun now number → BeginsWith left (λ line. IsBad now line why) → Shows now [] t after → Appends new newer t → Refuses newer newest number why status
     → Writes old newest (λ text. Ends begun known left' text status after)
 Ends-bad known left left' old new newer newest begun now after number why t ended_as.Done so_far h shown appended wrote = absurd wrote
+Ends-bad known left left' old new newer newest begun now after number why t ended_as.Faulted so_far h shown appended wrote = absurd wrote
+Ends-bad known left left' old new newer newest begun now after number why t (ended_as.NotOpened error) so_far h shown appended wrote = absurd wrote
 Ends-bad known left left' old new newer newest begun now after number why t (ended_as.BadLine k told) so_far h shown appended (same, cause, wrote) =
     let written = Appends-nothing old new newer so_far.text t so_far.written appended shown.text in
     let whole = bad-known known left old new begun now after number why so_far h shown.same in
@@ -231,18 +241,20 @@ broken-read (Some xs) (Some ys) begun after text h = record {
   lines = h.lines;
   others = lines_of (h.piece ++ ys);
   rest = [];
-  status = ended_as.Done;
+  status = status_at_end after.faulted;
   split = ap lines_of (h.read ∙ append_assoc (ended h.lines) h.piece ys) ∙ lines_of-front h.lines (h.piece ++ ys) h.each;
   answer = rw (append-nil text) h.answer;
 }
 
 pub Ends-broken : (known left : Option (List ℕ)) (begun after : State) (text : List ℕ) (status : Status) → Ends begun known left text status after → IfSome known (λ script. BreaksOff begun (lines_of script) text after)
 Ends-broken known left begun after text ended_as.Done h = broken-whole known begun after text ended_as.Done h.1
+Ends-broken known left begun after text ended_as.Faulted h = broken-whole known begun after text ended_as.Faulted h.1
 Ends-broken known left begun after text (ended_as.BadLine k told) h = broken-whole known begun after text (ended_as.BadLine k told) h
 Ends-broken known left begun after text ended_as.ReadFailed h = broken-read known left begun after text h
 Ends-broken known left begun after text ended_as.ScriptTooLong h = broken-read known left begun after text h
 Ends-broken known left begun after text ended_as.WriteFailed h = h
 Ends-broken known left begun after text ended_as.NoMemory h = h
+Ends-broken known left begun after text (ended_as.NotOpened error) h = absurd h
 
 -- a line's failure ends the run
 pub Ends-stop : (known left ahead left' old new newer newest : Option (List ℕ)) (begun now after : State) (number : ℕ) (stop : Stop) (status : Status) → Progress known left old new begun now number
@@ -274,7 +286,12 @@ Ends-begun known known' left old new begun begun' after status same read (t, app
 -- so does want of memory before the first line
 nothing : (known : Option (List ℕ)) (begun : State) → IfSome known (λ script. BreaksOff begun (lines_of script) [] begun)
 nothing None begun = tt
-nothing (Some script) begun = record { lines = []; others = lines_of script; rest = []; status = ended_as.Done; split = refl; answer = (refl, refl, refl) }
+nothing (Some script) begun = record { lines = []; others = lines_of script; rest = []; status = status_at_end begun.faulted; split = refl; answer = (refl, refl, refl) }
 
 pub Ends-nothing : (known left old : Option (List ℕ)) (begun : State) → Writes old old (λ text. Ends begun known left text ended_as.NoMemory begun)
 Ends-nothing known left old begun = ([], Appends-nil old, nothing known begun)
+
+-- a failed write isn't the script's end
+pub unfinished : ReachesEnd ended_as.WriteFailed → ⊥
+unfinished (inl e) = cc e
+unfinished (inr e) = cc e

@@ -1,5 +1,5 @@
 -- The answer to a line, by the state that the lines before leave.
-use Rattle.std.specs.Prelude.{◌≡◌, ℕ, Bool, true, false, IsTrue, ◌↔◌, ◌⊎◌, List, [], Some, None, Result, Ok, Err}
+use Rattle.std.specs.Prelude.{◌≡◌, ◌≢◌, ℕ, Bool, true, false, ◌||◌, IsTrue, ◌↔◌, ◌⊎◌, List, [], Some, None, Result, Ok, Err}
 use Rattle.keep_repo.specs.Repository.{Repository, is_filled}
 use Rattle.keep_names.specs.declared.file_name.FileName.{FileName}
 use Rattle.keep_names.specs.declared.file_name.Kind.TheVariants.{Snapshot}
@@ -9,8 +9,10 @@ use Rattle.keep_journal.specs.History.{length_of}
 use Rattle.keep_view.specs.Shown.{Shown, shown_of}
 use Rattle.keep_ledger.specs.LedgerState.{LedgerState}
 use Rattle.keep_book.specs.Names.{is_armed}
+use Rattle.keep_ledger.specs.Ends.{failures_after, heard}
 use Rattle.keep_ledger.specs.Reply.{Replies, state_after}
 use Rattle.keep_ledger.specs.declared.reply.Refusal.{Refusal}
+use Rattle.keep_ledger.specs.declared.reply.Refusal.TheVariants.{Fault}
 use Rattle.keep_ledger.specs.declared.request.Request.{Request}
 use Rattle.keep_ledger.specs.declared.request.Request.TheVariants as request
 use Rattle.keep_ledger.specs.Sums.{sums_of}
@@ -33,7 +35,7 @@ use Rattle.keep_lines.specs.declared.question.Question as the_question
 use Rattle.keep_lines.specs.declared.question.Question.TheVariants.{List as ListFiles, Count, History, Same, Restore, Audit, Totals}
 use Rattle.keep_script.specs.Arming.{ArmsOne, IsNowhere, IsSpare}
 use Rattle.keep_script.specs.RawFile.{file_change, file_meant}
-use Rattle.keep_script.specs.State.{State, noted_under}
+use Rattle.keep_script.specs.State.{State, is_fault, noted_under}
 use Rattle.keep_script.specs.Text.{armed_answer, commit_text, count_answer, double_name_answer, found_answer, history_answer, list_answer, no_memory_answer, note_answer, reply_answer, restore_answer, same_answer, totals_answer, unplanned_answer}
 
 -- what the book shows
@@ -49,13 +51,21 @@ pub record Shows (state : State) (shown written : List ℕ) (after : State) : Ty
   pub text : written ≡ shown
   pub same : after ≡ state
 
--- the book's reply to the request is written, and alone decides on the book afterwards
+-- what the reply leaves: an event that is in, settled or not, is added; the shelf's count of failures rises at a fault, and nowhere else
+abbrev pub replied : State → Request → Result Told Refusal → State
+replied state request reply = record state {
+  book = state_after state.book request (heard state.book request reply);
+  failures = failures_after reply state.failures;
+  faulted = state.faulted || is_fault reply;
+}
+
+-- the book's reply to the request is written, and alone decides on what is left; by its rules the book replies unless the shelf fails before the event is in
 pub record Asked (state : State) (request : Request) (accepted : Told → List ℕ)
     (written : List ℕ) (after : State) : Type 0 where
   pub reply : Result Told Refusal
-  pub replies : Replies state.book state.armed.vetoes request reply
+  pub replies : reply ≢ Err Fault → Replies state.book state.armed.vetoes request (heard state.book request reply)
   pub text : written ≡ reply_answer accepted reply
-  pub left : after ≡ record state { book = state_after state.book request reply }
+  pub left : after ≡ replied state request reply
 
 -- the change is planned on the present state, and its commit follows at once
 abbrev pub Committed : State → Change → List ℕ → State → Type 0

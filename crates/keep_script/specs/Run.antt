@@ -1,17 +1,22 @@
 -- What a run over the lines of a script writes, and how it ends.
-use Rattle.std.specs.Prelude.{◌≡◌, ℕ, ◌+◌, ◌⊎◌, List, [], ◌∷◌, ◌++◌, Option, IfSome}
+use Rattle.std.specs.Prelude.{◌≡◌, ◌≢◌, ℕ, ◌+◌, ◌⊎◌, List, [], ◌∷◌, ◌++◌, Option, None, IfSome}
+use Rattle.std.specs.FinMap as map
 use Rattle.std.specs.Io.KnownBytes.{Appends, Consumes, IsAtEnd, Keeps}
 use Rattle.std.specs.List.{AllByRecursion}
+use Rattle.keep_shelf.specs.Shelved.{Shelved}
+use Rattle.keep_ledger.specs.Opened.{IsNotOpened, bad_entry}
+use Rattle.keep_ledger.specs.declared.open_error.OpenError.TheVariants.{Memory}
 use Rattle.keep_lines.specs.declared.mistake.Mistake.{Mistake}
-use Rattle.keep_script.specs.Answer.{Answered, IsBad}
+use Rattle.keep_script.specs.Answer.{Answered, IsBad, Shows}
 use Rattle.keep_script.specs.Known.{AppendsPart}
 use Rattle.keep_script.specs.Line.{HasLineEnd, ended, lines_of}
 use Rattle.keep_script.specs.State.{State}
+use Rattle.keep_script.specs.Status.{status_at_end}
 use Rattle.keep_script.specs.Text.{bad_line_answer}
 use Rattle.keep_script.specs.declared.status.Stop.{Stop}
 use Rattle.keep_script.specs.declared.status.Stop.TheVariants as stop
 use Rattle.keep_script.specs.declared.status.Status.{Status}
-use Rattle.keep_script.specs.declared.status.Status.TheVariants.{Done, BadLine, ReadFailed, ScriptTooLong, WriteFailed, NoMemory}
+use Rattle.keep_script.specs.declared.status.Status.TheVariants.{Done, Faulted, BadLine, ReadFailed, ScriptTooLong, WriteFailed, NoMemory, NotOpened}
 
 -- the run ends at a bad line of this number
 pub record Stops (state : State) (number : ℕ) (line written : List ℕ)
@@ -24,7 +29,7 @@ pub record Stops (state : State) (number : ℕ) (line written : List ℕ)
 
 -- the text for these lines, the first of this number, how a run over them ends, and the state that it leaves
 abbrev pub Answer : State → ℕ → List (List ℕ) → List ℕ → Status → State → Type 0
-Answer state number [] text status after = (text ≡ []) × (status ≡ Done) × (after ≡ state)
+Answer state number [] text status after = (text ≡ []) × (status ≡ status_at_end state.faulted) × (after ≡ state)
 Answer state number (line ∷ lines) text status after =
     Stops state number line text status after
     ⊎ ((first rest : List ℕ) × (next : State) × Answered state line first next × (text ≡ first ++ rest)
@@ -43,7 +48,7 @@ pub record ReadUpTo (state : State) (known left : Option (List ℕ))
   pub each : AllByRecursion (λ line. HasLineEnd line → ⊥) lines
   pub last : HasLineEnd piece → ⊥
   pub read : Consumes known left (ended lines ++ piece)
-  pub answer : Answer state 1 lines text Done after
+  pub answer : Answer state 1 lines text (status_at_end after.faulted) after
 
 -- the text breaks off: it is a first part of that for some first lines of the script
 pub record BreaksOff (state : State) (script : List (List ℕ)) (text : List ℕ) (after : State) : Type 0 where
@@ -54,9 +59,10 @@ pub record BreaksOff (state : State) (script : List (List ℕ)) (text : List ℕ
   pub split : script ≡ lines ++ others
   pub answer : Answer state 1 lines (text ++ rest) status after
 
--- what is written by a run from this state, over a reader that had the known bytes, by how it ended
+-- what is written by a run from this state, over a reader that had the known bytes, by how it ended: a book is opened before its run begins
 abbrev pub Ends : State → Option (List ℕ) → Option (List ℕ) → List ℕ → Status → State → Type 0
 Ends state known left text Done after = IsAtEnd left × IsAnswer state known text Done after
+Ends state known left text Faulted after = IsAtEnd left × IsAnswer state known text Faulted after
 Ends state known left text (BadLine number why) after = IsAnswer state known text (BadLine number why) after
 Ends state known left text ReadFailed after = ReadUpTo state known left text after
 Ends state known left text ScriptTooLong after = ReadUpTo state known left text after
@@ -64,6 +70,14 @@ Ends state known left text WriteFailed after =
     IfSome known (λ script. BreaksOff state (lines_of script) text after)
 Ends state known left text NoMemory after =
     IfSome known (λ script. BreaksOff state (lines_of script) text after)
+Ends state known left text (NotOpened error) after = ⊥
+
+-- the same of a run that opens this shelf first: where it isn't opened, for another cause than memory, nothing is read or written
+abbrev pub EndsOver : Shelved → State → Option (List ℕ) → Option (List ℕ) → List ℕ → Status → State → Type 0
+EndsOver shelf state known left text (NotOpened error) after =
+    IsNotOpened (bad_entry (map.keys shelf.content)) error × (error ≢ Memory) × Keeps known left × Shows state [] text after
+EndsOver shelf state known left text status after =
+    (bad_entry (map.keys shelf.content) ≡ None) × Ends state known left text status after
 
 -- what is written at a bad line, and how the run ends then
 abbrev pub Refuses : Option (List ℕ) → Option (List ℕ) → ℕ → Mistake → Status → Type 0
@@ -71,8 +85,10 @@ Refuses old new number why (BadLine k told) = (k ≡ number) × (told ≡ why) �
 Refuses old new number why WriteFailed = AppendsPart old new (bad_line_answer number)
 Refuses old new number why NoMemory = AppendsPart old new (bad_line_answer number)
 Refuses old new number why Done = ⊥
+Refuses old new number why Faulted = ⊥
 Refuses old new number why ReadFailed = ⊥
 Refuses old new number why ScriptTooLong = ⊥
+Refuses old new number why (NotOpened error) = ⊥
 
 -- how a run ends that stops at the line of this number, and what is written then
 abbrev pub StopsAt : Option (List ℕ) → Option (List ℕ) → ℕ → Stop → Status → Type 0

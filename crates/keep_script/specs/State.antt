@@ -1,10 +1,15 @@
 -- What the lines of a run work on.
-use Rattle.std.specs.Prelude.{ℕ, ℤ, List, [], Option, Some, None, if◌then◌else◌}
+use Rattle.std.specs.Prelude.{ℕ, ℤ, Bool, true, false, ◌||◌, List, [], Option, Some, None, Result, Err, if◌then◌else◌}
 use Rattle.std.specs.BTreeMap.{get_by_text}
 use Rattle.std.specs.Str.{bytes_eq}
-use Rattle.keep_repo.specs.Repository.{Repository, empty_repository}
-use Rattle.keep_book.specs.Armed.{hooks_of, ledger_of}
+use Rattle.keep_repo.specs.Repository.{Repository}
+use Rattle.keep_shelf.specs.Shelved.{Shelved}
+use Rattle.keep_book.specs.Armed.{hooks_of, ledger_of, on_shelf}
 use Rattle.keep_ledger.specs.LedgerState.{LedgerState, new_ledger}
+use Rattle.keep_ledger.specs.Opened.{live_on}
+use Rattle.keep_ledger.specs.declared.reply.Refusal.{Refusal}
+use Rattle.keep_ledger.specs.declared.reply.Refusal.TheVariants.{Fault, Unsettled}
+use Rattle.keep_ledger.specs.declared.reply.Told.{Told}
 use Rattle.keep_book.specs.declared.book.Book.{Book}
 use Rattle.keep_hooks.specs.Guards.{HooksData, Rule, WatchData}
 use Rattle.keep_jobs.specs.Kits.{KitData, NamedRule}
@@ -13,7 +18,8 @@ use Rattle.keep_script.specs.declared.notes.Notes.{Notes}
 use Rattle.keep_script.specs.declared.session.Session.{Session}
 
 -- what jobs go by, and the filters that lines may name; a book, and what is armed over it; the vetoes and watches that
--- can still be armed; and under each name the repository that was noted last
+-- can still be armed; under each name the repository that was noted last; how many calls of the shelf failed, and
+-- whether a line of the run was answered that one did
 pub record State : Type 0 where
   pub settings : SettingsData
   pub filters : List NamedRule
@@ -22,6 +28,8 @@ pub record State : Type 0 where
   pub spare_vetoes : List Rule
   pub spare_watches : List WatchData
   pub notes : List ℕ → Option Repository
+  pub failures : ℕ
+  pub faulted : Bool
 
 -- no notes
 abbrev pub no_notes : List ℕ → Option Repository
@@ -31,20 +39,22 @@ no_notes name = None
 abbrev pub settled : ℕ → ℤ → SettingsData
 settled cut now = record { cut = cut; now = now }
 
--- a book over a repository without files and marks, nothing armed, and no notes
-abbrev pub begun : ℕ → ℤ → KitData → State
-begun cut now kit = record {
+-- a book without changes over the live files of the shelf, nothing armed, no notes, and nothing answered yet
+abbrev pub begun : ℕ → ℤ → KitData → Shelved → State
+begun cut now kit shelf = record {
   settings = settled cut now;
   filters = kit.filters;
-  book = new_ledger empty_repository;
+  book = new_ledger (live_on shelf.content);
   armed = record { vetoes = []; watches = [] };
   spare_vetoes = kit.vetoes;
   spare_watches = kit.watches;
   notes = no_notes;
+  failures = shelf.failures;
+  faulted = false;
 }
 
--- this book, what the kit has beside, and no notes
-abbrev pub begun_over : {I F g J E h : _} → SettingsData → KitData → Book I F g J E h → State
+-- this book, what the kit has beside, no notes, and nothing answered yet
+abbrev pub begun_over : {S I F g J E h : _} → SettingsData → KitData → Book S I F g J E h → State
 begun_over settings kit book = record {
   settings = settings;
   filters = kit.filters;
@@ -53,6 +63,8 @@ begun_over settings kit book = record {
   spare_vetoes = kit.vetoes;
   spare_watches = kit.watches;
   notes = no_notes;
+  failures = (on_shelf book).shelf.failures;
+  faulted = false;
 }
 
 -- the notes with one more, in the place of an older one of the name
@@ -63,8 +75,18 @@ noted_under name repository notes other = if bytes_eq name other then Some repos
 abbrev pub notes_of : Notes → List ℕ → Option Repository
 notes_of notes name = get_by_text notes.held name
 
+-- whether the reply is that a call of the shelf failed, before the event was in or after
+abbrev pub is_fault : Result Told Refusal → Bool
+is_fault (Err Fault) = true
+is_fault (Err (Unsettled n)) = true
+is_fault reply = false
+
+-- the session once the book has replied
+abbrev pub session_after : Session → Result Told Refusal → Session
+session_after session reply = record session { faulted = session.faulted || is_fault reply }
+
 -- the state that these are, with what the kit still has
-abbrev pub state_of : {I F g J E h : _} → KitData → Session → Book I F g J E h → State
+abbrev pub state_of : {S I F g J E h : _} → KitData → Session → Book S I F g J E h → State
 state_of kit session book = record {
   settings = settings_view session.settings;
   filters = kit.filters;
@@ -73,6 +95,8 @@ state_of kit session book = record {
   spare_vetoes = kit.vetoes;
   spare_watches = kit.watches;
   notes = notes_of session.notes;
+  failures = (on_shelf book).shelf.failures;
+  faulted = session.faulted;
 }
 
 -- the kit that goes with the state: its filters, and what can still be armed

@@ -1,16 +1,33 @@
 -- How a run ends.
-use Rattle.std.specs.Prelude.{ℕ, Result, Ok, Err}
+use Rattle.std.specs.Prelude.{◌≡◌, ◌⊎◌, ℕ, Bool, true, false, Result, Ok, Err}
+use Rattle.keep_ledger.specs.declared.open_error.OpenError.{OpenError}
+use Rattle.keep_ledger.specs.declared.open_error.OpenError.TheVariants.{BadEntry, Fault, Memory}
 use Rattle.keep_lines.specs.declared.command.LineError.{LineError}
-use Rattle.keep_lines.specs.declared.command.LineError.TheVariants.{Bad, Memory}
+use Rattle.keep_lines.specs.declared.command.LineError.TheVariants as line_error
 use Rattle.keep_script.specs.declared.status.Status.{Status}
 use Rattle.keep_script.specs.declared.status.Status.TheVariants as ended
 use Rattle.keep_script.specs.declared.status.Stop.{Stop}
 use Rattle.keep_script.specs.declared.status.Stop.TheVariants.{BadLine, ReadFailed, ScriptTooLong, WriteFailed, NoMemory}
 
+-- the status of a run at the script's end, by whether a fault was answered
+abbrev pub status_at_end : Bool → Status
+status_at_end true = ended.Faulted
+status_at_end false = ended.Done
+
+-- the status of a run whose shelf isn't opened
+abbrev pub status_unopened : OpenError → Status
+status_unopened Memory = ended.NoMemory
+status_unopened (BadEntry n) = ended.NotOpened (BadEntry n)
+status_unopened Fault = ended.NotOpened Fault
+
+-- the script ended, and each line was answered
+abbrev pub ReachesEnd : Status → Type 0
+ReachesEnd status = (status ≡ ended.Done) ⊎ (status ≡ ended.Faulted)
+
 -- a run stops at a line that isn't parsed
 abbrev pub stop_of : LineError → Stop
-stop_of (Bad why) = BadLine why
-stop_of Memory = NoMemory
+stop_of (line_error.Bad why) = BadLine why
+stop_of line_error.Memory = NoMemory
 
 -- the status of a run that stops at the line of this number, and why
 abbrev pub status_at : Stop → ℕ → Status

@@ -1,5 +1,5 @@
 ghost use Rattle.std.specs.Prelude.{◌≡◌, ◌<◌, IfSome, length};
-ghost use Rattle.keep_book.specs.Armed.{HasSums, hooks_of, ledger_of, with_veto};
+ghost use Rattle.keep_book.specs.Armed.{HasSums, hooks_of, ledger_of, on_shelf, with_veto};
 ghost use Rattle.keep_jobs.specs.Kits.{kit_view};
 ghost use Rattle.keep_hooks.specs.Rules.{rules_of, watches_of};
 ghost use Rattle.keep_script.specs.Arming.{Arming, Moves, veto_place, watch_place, with_watch_now};
@@ -9,6 +9,7 @@ ghost use Rattle.keep_script.specs.declared.session.Session.{Session};
 use keep_book::{Book, NotArmed};
 use keep_hooks::{Veto, Watch};
 use keep_jobs::Kit;
+use keep_shelf::Shelf;
 
 /// Why nothing is armed.
 #[derive(Clone, Copy, PartialEq, Eq)]
@@ -22,10 +23,11 @@ pub(crate) enum Unarmed {
 }
 
 /// Arms the first veto of the kit that has the name, or else the first watch.
-pub(crate) fn arm(kit: &mut Kit, book: &mut Book, name: &str) -> Result<(), Unarmed>
+pub(crate) fn arm<S: Shelf>(kit: &mut Kit, book: &mut Book<S>, name: &str) -> Result<(), Unarmed>
     requires { HasSums book.old }
     ensures arms { (session : Session) → Arming (state_of (kit_view kit.old) session book.old) name.now result
         (state_of (kit_view kit.new) session book.new) }
+    ensures sums { HasSums book.new }
 {
     if book.is_armed(name) {
         return Err(Unarmed::DoubleName);
@@ -41,11 +43,16 @@ pub(crate) fn arm(kit: &mut Kit, book: &mut Book, name: &str) -> Result<(), Unar
 
 /// Moves the first veto of the name into the book, behind the others, where there is one. It stays where it was
 /// where it isn't armed.
-fn arm_veto(vetoes: &mut Vec<Veto>, book: &mut Book, name: &str) -> Option<Result<(), Unarmed>>
+fn arm_veto<S: Shelf>(
+    vetoes: &mut Vec<Veto>,
+    book: &mut Book<S>,
+    name: &str,
+) -> Option<Result<(), Unarmed>>
     requires { HasSums book.old }
     ensures moves { Moves with_veto (veto_place name.now (rules_of vetoes.old.items)) (rules_of vetoes.old.items)
         (hooks_of book.old) result (rules_of vetoes.new.items) (hooks_of book.new) }
-    ensures ledger { ledger_of book.new ≡ ledger_of book.old }
+    ensures ledger { on_shelf book.new ≡ on_shelf book.old }
+    ensures sums { HasSums book.new }
 {
     let place = veto_named(vetoes.as_slice(), name)?;
     let veto = vetoes.remove(place);
@@ -59,12 +66,17 @@ fn arm_veto(vetoes: &mut Vec<Veto>, book: &mut Book, name: &str) -> Option<Resul
 
 /// Moves the first watch of the name into the book, behind the others, where there is one. It stays where it was
 /// where it isn't armed.
-fn arm_watch(watches: &mut Vec<Watch>, book: &mut Book, name: &str) -> Option<Result<(), Unarmed>>
+fn arm_watch<S: Shelf>(
+    watches: &mut Vec<Watch>,
+    book: &mut Book<S>,
+    name: &str,
+) -> Option<Result<(), Unarmed>>
     requires { HasSums book.old }
     ensures moves { Moves (with_watch_now (ledger_of book.old).events)
         (watch_place name.now (watches_of watches.old.items)) (watches_of watches.old.items)
         (hooks_of book.old) result (watches_of watches.new.items) (hooks_of book.new) }
-    ensures ledger { ledger_of book.new ≡ ledger_of book.old }
+    ensures ledger { on_shelf book.new ≡ on_shelf book.old }
+    ensures sums { HasSums book.new }
 {
     let place = watch_named(watches.as_slice(), name)?;
     let watch = watches.remove(place);

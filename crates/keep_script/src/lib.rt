@@ -3,6 +3,7 @@
 
 mod answering;
 mod arming;
+mod asking;
 mod input;
 mod listing;
 mod notes;
@@ -13,5 +14,5 @@ mod script;
 mod session;
 mod status;
 
-pub use script::run;
+pub use script::{run, run_on};
 pub use status::Status;

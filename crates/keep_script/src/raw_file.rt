@@ -7,15 +7,16 @@ use keep_ledger::Ledger;
 use keep_lines::{RawFile, Target};
 use keep_names::{FileName, Kind};
 use keep_repo::{Bytes, Repo};
+use keep_shelf::Shelf;
 use std::alloc::{AllocError, Global};
 
 /// The change of a line that adds or drops a file by itself; none where the file that it means isn't one.
-pub(crate) fn change_of_file(
+pub(crate) fn change_of_file<S: Shelf>(
     alloc: Global,
-    ledger: &Ledger,
+    ledger: &Ledger<S>,
     file: RawFile,
 ) -> Result<Option<Change>, AllocError>
-    ensures { IfOk result (λ found. found ≡ file_change ledger.now file) }
+    ensures { IfOk result (λ found. found ≡ file_change ledger.now.state file) }
 {
     match file {
         RawFile::Add { kind, bytes } => Ok(Some(added(alloc, kind, bytes)?)),

@@ -1,8 +1,9 @@
-ghost use Rattle.std.specs.Prelude.{◌≢◌, Err};
+ghost use Rattle.std.specs.Prelude.{◌≡◌, ◌≢◌, Err};
 ghost use Rattle.std.specs.Result.{result_map_both};
 ghost use Rattle.keep_lines.specs.Reply.{told_text};
 ghost use Rattle.keep_read.specs.Restored.{restored_view};
 ghost use Rattle.keep_script.specs.Known.{Puts, WritesLines};
+ghost use Rattle.keep_script.specs.State as states;
 ghost use Rattle.keep_script.specs.Text as texts;
 
 use crate::listing::{write_findings, write_restored};
@@ -17,6 +18,13 @@ use std::io::Write;
 
 /// What came of a commit: the book's reply, and how much the change writes.
 pub(crate) type Outcome = (Result<Told, Refusal>, Sizes);
+
+/// Whether the reply is that a call of the shelf failed.
+pub(crate) fn is_fault(reply: &Result<Told, Refusal>) -> bool
+    ensures { result ≡ states.is_fault reply.now }
+{
+    matches!(reply, Err(Refusal::Fault | Refusal::Unsettled(_)))
+}
 
 /// Writes the answer to a request to the book about an earlier change.
 pub(crate) fn write_reply<W: Write>(

@@ -1,12 +1,13 @@
 ghost use Rattle.std.specs.Prelude.{◌≡◌, ◌≢◌, ◌≤◌, ◌<◌, ◌⊎◌, IfSome, length};
 ghost use Rattle.std.specs.Io.KnownBytes.{Keeps};
-ghost use Rattle.keep_book.specs.Armed.{HasSums, hooks_of, ledger_of};
+ghost use Rattle.keep_book.specs.Armed.{HasSums, hooks_of, ledger_of, on_shelf};
 ghost use Rattle.keep_jobs.specs.Kits.{kit_view};
 ghost use Rattle.keep_jobs.specs.Job.{settings_view};
 ghost use Rattle.keep_script.specs.Known.{Writes, WritesLines};
 ghost use Rattle.keep_script.specs.Line.{longest_script};
-ghost use Rattle.keep_script.specs.Run.{Ends};
+ghost use Rattle.keep_script.specs.Run.{Ends, EndsOver};
 ghost use Rattle.keep_script.specs.State.{State, begun, begun_over, kit_of};
+ghost use Rattle.keep_script.specs.Status.{ReachesEnd};
 
 use crate::output::flush;
 use crate::session::Session;
@@ -14,11 +15,12 @@ use crate::status::Status;
 use keep_backup::Cut;
 use keep_book::Book;
 use keep_jobs::{Kit, Settings};
-use keep_repo::Repo;
+use keep_shelf::Shelf;
 use std::alloc::Global;
 use std::io::{Read, Write};
 
-/// Answers the lines of a script in turn, over a repository that begins without files.
+/// Answers the lines of a script in turn, over the live files of a shelf, which has to have nothing else on it. The shelf
+/// is let go at the end.
 ///
 /// A line has at most 1,048,576 bytes before its end. The reader is given up after 67,108,864
 /// bytes. Whatever ends the run, the lines before were answered.
@@ -31,10 +33,11 @@ use std::io::{Read, Write};
 /// what the last line left. Files are cut for a
 /// backup after every `cut` bytes, 1 to 8,388,608. For marks and sweeps it is `now`, in whole seconds since
 /// 1970-01-01T00:00:00Z, from the first line to the last.
-pub fn run<R: Read, W: Write>(
+pub fn run<S: Shelf, R: Read, W: Write>(
     alloc: Global,
     reader: &mut R,
     writer: &mut W,
+    shelf: S,
     kit: &mut Kit,
     cut: u32,
     now: i64,
@@ -43,9 +46,10 @@ pub fn run<R: Read, W: Write>(
     requires most { cut ≤ 8_388_608 }
     ensures answers { Writes (W.contents writer.old) (W.contents writer.new) (λ text. (after : State)
         × (kit_view kit.new ≡ kit_of after)
-        × Ends (begun cut now (kit_view kit.old)) (R.remaining reader.old) (R.remaining reader.new) text result after) }
+        × EndsOver (S.shelved shelf) (begun cut now (kit_view kit.old) (S.shelved shelf))
+        (R.remaining reader.old) (R.remaining reader.new) text result after) }
     ensures whole { result ≢ Status.WriteFailed → WritesLines (W.contents writer.old) (W.contents writer.new) }
-    ensures limit { result ≡ Status.Done →
+    ensures limit { ReachesEnd result →
         IfSome (R.remaining reader.old) (λ script. length script < longest_script) }
     ensures past_limit { result ≡ Status.ScriptTooLong →
         IfSome (R.remaining reader.old) (λ script. longest_script ≤ length script) }
@@ -54,26 +58,31 @@ pub fn run<R: Read, W: Write>(
         cut: Cut::after(cut),
         now,
     };
-    let mut book = Book::new(alloc, Repo::new(alloc));
-    run_over(alloc, settings, kit, &mut book, reader, writer)
+    match Book::open(alloc, shelf) {
+        Ok(mut book) => run_on(alloc, settings, kit, &mut book, reader, writer),
+        Err(error) => Status::from(error),
+    }
 }
 
-/// Answers the lines of a script over this book, which is left as the last line left it, as the kit is.
-fn run_over<R: Read, W: Write>(
+/// Answers the lines of a script over this book, which is left as the last line left it, as the kit is. The same holds of it
+/// as of `run`, which opens a book and goes on so.
+pub fn run_on<S: Shelf, R: Read, W: Write>(
     alloc: Global,
     settings: Settings,
     kit: &mut Kit,
-    book: &mut Book,
+    book: &mut Book<S>,
     reader: &mut R,
     writer: &mut W,
 ) -> Status
     requires { HasSums book.old }
     ensures answers { Writes (W.contents writer.old) (W.contents writer.new) (λ text. (after : State)
-        × (ledger_of book.new ≡ after.book) × (hooks_of book.new ≡ after.armed) × (kit_view kit.new ≡ kit_of after)
+        × (ledger_of book.new ≡ after.book) × ((on_shelf book.new).shelf.failures ≡ after.failures)
+        × (hooks_of book.new ≡ after.armed) × (kit_view kit.new ≡ kit_of after)
         × Ends (begun_over (settings_view settings) (kit_view kit.old) book.old)
         (R.remaining reader.old) (R.remaining reader.new) text result after) }
+    ensures sums { HasSums book.new }
     ensures whole { result ≢ Status.WriteFailed → WritesLines (W.contents writer.old) (W.contents writer.new) }
-    ensures limit { result ≡ Status.Done →
+    ensures limit { ReachesEnd result →
         IfSome (R.remaining reader.old) (λ script. length script < longest_script) }
     ensures past_limit { result ≡ Status.ScriptTooLong →
         IfSome (R.remaining reader.old) (λ script. longest_script ≤ length script) }

@@ -6,6 +6,7 @@ ghost use Rattle.keep_script.specs.Known.{Writes, WritesLines};
 ghost use Rattle.keep_script.specs.Line.{longest_script};
 ghost use Rattle.keep_script.specs.Run.{Ends, Refuses, StopsAt};
 ghost use Rattle.keep_script.specs.State.{no_notes, notes_of, state_of};
+ghost use Rattle.keep_script.specs.Status.{ReachesEnd};
 ghost use Rattle.keep_script.specs.Step.{AnswersNext};
 
 use crate::input::{Input, Piece};
@@ -15,6 +16,7 @@ use crate::status::{Status, Stop};
 use keep_book::Book;
 use keep_jobs::{Kit, Settings};
 use keep_lines::Mistake;
+use keep_shelf::Shelf;
 use std::alloc::{AllocError, Global};
 use std::io::{Read, Write};
 
@@ -25,6 +27,8 @@ pub(crate) struct Session {
     pub settings: Settings,
     pub input: Input,
     pub notes: Notes,
+    /// Whether a line was answered that a call of the shelf failed.
+    pub faulted: bool,
 }
 
 impl Session {
@@ -32,6 +36,7 @@ impl Session {
     pub fn new(alloc: Global, settings: Settings) -> Result<Session, AllocError>
         ensures settings { IfOk result (λ session. session.settings ≡ settings) }
         ensures notes { IfOk result (λ session. notes_of session.notes ≡ no_notes) }
+        ensures faultless { IfOk result (λ session. session.faulted ≡ false) }
         ensures unread { IfOk result (λ session. unread_of session.input ≡ []) }
         ensures ahead { IfOk result (λ session. ahead_of session.input ≡ longest_script) }
     {
@@ -42,14 +47,15 @@ impl Session {
             settings,
             input,
             notes,
+            faulted: false,
         })
     }
 
     /// Answers all lines over this book, which is left as the last line left it.
-    pub fn answer_all<R: Read, W: Write>(
+    pub fn answer_all<S: Shelf, R: Read, W: Write>(
         &mut self,
         kit: &mut Kit,
-        book: &mut Book,
+        book: &mut Book<S>,
         reader: &mut R,
         writer: &mut W,
     ) -> Status
@@ -59,7 +65,8 @@ impl Session {
             Ends (state_of (kit_view kit.old) self.old book.old) (left_of self.old.input (R.remaining reader.old))
             (R.remaining reader.new) text result (state_of (kit_view kit.new) self.new book.new)) }
         ensures whole { result ≢ Status.WriteFailed → WritesLines (W.contents writer.old) (W.contents writer.new) }
-        ensures limit { result ≡ Status.Done →
+        ensures sums { HasSums book.new }
+        ensures limit { ReachesEnd result →
             IfSome (left_of self.old.input (R.remaining reader.old)) (λ script. length script < longest_script) }
         ensures past_limit { result ≡ Status.ScriptTooLong →
             IfSome (left_of self.old.input (R.remaining reader.old)) (λ script. longest_script ≤ length script) }
@@ -67,7 +74,7 @@ impl Session {
         for number in 1..u64::MAX {
             match self.answer_next(kit, book, reader, writer) {
                 Ok(true) => {}
-                Ok(false) => return Status::Done,
+                Ok(false) => return Status::at_end(self.faulted),
                 Err(stop) => return stop_at(self.alloc, number, stop, writer),
             }
         }
@@ -75,10 +82,10 @@ impl Session {
     }
 
     /// Answers the next line, and says whether it had an end.
-    fn answer_next<R: Read, W: Write>(
+    fn answer_next<S: Shelf, R: Read, W: Write>(
         &mut self,
         kit: &mut Kit,
-        book: &mut Book,
+        book: &mut Book<S>,
         reader: &mut R,
         writer: &mut W,
     ) -> Result<bool, Stop>
@@ -89,6 +96,7 @@ impl Session {
             (left_of self.new.input (R.remaining reader.new)) (R.remaining reader.new) text result
             (state_of (kit_view kit.new) self.new book.new)) }
         ensures whole { result ≢ Err Stop.WriteFailed → WritesLines (W.contents writer.old) (W.contents writer.new) }
+        ensures sums { HasSums book.new }
         ensures spent { result ≡ Ok true → ahead_of self.new.input < ahead_of self.old.input }
         ensures counted { OnOk result (Counted
             (left_of self.old.input (R.remaining reader.old)) (ahead_of self.old.input)

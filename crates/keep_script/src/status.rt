@@ -1,15 +1,18 @@
 ghost use Rattle.std.specs.Prelude.{◌≡◌};
-ghost use Rattle.keep_script.specs.Status.{status_at, status_once_flushed};
+ghost use Rattle.keep_script.specs.Status.{status_at, status_at_end, status_once_flushed};
 ghost use Rattle.keep_script.specs.declared.status.Stop.TheVariants.{NoMemory};
 
+use keep_ledger::OpenError;
 use keep_lines::{LineError, Mistake};
 use std::alloc::{AllocError, AllocFailed};
 
 /// How a run ended.
-#[derive(Clone, Copy, PartialEq, Eq)]
+#[derive(PartialEq, Eq, Drop)]
 pub enum Status {
     /// The script ended, and each line was answered.
     Done,
+    /// The script ended, and each line was answered, one of them at least by `no Fault` or `no Unsettled`.
+    Faulted,
     /// The line of this number, from 1, isn't one of the language, for this cause.
     BadLine(u64, Mistake),
     /// A read failed.
@@ -21,9 +24,22 @@ pub enum Status {
     /// The run itself found no memory: for a line, a note or an answer. Of the answer to `list`,
     /// `history`, `restore` or `audit` the first lines may be written.
     NoMemory,
+    /// The shelf wasn't opened, for this cause, which isn't want of memory. Nothing was read or written.
+    NotOpened(OpenError),
 }
 
 impl Status {
+    /// How a run ends whose script ended, by whether a fault was answered.
+    pub(crate) fn at_end(faulted: bool) -> Status
+        ensures { result ≡ status_at_end faulted }
+    {
+        if faulted {
+            Status::Faulted
+        } else {
+            Status::Done
+        }
+    }
+
     /// How a run ends that would end so, once the writer was flushed.
     pub(crate) fn once_flushed(self, flushed: Result<(), Stop>) -> Status
         ensures { result ≡ status_once_flushed self flushed }
@@ -31,6 +47,20 @@ impl Status {
         match flushed {
             Ok(()) => self,
             Err(_) => Status::WriteFailed,
+        }
+    }
+}
+
+impl From<OpenError> for Status {
+    ghost use Rattle.keep_script.specs.Status.{status_unopened};
+
+    ghost from_gives = { λ error status. status ≡ status_unopened error };
+
+    /// How a run ends whose shelf isn't opened.
+    fn from(error: OpenError) -> Status {
+        match error {
+            OpenError::Memory => Status::NoMemory,
+            error => Status::NotOpened(error),
         }
     }
 }

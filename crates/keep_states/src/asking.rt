@@ -1,9 +1,8 @@
-use crate::changing::{reply, show_repo, yes};
+use crate::changing::{ask, show_repo, yes};
 use crate::shown::show_ids;
 use crate::state::State;
 use crate::stop::Stop;
 use crate::words;
-use keep_hooks::NoHooks;
 use keep_ledger::Request;
 use keep_lines::Counts;
 use std::alloc::AllocError;
@@ -16,27 +15,17 @@ pub(crate) fn answer(
     rest: &str,
     out: &mut String,
 ) -> Result<bool, Stop> {
-    let ledger = &mut state.ledger;
-    let mut none = NoHooks {};
     match verb {
-        "undo" => reply(
-            ledger.ask(&mut none, Request::Undo(words::number(rest)?)),
-            out,
-        )?,
-        "redo" => reply(
-            ledger.ask(&mut none, Request::Redo(words::number(rest)?)),
-            out,
-        )?,
-        "empty" => reply(
-            ledger.ask(&mut none, Request::Empty(words::number(rest)?)),
-            out,
-        )?,
-        "length" => writeln!(out, "length {}", ledger.view().length())?,
+        "undo" => ask(state, Request::Undo(words::number(rest)?), out)?,
+        "redo" => ask(state, Request::Redo(words::number(rest)?), out)?,
+        "empty" => ask(state, Request::Empty(words::number(rest)?), out)?,
+        "length" => writeln!(out, "length {}", state.ground.view().length())?,
         "count" => count(state, out)?,
-        "list" => show_repo(ledger.live(), out)?,
+        "list" => show_repo(state.ground.live(), out)?,
         "filled" => {
             let facet = words::facet(rest)?;
-            writeln!(out, "{facet} {}", yes(ledger.live().facet_filled(facet)))?;
+            let filled = state.ground.live().facet_filled(facet);
+            writeln!(out, "{facet} {}", yes(filled))?;
         }
         "known" => known(state, out)?,
         _ => return Ok(false),
@@ -45,14 +34,14 @@ pub(crate) fn answer(
 }
 
 fn count(state: &State, out: &mut String) -> Result<(), AllocError> {
-    let repo = state.ledger.live();
+    let repo = state.ground.live();
     let (files, marks) = (repo.file_count(), repo.mark_count());
     writeln!(out, "{}", Counts { files, marks })
 }
 
 /// Writes the snapshots that the book knows.
 fn known(state: &State, out: &mut String) -> Result<(), AllocError> {
-    let known = state.ledger.view().known(state.alloc)?;
+    let known = state.ground.view().known(state.alloc)?;
     for id in &known {
         writeln!(out, "known {id}")?;
     }

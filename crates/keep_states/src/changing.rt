@@ -3,8 +3,7 @@ use crate::state::{State, no_change};
 use crate::stop::Stop;
 use crate::words;
 use keep_change::{Change, Outline, Turn, What};
-use keep_hooks::NoHooks;
-use keep_ledger::{Refusal, Request, Told};
+use keep_ledger::Request;
 use keep_lines::{Accepted, Refused};
 use keep_repo::Repo;
 use std::alloc::{AllocError, Global};
@@ -22,18 +21,15 @@ pub(crate) fn answer(
     match verb {
         "well-formed" => writeln!(out, "well-formed {}", yes(change.well_formed()))?,
         "facets" => writeln!(out, "facets {}", change.facet_count())?,
-        "meets" => match change.meets(state.ledger.live()) {
+        "meets" => match change.meets(state.ground.live()) {
             Ok(()) => writeln!(out, "met")?,
             Err(facet) => writeln!(out, "unmet {facet}")?,
         },
         "outline" => show_outline(state.alloc, change, rest, out)?,
-        "turn" => turn(change, &state.ledger.repo()?, out)?,
+        "turn" => turn(change, state.ground.live(), out)?,
         "commit" => {
             let planned = mem::replace(&mut state.held, no_change(state.alloc));
-            reply(
-                state.ledger.ask(&mut NoHooks {}, Request::Commit(planned)),
-                out,
-            )?;
+            ask(state, Request::Commit(planned), out)?;
         }
         _ => return Ok(false),
     }
@@ -44,12 +40,13 @@ pub(crate) fn yes(holds: bool) -> &'static str {
     if holds { "yes" } else { "no" }
 }
 
-/// Writes what the ledger answers.
-pub(crate) fn reply(reply: Result<Told, Refusal>, out: &mut String) -> Result<(), AllocError> {
-    match reply {
-        Ok(told) => writeln!(out, "{}", Accepted(told)),
-        Err(refusal) => writeln!(out, "{}", Refused(refusal)),
+/// Writes what a ledger over the repository replies.
+pub(crate) fn ask(state: &mut State, request: Request, out: &mut String) -> Result<(), Stop> {
+    match state.ground.ask(state.alloc, request)? {
+        Ok(told) => writeln!(out, "{}", Accepted(told))?,
+        Err(refusal) => writeln!(out, "{}", Refused(refusal))?,
     }
+    Ok(())
 }
 
 fn show_outline(

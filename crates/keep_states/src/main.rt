@@ -5,6 +5,7 @@
 mod asking;
 mod changing;
 mod filling;
+mod ground;
 mod listing;
 mod placing;
 mod planning;
@@ -54,7 +55,7 @@ fn answer(state: &mut State, line: &str, out: &mut String) -> Result<(), Stop> {
 
 /// Answers what is asked of the catalog.
 fn look_up(state: &State, verb: &str, rest: &str, out: &mut String) -> Result<(), Stop> {
-    let (catalog, unread) = Catalog::read_past(state.alloc, state.ledger.live())?;
+    let catalog = Catalog::read_past(state.alloc, state.ground.live())?;
     if placing::answer(state.alloc, &catalog, verb, rest, out)? {
         return Ok(());
     }
@@ -63,7 +64,7 @@ fn look_up(state: &State, verb: &str, rest: &str, out: &mut String) -> Result<()
     }
     match verb {
         "catalog" => placing::read(state, out)?,
-        "unread" => placing::show_unread(&unread, out)?,
+        "unread" => placing::show_unread(&catalog.unread(state.alloc)?, out)?,
         _ => return Err(Stop::NoLine),
     }
     Ok(())

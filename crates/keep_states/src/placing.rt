@@ -38,7 +38,7 @@ pub(crate) fn type_word(blob_type: BlobType) -> &'static str {
 
 /// Writes whether each file can be read, or else the first that can't.
 pub(crate) fn read(state: &State, out: &mut String) -> Result<(), AllocError> {
-    match Catalog::of(state.alloc, state.ledger.live()) {
+    match Catalog::of(state.alloc, state.ground.live()) {
         Ok(_) => writeln!(out, "read"),
         Err(CatalogError::Unread(file)) => writeln!(out, "{}", Refused(file)),
         Err(CatalogError::Memory) => Err(AllocError),

@@ -1,11 +1,10 @@
-use crate::changing::reply;
+use crate::changing::ask;
 use crate::shown::show_change;
 use crate::state::{State, no_change};
 use crate::stop::Stop;
 use crate::words;
 use keep_backup::{BackupFacts, Cut, plan_backup, store};
 use keep_change::{Change, Planned};
-use keep_hooks::NoHooks;
 use keep_jobs::{Settings, plan, resolve};
 use keep_ledger::Request;
 use keep_lines::{Command, JobLine, LineError, Refused, parse};
@@ -38,7 +37,7 @@ pub(crate) fn answer(
         }
         "store" => {
             let blobs = blobs(alloc, rest)?;
-            let stored = store(alloc, &state.ledger.view(), &blobs);
+            let stored = store(alloc, &state.ground.view(), &blobs);
             hold(state, stored.map(|stored| as_planned(alloc, stored)), out)?;
         }
         "file" => add_file(state, rest)?,
@@ -73,14 +72,12 @@ fn commit(
     state: &mut State,
     planned: Result<Planned, PlanError>,
     out: &mut String,
-) -> Result<(), AllocError> {
+) -> Result<(), Stop> {
     match planned {
-        Ok(planned) => reply(
-            state.ledger.ask(&mut NoHooks {}, Request::Commit(planned)),
-            out,
-        ),
-        Err(refusal) => writeln!(out, "{}", Refused(refusal)),
+        Ok(planned) => ask(state, Request::Commit(planned), out)?,
+        Err(refusal) => writeln!(out, "{}", Refused(refusal))?,
     }
+    Ok(())
 }
 
 /// The job that a line of the script language says.
@@ -104,7 +101,7 @@ fn planned(state: &State, line: &str) -> Result<Result<Planned, PlanError>, Stop
         cut: Cut::after(CUT),
         now: state.now,
     };
-    Ok(plan(alloc, &state.ledger.view(), settings, &job))
+    Ok(plan(alloc, &state.ground.view(), settings, &job))
 }
 
 /// Blobs by their types and texts.
@@ -153,7 +150,7 @@ fn back_up(state: &State, rest: &str) -> Result<Result<Planned, PlanError>, Stop
     if cut == 0 || cut > 8_388_608 {
         return Err(Stop::NoLine);
     }
-    let view = state.ledger.view();
+    let view = state.ground.view();
     Ok(plan_backup(alloc, &view, &state.files, &facts, Cut::after(cut)))
 }
 

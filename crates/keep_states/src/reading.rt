@@ -24,7 +24,7 @@ pub(crate) fn answer(
 }
 
 fn restored(state: &State, snapshot: Id, out: &mut String) -> Result<(), AllocError> {
-    match restore(state.alloc, &state.ledger.view(), snapshot) {
+    match restore(state.alloc, &state.ground.view(), snapshot) {
         Ok(restored) => show_restored(state.alloc, &restored, out),
         Err(refusal) => writeln!(out, "{}", Refused(refusal)),
     }
@@ -41,7 +41,7 @@ fn show_restored(alloc: Global, restored: &Restored, out: &mut String) -> Result
 }
 
 fn audited(state: &State, out: &mut String) -> Result<(), AllocError> {
-    let findings = audit(state.alloc, &state.ledger.view())?;
+    let findings = audit(state.alloc, &state.ground.view())?;
     for finding in &findings {
         show_finding(finding, out)?;
     }

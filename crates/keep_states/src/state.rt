@@ -1,7 +1,7 @@
+use crate::ground::Ground;
 use keep_change::{Change, Planned};
 use keep_filters::Filter;
 use keep_jobs::Kit;
-use keep_ledger::Ledger;
 use keep_names::{FileName, Id};
 use keep_repo::{Bytes, Mark, Repo};
 use std::alloc::{AllocError, Global};
@@ -10,8 +10,7 @@ use std::alloc::{AllocError, Global};
 #[derive(Drop)]
 pub(crate) struct State {
     pub alloc: Global,
-    /// The repository under its changes.
-    pub ledger: Ledger,
+    pub ground: Ground,
     /// The change that lines list, or that was planned last.
     pub held: Planned,
     /// Files that a backup is to have.
@@ -44,7 +43,7 @@ impl State {
     pub fn new(alloc: Global, kit: Kit) -> State {
         State {
             alloc,
-            ledger: Ledger::new(alloc, Repo::new(alloc)),
+            ground: Ground::new(alloc, Repo::new(alloc)),
             held: no_change(alloc),
             files: Vec::new(alloc),
             now: 0,
@@ -55,34 +54,34 @@ impl State {
 
     /// Begins a case, with an empty repository.
     pub fn begin(&mut self) {
-        self.ledger = Ledger::new(self.alloc, Repo::new(self.alloc));
+        self.ground = Ground::new(self.alloc, Repo::new(self.alloc));
         self.held = no_change(self.alloc);
         self.files = Vec::new(self.alloc);
         self.now = 0;
         self.last = String::new(self.alloc);
     }
 
-    /// A new book over the repository with this file, too.
+    /// The repository by itself, with this file, too.
     pub fn put(&mut self, name: FileName, bytes: Bytes) -> Result<(), AllocError> {
-        let mut repo = self.ledger.repo()?;
+        let mut repo = self.ground.live().copy()?;
         repo.insert_file(name, bytes)?;
-        self.ledger = Ledger::new(self.alloc, repo);
+        self.ground = Ground::new(self.alloc, repo);
         Ok(())
     }
 
-    /// A new book over the repository with this mark, too.
+    /// The repository by itself, with this mark, too.
     pub fn mark(&mut self, pack: Id, moment: i64) -> Result<(), AllocError> {
-        let mut repo = self.ledger.repo()?;
+        let mut repo = self.ground.live().copy()?;
         repo.insert_mark(pack, Mark { moment })?;
-        self.ledger = Ledger::new(self.alloc, repo);
+        self.ground = Ground::new(self.alloc, repo);
         Ok(())
     }
 
-    /// A new book over the repository without this file.
+    /// The repository by itself, without this file.
     pub fn remove(&mut self, name: FileName) -> Result<(), AllocError> {
-        let mut repo = self.ledger.repo()?;
+        let mut repo = self.ground.live().copy()?;
         repo.remove_file(name);
-        self.ledger = Ledger::new(self.alloc, repo);
+        self.ground = Ground::new(self.alloc, repo);
         Ok(())
     }
 }

@@ -1,3 +1,5 @@
+use keep_ledger::OpenError;
+use keep_shelf::Fault;
 use std::alloc::{AllocError, AllocFailed};
 use std::io;
 use thiserror::Error;
@@ -24,6 +26,18 @@ impl From<AllocError> for Stop {
 
 impl<T: Drop> From<AllocFailed<T>> for Stop {
     fn from(_error: AllocFailed<T>) -> Stop {
+        Stop::Memory
+    }
+}
+
+impl From<Fault> for Stop {
+    fn from(_fault: Fault) -> Stop {
+        Stop::Memory
+    }
+}
+
+impl From<OpenError> for Stop {
+    fn from(_error: OpenError) -> Stop {
         Stop::Memory
     }
 }

@@ -9,7 +9,7 @@ use keep_hooks::{
 };
 use keep_ledger::{Refusal, Told};
 use keep_names::Kind;
-use keep_repo::Repo;
+use keep_shelf::MemoryShelf;
 use std::alloc::{AllocError, Global};
 use std::test::Fail;
 
@@ -49,7 +49,7 @@ fn is_vetoed(reply: &Result<Told, Refusal>, name: &str) -> bool {
 #[test]
 fn the_first_veto_that_refuses_is_named(rt: HostRuntime) -> Result<(), Fail> {
     let alloc = rt.alloc();
-    let mut book = Book::new(alloc, Repo::new(alloc));
+    let mut book = Book::open(alloc, MemoryShelf::new(alloc))?;
     let ask: AskOutline = Box::new(alloc, |outline: &Outline| outline.what == What::Empty)?;
     let keep_all = Veto::new(String::from_str(alloc, "keep all")?, Limit::NoEmpty, ask);
     let ask: AskOutline = Box::new(alloc, |outline: &Outline| writes_files(outline))?;
@@ -67,7 +67,7 @@ fn the_first_veto_that_refuses_is_named(rt: HostRuntime) -> Result<(), Fail> {
 #[test]
 fn a_veto_of_an_armed_name_is_handed_back_and_not_asked(rt: HostRuntime) -> Result<(), Fail> {
     let alloc = rt.alloc();
-    let mut book = Book::new(alloc, Repo::new(alloc));
+    let mut book = Book::open(alloc, MemoryShelf::new(alloc))?;
     let ask: AskOutline = Box::new(alloc, |outline: &Outline| outline.what == What::Empty)?;
     let armed = Veto::new(String::from_str(alloc, "one")?, Limit::NoEmpty, ask);
     let ask: AskOutline = Box::new(alloc, |outline: &Outline| writes_files(outline))?;
@@ -87,7 +87,7 @@ fn a_veto_of_an_armed_name_is_handed_back_and_not_asked(rt: HostRuntime) -> Resu
 #[test]
 fn no_watch_has_the_name_of_a_veto(rt: HostRuntime) -> Result<(), Fail> {
     let alloc = rt.alloc();
-    let mut book = Book::new(alloc, Repo::new(alloc));
+    let mut book = Book::open(alloc, MemoryShelf::new(alloc))?;
     let ask: AskOutline = Box::new(alloc, |outline: &Outline| writes_files(outline))?;
     let veto = Veto::new(String::from_str(alloc, "one")?, NO_FILES, ask);
     let ask: CountOutline = Box::new(alloc, |_: &Outline| 1)?;

@@ -1,6 +1,8 @@
 use crate::readers::{Endless, Slow};
 use crate::writers::Flushed;
 use keep_command::{BadOptions, Ending, keepd};
+use keep_ledger::OpenError;
+use keep_script::Status;
 use std::alloc::Global;
 use std::io::Read;
 use std::process::Abort;
@@ -74,6 +76,23 @@ fn unread_options_give_their_status(rt: HostRuntime) -> Result<(), Fail> {
         let ending = Ending::from(error);
         let said = format!(in rt.alloc(); "{ending}")?;
         assert_eq!(rt; ending.code(), code);
+        assert_eq!(rt; said.as_str(), cause);
+    }
+    Ok(())
+}
+
+#[test]
+fn shelves_that_fail_give_their_status(rt: HostRuntime) -> Result<(), Fail> {
+    for (status, cause) in [
+        (Status::Faulted, "keepd: the shelf failed"),
+        (
+            Status::NotOpened(OpenError::BadEntry(3)),
+            "keepd: cannot open: BadEntry 3",
+        ),
+    ] {
+        let ending = Ending::Ran(status);
+        let said = format!(in rt.alloc(); "{ending}")?;
+        assert_eq!(rt; ending.code(), 1);
         assert_eq!(rt; said.as_str(), cause);
     }
     Ok(())

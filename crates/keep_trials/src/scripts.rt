@@ -3,18 +3,37 @@ use crate::writers::{ByLine, Flushed, Narrow};
 use keep_jobs::Kit;
 use keep_lines::Mistake;
 use keep_script::{Status, run};
+use keep_shelf::{MemoryShelf, Shelf};
 use std::alloc::Global;
 use std::io::{Read, Write};
 use std::test::Fail;
 
-/// How the run of what the reader gives ends. Nothing is stored, and files are cut after a mebibyte.
+/// How the run of what the reader gives ends, over a shelf in memory with nothing on it.
 fn end_of<R: Read, W: Write>(alloc: Global, reader: &mut R, writer: &mut W) -> Status {
+    end_over(alloc, MemoryShelf::new(alloc), reader, writer)
+}
+
+/// How the run of what the reader gives ends over this shelf. Nothing is stored, and files are cut after a mebibyte.
+pub fn end_over<S: Shelf, R: Read, W: Write>(
+    alloc: Global,
+    shelf: S,
+    reader: &mut R,
+    writer: &mut W,
+) -> Status {
     let mut nothing_stored = Kit {
         filters: Vec::new(alloc),
         vetoes: Vec::new(alloc),
         watches: Vec::new(alloc),
     };
-    run(alloc, reader, writer, &mut nothing_stored, 1_048_576, 1_000)
+    run(
+        alloc,
+        reader,
+        writer,
+        shelf,
+        &mut nothing_stored,
+        1_048_576,
+        1_000,
+    )
 }
 
 /// A script whose answers to `list` and `history` have several lines.

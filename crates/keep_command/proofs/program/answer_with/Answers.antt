@@ -4,9 +4,10 @@ use Rattle.keep_jobs.specs.Kits.{named_rule}
 use Rattle.keep_hooks.specs.Rules.{rule_of, watch_of}
 use Rattle.keep_hooks.specs.declared.limit.Limit.TheVariants.{SnapshotDropsAtMost}
 use Rattle.keep_command.proofs.StoredLemmas.{are-vetoes, are-watches}
-use Rattle.keep_command.specs.Running.{stored_vetoes, stored_watches}
+use Rattle.keep_command.specs.Running.{stored, stored_vetoes, stored_watches}
+use Rattle.keep_shelf.specs.Shelved.{Shelved}
 use Rattle.keep_script.specs.Known.{Writes}
-use Rattle.keep_script.specs.Run.{Ends}
+use Rattle.keep_script.specs.Run.{EndsOver}
 use Rattle.keep_script.specs.State.{State, begun}
 use Rattle.keep_command.proofs.program.answer_with.Goals as goal
 
@@ -24,20 +25,26 @@ returns-clause-runs g c =
     (ap string_bytes c.new-files.ensures.name ∙ c.in_ok-from_str-3.ensures.ok) c.new-files.ensures.rule in
     let kept : to_z w64 (of_z w64 c.args.options.now) ≡ c.args.options.now = search rules in
     let filters = map named_rule c.args.filters.items in
+    let shelf = c.new-shelf.result in
     let answered : Writes (g.W.Write.contents c.args.writer.now) (g.W.Write.contents c.run.new.writer) (λ text. (after : State)
-    × Ends (begun c.args.options.cut (to_z w64 (of_z w64 c.args.options.now)) (record { filters = filters; vetoes = map rule_of c.in_ok-vec.field-0.items; watches = map watch_of c.in_ok-vec-2.field-0.items })) (g.R.Read.remaining c.args.reader.now) (g.R.Read.remaining c.run.new.reader) text c.run.result after) =
+    × EndsOver shelf (begun c.args.options.cut (to_z w64 (of_z w64 c.args.options.now)) (record { filters = filters; vetoes = map rule_of c.in_ok-vec.field-0.items; watches = map watch_of c.in_ok-vec-2.field-0.items }) shelf) (g.R.Read.remaining c.args.reader.now) (g.R.Read.remaining c.run.new.reader) text c.run.result after) =
     let h = c.run.ensures.answers in (h.0, h.1, (h.2.0, h.2.2)) in
     let ran =
     subst
     (λ (found : List WatchData). Writes (g.W.Write.contents c.args.writer.now) (g.W.Write.contents c.run.new.writer) (λ text. (after : State)
-    × Ends (begun c.args.options.cut c.args.options.now (record { filters = filters; vetoes = stored_vetoes c.args.options.drops; watches = found })) (g.R.Read.remaining c.args.reader.now) (g.R.Read.remaining c.run.new.reader) text c.run.result after))
+    × EndsOver shelf (begun c.args.options.cut c.args.options.now (record { filters = filters; vetoes = stored_vetoes c.args.options.drops; watches = found }) shelf) (g.R.Read.remaining c.args.reader.now) (g.R.Read.remaining c.run.new.reader) text c.run.result after))
     watches
     (subst
     (λ (found : List Rule). Writes (g.W.Write.contents c.args.writer.now) (g.W.Write.contents c.run.new.writer) (λ text. (after : State)
-    × Ends (begun c.args.options.cut c.args.options.now (record { filters = filters; vetoes = found; watches = map watch_of c.in_ok-vec-2.field-0.items })) (g.R.Read.remaining c.args.reader.now) (g.R.Read.remaining c.run.new.reader) text c.run.result after))
+    × EndsOver shelf (begun c.args.options.cut c.args.options.now (record { filters = filters; vetoes = found; watches = map watch_of c.in_ok-vec-2.field-0.items }) shelf) (g.R.Read.remaining c.args.reader.now) (g.R.Read.remaining c.run.new.reader) text c.run.result after))
     vetoes
     (subst
     (λ (now : ℤ). Writes (g.W.Write.contents c.args.writer.now) (g.W.Write.contents c.run.new.writer) (λ text. (after : State)
-    × Ends (begun c.args.options.cut now (record { filters = filters; vetoes = map rule_of c.in_ok-vec.field-0.items; watches = map watch_of c.in_ok-vec-2.field-0.items })) (g.R.Read.remaining c.args.reader.now) (g.R.Read.remaining c.run.new.reader) text c.run.result after))
+    × EndsOver shelf (begun c.args.options.cut now (record { filters = filters; vetoes = map rule_of c.in_ok-vec.field-0.items; watches = map watch_of c.in_ok-vec-2.field-0.items }) shelf) (g.R.Read.remaining c.args.reader.now) (g.R.Read.remaining c.run.new.reader) text c.run.result after))
     kept answered)) in
-    (ran, (c.run.ensures.whole, c.run.ensures.past_limit))
+    let empty =
+    subst
+    (λ (shelf : Shelved). Writes (g.W.Write.contents c.args.writer.now) (g.W.Write.contents c.run.new.writer) (λ text. (after : State)
+    × EndsOver shelf (begun c.args.options.cut c.args.options.now (stored filters c.args.options.drops) shelf) (g.R.Read.remaining c.args.reader.now) (g.R.Read.remaining c.run.new.reader) text c.run.result after))
+    c.new-shelf.ensures ran in
+    (empty, (c.run.ensures.whole, c.run.ensures.past_limit))

@@ -1,18 +1,20 @@
--- The watches have room for one more event, and are told of it.
-use Rattle.keep_ledger.proofs.Asking.{few_asked, room_of}
-use Rattle.keep_ledger.proofs.Sums.{sums_told}
-use Rattle.keep_ledger.proofs.Totals.{few_names, have_room}
+-- The event was in when one of its moves failed; and what failed before would have been told.
+use Rattle.std.proofs.Common.{◌∙◌, Ok, Err, ap, inr, subst, sym}
+use Rattle.std.proofs.lemmas.Result.{err_from_is_err_and}
+use Rattle.keep_ledger.specs.OnShelf.{OnShelf}
+use Rattle.keep_ledger.specs.Reply.{Replies, told_of}
+use Rattle.keep_ledger.proofs.Answered.{unsettled_ends}
 use Rattle.keep_ledger.proofs.ledger.Ledger.ask.Goals as goal
 
-pub tell-requires-clause-small : goal.tell-requires-clause-small
-tell-requires-clause-small g c =
-    λ κs within. have_room _ _ _ _ _ c.in_ok-check.ensures.open c.requires.sums (room_of c.args.self.now c.args.request c.in_ok-check.ensures.begins.free)
+pub returns-in_err-told-clause-faults : goal.returns-in_err-told-clause-faults
+returns-in_err-told-clause-faults g c fault =
+    let due = err_from_is_err_and c.from_residual-in_err-told.result c.from_residual-in_err-told.ensures.1 in
+    let request = c.args.request in
+    inr (
+    subst (λ (m : OnShelf). Replies m.state (g.V.Guard.armed c.args.guard.now).vetoes request (Ok (told_of m.state.events request))) c.in_ok-finish.ensures.ok
+    (c.in_err-told.ensures.free (ap Err (sym due.2) ∙ sym due.1 ∙ fault)))
 
-pub tell-requires-clause-few : goal.tell-requires-clause-few
-tell-requires-clause-few g c =
-    λ κs within. few_names _ _ _ _ (rw c.in_ok-outline.was at c.outline-outline.ensures) (few_asked c.args.self.now c.args.request c.in_ok-check.ensures.open c.in_ok-check.ensures.begins)
-
-pub returns-clause-sums : goal.returns-clause-sums
-returns-clause-sums g c =
-    rw (c.tell.ensures.armed, c.tell.ensures.told _ (rw c.in_ok-outline.was at c.outline-outline.ensures))
-    (sums_told c.args.self.now c.args.request c.in_ok-check.ensures.open _ _ _ c.requires.sums c.in_ok-told.ensures.after)
+pub returns-in-Err-clause-ends : goal.returns-in-Err-clause-ends
+returns-in-Err-clause-ends g c =
+    unsettled_ends c.args.self.now c.finish.new.self c.try_ask.new.self c.finish-2.new.self c.args.request c.in_ok-told.told
+    c.in_ok-finish.ensures.ok c.in_ok-told.ensures.enters c.in-Err.ensures.err

@@ -8,7 +8,7 @@ use Rattle.keep_ledger.proofs.ledger.Ledger.outline.Goals as goal
 
 pub overflow_add-number : goal.overflow_add-number
 overflow_add-number g c =
-    let begins : CanBegin c.args.self.now (Commit c.in-Commit.planned) = rw c.in-Commit.is at c.requires in
-    let room = (has_room c.args.self.now c.in-Commit.planned begins.free).numbers in
+    let begins : CanBegin c.args.self.now.state (Commit c.in-Commit.planned) = rw c.in-Commit.is at c.requires in
+    let room = (has_room c.args.self.now.state c.in-Commit.planned begins.free).numbers in
     let last = c.last_change-number.ensures.exact ∙ ap last_change c.history-history.ensures.events in
     omega (arith, room, last)

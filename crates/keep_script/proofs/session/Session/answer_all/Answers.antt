@@ -1,26 +1,26 @@
 use Rattle.std.proofs.Common.{Err, Ok, ap, arith}
-use Rattle.keep_script.proofs.CountLemmas.{Counted-long, Counted-more, Counted-none, Counted-whole, StopsAt-Done, StopsAt-long, StopsAt-write}
+use Rattle.keep_script.proofs.CountLemmas.{Counted-long, Counted-more, Counted-none, Counted-whole, StopsAt-end, StopsAt-long, StopsAt-write}
 use Rattle.keep_script.specs.Line.{ended}
 use Rattle.keep_script.proofs.KnownLemmas.{IsAtEnd-read, WritesLines-none, WritesLines-trans}
-use Rattle.keep_script.proofs.RunLemmas.{Ends-Done, Ends-stop, Progress-more, Progress-none}
+use Rattle.keep_script.proofs.RunLemmas.{Ends-end, Ends-stop, Progress-more, Progress-none}
 use Rattle.keep_script.specs.Input.{left_of, unread_of}
 use Rattle.keep_script.proofs.session.Session.answer_all.Goals as goal
 
 pub loop-number-init : goal.loop-number-init
-loop-number-init g c = record { so_far = Progress-none _ _ _; whole = WritesLines-none _; counted = Counted-none _ _; enough = omega (arith, c.requires.ahead) }
+loop-number-init g c = record { so_far = Progress-none _ _ _; sums = c.requires.sums; whole = WritesLines-none _; counted = Counted-none _ _; enough = omega (arith, c.requires.ahead) }
 
 pub returns-in-Ok-false-clause-answers : goal.returns-in-Ok-false-clause-answers
 returns-in-Ok-false-clause-answers g c =
     let h = rw c.in-Ok-false.field-0-test at c.in-Ok-false.ensures.answers in
-    Ends-Done _ _ _ _ _ _ _ _ _ _ c.loop-number.number h.2.0 h.0 c.loop-number.invariant.so_far h.2.1 h.2.2 h.2.3
-    (IsAtEnd-read (unread_of c.answer_next.new.self.input) _ h.2.3) h.2.4 h.1
+    rw c.at_end.ensures (Ends-end _ _ _ _ _ _ _ _ _ _ c.loop-number.number h.2.0 h.0 c.loop-number.invariant.so_far h.2.1 h.2.2 h.2.3
+    (IsAtEnd-read (unread_of c.answer_next.new.self.input) _ h.2.3) h.2.4 h.1)
 
 pub returns-in-Err-clause-answers : goal.returns-in-Err-clause-answers
 returns-in-Err-clause-answers g c =
     Ends-stop _ _ (left_of c.answer_next.new.self.input (g.R.Read.remaining c.answer_next.new.reader)) _ _ _ _ _ _ _ _ c.loop-number.number c.in-Err.stop _ c.loop-number.invariant.so_far c.in-Err.ensures.answers c.stop_at.ensures.stops
 
 pub returns-in-Err-clause-limit : goal.returns-in-Err-clause-limit
-returns-in-Err-clause-limit g c done = absurd (StopsAt-Done _ _ c.loop-number.number c.in-Err.stop (rw done at c.stop_at.ensures.stops))
+returns-in-Err-clause-limit g c end = absurd (StopsAt-end _ _ c.loop-number.number c.in-Err.stop _ c.stop_at.ensures.stops end)
 
 pub returns-in-Err-clause-past_limit : goal.returns-in-Err-clause-past_limit
 returns-in-Err-clause-past_limit g c long =
@@ -44,6 +44,7 @@ loop-number-preserved g c =
       whole = WritesLines-trans _ _ _ c.loop-number.invariant.whole (c.in-Ok-true.ensures.whole (λ e. cc e));
       counted = Counted-more _ _ _ _ _ _ (ended c.loop-number.invariant.so_far.lines) c.loop-number.invariant.so_far.read c.loop-number.invariant.counted c.in-Ok-true.ensures.counted;
       enough = omega (arith, less, c.loop-number.invariant.enough);
+      sums = c.in-Ok-true.ensures.sums;
     }
 
 pub returns-in-Ok-false-clause-whole : goal.returns-in-Ok-false-clause-whole

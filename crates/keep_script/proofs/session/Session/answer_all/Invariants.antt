@@ -1,5 +1,6 @@
 -- What the lines so far were answered, and enough may still be read for the number.
 use Rattle.std.proofs.Common.{◌+◌, ◌≤◌}
+use Rattle.keep_book.specs.Armed.{HasSums}
 use Rattle.keep_jobs.specs.Kits.{kit_view}
 use Rattle.keep_script.proofs.RunLemmas.{Progress}
 use Rattle.keep_script.specs.Input.{Counted, ahead_of, left_of}
@@ -19,4 +20,5 @@ invariant-loop-number g l = record {
       (left_of l.initial.self.input (g.R.Read.remaining l.initial.reader)) (ahead_of l.initial.self.input)
       (left_of l.self.input (g.R.Read.remaining l.reader)) (ahead_of l.self.input);
   enough : l.number + ahead_of l.self.input ≤ 1 + longest_script;
+  sums : HasSums l.book;
 }

@@ -8,8 +8,8 @@ pub returns-clause-answers : goal.returns-clause-answers
 returns-clause-answers g c = λ kit.
     let made = c.commit_now in
     let session = c.args.self.now in
-    AnswersCommand-puts _ _ (state_of kit session c.args.book.now) (state_of kit session made.new.book) (the_command.RawFile c.args.file) _ _ c.write_committed.ensures.puts (
+    AnswersCommand-puts _ _ (state_of kit session c.args.book.now) (state_of kit made.new.self made.new.book) (the_command.RawFile c.args.file) _ _ c.write_committed.ensures.puts (
       c.in-Some.change,
       sym (rw c.ledger.ensures at c.in_ok-change.ensures) ∙ c.in-Some.is,
-      Committed-by kit session c.args.book.now made.new.book c.in-Some.change made.result.1 made.result.0 made.ensures.asks made.ensures.sizes,
+      Committed-by kit session made.new.self c.args.book.now made.new.book c.in-Some.change made.result.1 made.result.0 made.ensures.responds made.ensures.noted made.ensures.sizes,
     )

@@ -10,11 +10,12 @@ pub returns-clause-answers : goal.returns-clause-answers
 returns-clause-answers g c = λ kit.
     let session = c.args.self.now in
     let book = c.args.book.now in
-    let after = c.ask.new.self in
+    let session' = c.ask.new.self in
+    let after = c.ask.new.book in
     let responds = subst (λ request. Responds book request c.ask.result after) c.request.ensures c.ask.ensures.responds in
-    AnswersCommand-puts _ _ (state_of kit session book) (state_of kit session after) (the_command.Revision c.args.revision) _ _ c.write_reply.ensures.puts (record {
+    AnswersCommand-puts _ _ (state_of kit session book) (state_of kit session' after) (the_command.Revision c.args.revision) _ _ c.write_reply.ensures.puts (record {
       reply = c.ask.result;
       replies = responds.replies;
       text = refl;
-      left = left_by kit session book after (request_of c.args.revision) c.ask.result responds;
+      left = left_by kit session session' book after (request_of c.args.revision) c.ask.result responds c.ask.ensures.noted;
     })

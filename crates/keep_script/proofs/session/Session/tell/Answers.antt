@@ -24,21 +24,20 @@ returns-in_ok-noted-in-Same-clause-answers g c = λ kit.
 pub returns-in_ok-name-in-Restore-clause-answers : goal.returns-in_ok-name-in-Restore-clause-answers
 returns-in_ok-name-in-Restore-clause-answers g c = λ kit.
     let state = state_of kit c.args.self.now c.args.book.now in
-    let after = state_of kit c.args.self.now c.refresh.new.self in
     let meant = rw (c.history-in-Restore.ensures.events, c.ledger-in-Restore.ensures) at c.find-found.ensures in
-    let told = rw (c.view.ensures, c.ledger-in-Restore-2.ensures, c.refresh.ensures.ledger) at c.restore.ensures.restored in
-    let none = rw (c.view.ensures, c.ledger-in-Restore-2.ensures, c.refresh.ensures.ledger) at c.restore.ensures.none in
-    AnswersCommand-puts _ _ state after (the_command.Question c.args.question) _ _ c.write_restore.ensures.puts (rw c.in-Restore.is (
+    let told = rw (c.view.ensures, c.ledger-in-Restore-2.ensures) at c.restore.ensures.restored in
+    let none = rw (c.view.ensures, c.ledger-in-Restore-2.ensures) at c.restore.ensures.none in
+    AnswersCommand-puts _ _ state state (the_command.Question c.args.question) _ _ c.write_restore.ensures.puts (rw c.in-Restore.is (
       Restored-tells state c.in-Restore.target c.in_ok-name-in-Restore.name c.restore.result (sym meant ∙ c.in_ok-name-in-Restore.ensures.ok_part) told none,
-      rw (c.refresh.ensures.ledger, c.refresh.ensures.hooks) refl,
+      refl,
     ))
 
 pub returns-in-Audit-clause-answers : goal.returns-in-Audit-clause-answers
 returns-in-Audit-clause-answers g c = λ kit.
     let state = state_of kit c.args.self.now c.args.book.now in
     let after = state_of kit c.args.self.now c.hash_all.new.self in
-    let found = rw (c.view-in-Audit.ensures, c.ledger-in-Audit.ensures, c.hash_all.ensures.ledger, c.refresh-in-Audit.ensures.ledger) at c.audit.ensures in
+    let found = rw (c.view-in-Audit.ensures, c.ledger-in-Audit.ensures, c.hash_all.ensures.ledger) at c.audit.ensures in
     AnswersCommand-puts _ _ state after (the_command.Question c.args.question) _ _ c.write_audit.ensures.puts (rw c.in-Audit.is (
       Audited-tells state c.audit.result found,
-      rw (c.hash_all.ensures.ledger, c.hash_all.ensures.hooks, c.refresh-in-Audit.ensures.ledger, c.refresh-in-Audit.ensures.hooks) refl,
+      rw (c.hash_all.ensures.ledger, c.hash_all.ensures.hooks) refl,
     ))
