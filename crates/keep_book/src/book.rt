@@ -10,9 +10,9 @@ use keep_ledger::{Ledger, OpenError, Refusal, Request, Told};
 use keep_shelf::Shelf;
 use std::alloc::{AllocError, Global};
 
-/// A ledger on a shelf, with the vetoes and watches that are armed over it. The total of a watch is the sum of its measure
-/// over the events since it was armed: each call that changes a book asks for that, and leaves it so. No name is armed
-/// twice.
+/// A ledger on a shelf, with the vetoes and watches that are armed over it. The total of a watch is the sum of its
+/// measure over the events since it was armed: each call that changes a book asks for that, and leaves it so. No name
+/// is armed twice.
 #[derive(Drop)]
 pub struct Book<S: Shelf> {
     ledger: Ledger<S>,
@@ -36,8 +36,8 @@ impl<S: Shelf> Book<S> {
     ghost use Rattle.keep_book.specs.Armed.{Responds, HasSums, IsUnchanged, hook_of, hooks_of, is_double, ledger_of, on_shelf, with_veto, with_watch};
     ghost use Rattle.keep_book.specs.Names.{is_armed};
 
-    /// Opens a shelf that has live files alone, as a book without changes, vetoes and watches over the repository of these
-    /// files: `Ledger::open`, with the same errors.
+    /// Opens a shelf that has live files alone, as a book without changes, vetoes and watches over the repository of
+    /// these files: `Ledger::open`, with the same errors.
     pub fn open(alloc: Global, shelf: S) -> Result<Book<S>, OpenError>
         ensures opened { IfOk result (λ book. on_shelf book ≡ opened (S.shelved shelf)) }
         ensures hooks { IfOk result (λ book. hooks_of book ≡ record { vetoes = []; watches = [] }) }

@@ -19,9 +19,9 @@ use std::marker::Model;
 
 /// A repository that changes, and lends the catalog of what it holds.
 ///
-/// Its files are read when it is made. From then on each change costs what its own files hold, and a catalog reads none.
-/// Where there is no memory for that, the change is made all the same: a catalog then reads all files itself, until a
-/// change finds the memory to read them anew.
+/// Its files are read when it is made. From then on each change costs what its own files hold, and a catalog reads
+/// none. Where there is no memory for that, the change is made all the same: a catalog then reads all files itself,
+/// until a change finds the memory to read them anew.
 #[derive(Drop)]
 pub struct LiveRepo {
     alloc: Global,

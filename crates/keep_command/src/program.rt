@@ -21,8 +21,8 @@ use keep_snap::SnapFacts;
 use std::alloc::{AllocError, Global};
 use std::io::{Read, Write};
 
-/// Answers the script that the reader gives over a shelf in memory with nothing on it, by the options that the words behind
-/// the program's name give.
+/// Answers the script that the reader gives over a shelf in memory with nothing on it, by the options that the words
+/// behind the program's name give.
 pub fn keepd<'a, R: Read, W: Write>(
     alloc: Global,
     words: &[&'a str],

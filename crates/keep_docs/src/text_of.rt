@@ -8,8 +8,8 @@ ghost use Rattle.keep_docs.specs.Behind.{behind, key_text};
 
 use serde_json::{Map, Number, Value};
 
-/// Whether the bytes are the text that `write_doc` writes of a document. That text isn't made: the bytes are gone through
-/// piece by piece, up to the first that differs.
+/// Whether the bytes are the text that `write_doc` writes of a document. That text isn't made: the bytes are gone
+/// through piece by piece, up to the first that differs.
 #[tactic(auto, using(crate::proofs::Behind::nothing_left))]
 pub fn is_text_of(value: &Value, bytes: &[u8]) -> bool
     ensures { result ≡ bytes_eq bytes.now (compact_text (view value.now)) }

@@ -37,8 +37,8 @@ impl<R: Files<File = File> + Alloc<A = Global>> Folder<R> {
         }
     }
 
-    /// Puts the bytes into the key's file, or into a new one. They are written elsewhere first, and what comes last is a
-    /// rename, so that the file is seen whole or not at all.
+    /// Puts the bytes into the key's file, or into a new one. They are written elsewhere first, and what comes last is
+    /// a rename, so that the file is seen whole or not at all.
     pub(crate) fn put(&mut self, key: Key, bytes: &[u8]) -> io::Result<()> {
         self.require_sound()?;
         let spot = self.spot(key)?;
@@ -129,8 +129,8 @@ impl<R: Files<File = File> + Alloc<A = Global>> Folder<R> {
         }
     }
 
-    /// Writes a new file and moves it to its place. A link that lies at either path isn't followed: the one makes it fail,
-    /// and the other is replaced.
+    /// Writes a new file and moves it to its place. A link that lies at either path isn't followed: the one makes it
+    /// fail, and the other is replaced.
     fn place(&self, tmp: &str, bytes: &[u8], path: &str) -> io::Result<()> {
         let mut file = File::create_new(&self.rt, tmp)?;
         file.write_all(bytes)?;
@@ -140,17 +140,18 @@ impl<R: Files<File = File> + Alloc<A = Global>> Folder<R> {
 
     /// Syncs a folder in which a name was put, moved or removed.
     ///
-    /// Whoever looks finds that from then on, so the call is done, whether this goes well or not. To answer that it failed
-    /// would be to say that all is as it was; and it can't be taken back, since a file that was replaced or removed is gone.
-    /// But where a folder can't be synced, a loss of power may undo the call, so nothing is built on it: each later call
-    /// fails before it does anything. Who opens the folder anew goes on from what is there.
+    /// Whoever looks finds that from then on, so the call is done, whether this goes well or not. To answer that it
+    /// failed would be to say that all is as it was; and it can't be taken back, since a file that was replaced or
+    /// removed is gone. But where a folder can't be synced, a loss of power may undo the call, so nothing is built on
+    /// it: each later call fails before it does anything. Who opens the folder anew goes on from what is there.
     fn settle(&mut self, folder: &str) {
         if self.sync(folder).is_err() {
             self.is_sound = false;
         }
     }
 
-    /// Has a folder's names outlast a loss of power. A file system that says that it has no such act is left to its own.
+    /// Has a folder's names outlast a loss of power. A file system that says that it has no such act is left to its
+    /// own.
     fn sync(&self, folder: &str) -> io::Result<()> {
         match File::open(&self.rt, folder)?.sync_all() {
             Err(error) if is_unknown(error.kind()) => Ok(()),

@@ -1,4 +1,5 @@
-//! A shelf in a folder of the file system, which holds a repository in restic's layout beside the journal and the trash.
+//! A shelf in a folder of the file system, which holds a repository in restic's layout beside the journal and the
+//! trash.
 #![tactic(auto)]
 
 mod config;

@@ -4,8 +4,8 @@ use std::fs::{File, Files, OpenOptions};
 use std::io;
 use std::io::ErrorKind;
 
-/// Locks the folder against all others that lock it. The lock lasts as long as the file is open, and the system lets it go
-/// where the program ends, however it ends.
+/// Locks the folder against all others that lock it. The lock lasts as long as the file is open, and the system lets it
+/// go where the program ends, however it ends.
 pub(crate) fn lock_folder<R: Files<File = File> + Alloc<A = Global>>(
     rt: &R,
     root: &str,

@@ -41,7 +41,8 @@ struct Walk<'a, R> {
 }
 
 impl<'a, R: Files<File = File> + Alloc<A = Global> + Clone + Drop> Walk<'a, R> {
-    /// Notes the folders at the root. One of them that isn't there is empty, and each may be a link to a folder elsewhere.
+    /// Notes the folders at the root. One of them that isn't there is empty, and each may be a link to a folder
+    /// elsewhere.
     fn take_root(&mut self) -> io::Result<()> {
         for name in self.names_in(self.root)? {
             if holds_keys(name.as_str()) {

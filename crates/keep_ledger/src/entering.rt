@@ -19,8 +19,8 @@ use keep_moves::look;
 use keep_shelf::{Fault, Key, Shelf};
 use keep_touch::{Touch, notes_follow_events};
 
-/// Brings an event in: changes the live repository, and writes the entry in the midst of that, where the change can still
-/// be taken back. A commit's change is noted. Where there is no memory for it, or a call fails, all is as it was.
+/// Brings an event in: changes the live repository, and writes the entry in the midst of that, where the change can
+/// still be taken back. A commit's change is noted. Where there is no memory for it, or a call fails, all is as it was.
 pub(crate) fn enter<S: Shelf>(
     history: &History,
     live: &mut LiveRepo,

@@ -35,11 +35,11 @@ use std::alloc::{AllocError, Global};
 use std::marker::Model;
 
 /// A repository under numbered changes, whose files stand on a shelf. Each call that changes it is lent the vetoes that
-/// may refuse the event and the watches that are told of it, whose totals are sums over the events since each was armed,
-/// and stay so.
+/// may refuse the event and the watches that are told of it, whose totals are sums over the events since each was
+/// armed, and stay so.
 ///
-/// The live repository and the history are in memory too. Where a call of the shelf fails after an event is in, the moves
-/// that are left of it are due, and whatever changes the ledger next begins with them.
+/// The live repository and the history are in memory too. Where a call of the shelf fails after an event is in, the
+/// moves that are left of it are due, and whatever changes the ledger next begins with them.
 #[derive(Drop)]
 pub struct Ledger<S: Shelf> {
     pub(crate) alloc: Global,
@@ -72,11 +72,11 @@ impl<S: Shelf> Model for Ledger<S> {
 }
 
 impl<S: Shelf> Ledger<S> {
-    /// Opens a shelf that has live files alone, as a ledger without changes over the repository of these files, which has
-    /// no marks. The keys are listed and each file is read; nothing is changed on the shelf.
+    /// Opens a shelf that has live files alone, as a ledger without changes over the repository of these files, which
+    /// has no marks. The keys are listed and each file is read; nothing is changed on the shelf.
     ///
-    /// `BadEntry` where something stands under another key; `Fault` where one of those calls fails; `Memory` where there
-    /// is none for the files. The shelf is let go then.
+    /// `BadEntry` where something stands under another key; `Fault` where one of those calls fails; `Memory` where
+    /// there is none for the files. The shelf is let go then.
     pub fn open(alloc: Global, shelf: S) -> Result<Ledger<S>, OpenError>
         ensures opened { IfOk result (λ ledger. ledger ≡ opened (S.shelved shelf)) }
         ensures free { OnOk result (bad_entry (finite.keys (S.shelved shelf).content) ≡ None) }
@@ -151,9 +151,9 @@ impl<S: Shelf> Ledger<S> {
     /// - of a redo `Unknown`, `Final`, `InForce`, `Full`, `Vetoed`, `Blocked`, `Memory`, `Fault`;
     /// - of an emptying `Unknown`, `Final`, `Full`, `Vetoed`, `Memory`, `Fault`.
     ///
-    /// Where there is a veto, want of memory may be found before `Vetoed` and what stands behind it. `Fault` is answered
-    /// where the shelf fails at a move that was due, at a file of the trash that comes back, or at the event's entry; where
-    /// it fails after that, the event is in, the watches are told of it, and the answer is `Unsettled`.
+    /// Where there is a veto, want of memory may be found before `Vetoed` and what stands behind it. `Fault` is
+    /// answered where the shelf fails at a move that was due, at a file of the trash that comes back, or at the event's
+    /// entry; where it fails after that, the event is in, the watches are told of it, and the answer is `Unsettled`.
     pub fn ask<V: Guard>(&mut self, guard: &mut V, request: Request) -> Result<Told, Refusal>
         requires sums { AreSums self.old.state.events (V.armed guard.old).watches (V.tallies guard.old) }
         ensures reply { result ≢ Err Refusal.Fault →

@@ -1,5 +1,5 @@
-//! The ledger: a repository under numbered changes, any of which can be taken back. Its files stand on a shelf, which may
-//! fail.
+//! The ledger: a repository under numbered changes, any of which can be taken back. Its files stand on a shelf, which
+//! may fail.
 #![tactic(auto)]
 
 mod checks;

@@ -20,7 +20,8 @@ use keep_snap::{SnapError, read_snap};
 use keep_view::View;
 use std::alloc::Global;
 
-/// The files of the snapshot of this name, in the repository of the view. Other files that can't be read have and list nothing.
+/// The files of the snapshot of this name, in the repository of the view. Other files that can't be read have and list
+/// nothing.
 ///
 /// The snapshot is read once, and each blob that is reached is hashed once. A tree is read once for each path
 /// that leads to it, as long as a file or a skipped node is below it.

@@ -19,8 +19,8 @@ use keep_shelf::Shelf;
 use std::alloc::Global;
 use std::io::{Read, Write};
 
-/// Answers the lines of a script in turn, over the live files of a shelf, which has to have nothing else on it. The shelf
-/// is let go at the end.
+/// Answers the lines of a script in turn, over the live files of a shelf, which has to have nothing else on it. The
+/// shelf is let go at the end.
 ///
 /// A line has at most 1,048,576 bytes before its end. The reader is given up after 67,108,864
 /// bytes. Whatever ends the run, the lines before were answered.
@@ -29,10 +29,9 @@ use std::io::{Read, Write};
 /// `restore` and `audit` are written line by line. Where one finds no memory midway, its first
 /// lines are written already, and the run ends as `NoMemory`.
 ///
-/// Lines name the filters of the kit, and arm its vetoes and watches, which are moved out of it: what is left in the kit is
-/// what the last line left. Files are cut for a
-/// backup after every `cut` bytes, 1 to 8,388,608. For marks and sweeps it is `now`, in whole seconds since
-/// 1970-01-01T00:00:00Z, from the first line to the last.
+/// Lines name the filters of the kit, and arm its vetoes and watches, which are moved out of it: what is left in the
+/// kit is what the last line left. Files are cut for a backup after every `cut` bytes, 1 to 8,388,608. For marks and
+/// sweeps it is `now`, in whole seconds since 1970-01-01T00:00:00Z, from the first line to the last.
 pub fn run<S: Shelf, R: Read, W: Write>(
     alloc: Global,
     reader: &mut R,
@@ -64,8 +63,8 @@ pub fn run<S: Shelf, R: Read, W: Write>(
     }
 }
 
-/// Answers the lines of a script over this book, which is left as the last line left it, as the kit is. The same holds of it
-/// as of `run`, which opens a book and goes on so.
+/// Answers the lines of a script over this book, which is left as the last line left it, as the kit is. The same holds
+/// of it as of `run`, which opens a book and goes on so.
 pub fn run_on<S: Shelf, R: Read, W: Write>(
     alloc: Global,
     settings: Settings,

@@ -7,7 +7,8 @@ use crate::plan::Plan;
 use crate::shelf::{Fault, Shelf};
 use keep_repo::Bytes;
 
-/// A shelf that fails when it is told to, and is otherwise the one that it stands before. It counts the failures of both.
+/// A shelf that fails when it is told to, and is otherwise the one that it stands before. It counts the failures of
+/// both.
 #[derive(Debug, Drop)]
 pub struct FailingShelf<S> {
     inner: S,

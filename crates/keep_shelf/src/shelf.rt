@@ -23,8 +23,8 @@ impl From<AllocError> for Fault {
 
 /// Keeps bytes under keys.
 ///
-/// Each call is one atomic act: it is done whole or not at all, also where the program stops in the middle of it. A call
-/// that is done is in the record, and one that failed is counted. Want of memory is a failure like any other.
+/// Each call is one atomic act: it is done whole or not at all, also where the program stops in the middle of it. A
+/// call that is done is in the record, and one that failed is counted. Want of memory is a failure like any other.
 pub trait Shelf: Drop {
     ghost use Rattle.keep_shelf.specs.Shelved.{Shelved};
 

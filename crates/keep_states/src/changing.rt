@@ -65,8 +65,8 @@ fn show_outline(
     Ok(())
 }
 
-/// Makes the change and takes it back, if it can be made, and writes what the repository is in between and whether it is
-/// as before.
+/// Makes the change and takes it back, if it can be made, and writes what the repository is in between and whether it
+/// is as before.
 fn turn(change: &Change, before: &Repo, out: &mut String) -> Result<(), AllocError> {
     let mut repo = before.copy()?;
     if make_and_take_back(change, &mut repo, out)? {

@@ -1,5 +1,5 @@
-//! Trials of what no line of a table can say: readers, writers and shelves that fail, want of memory, a history that begins
-//! past one, and hooks that the program doesn't have.
+//! Trials of what no line of a table can say: readers, writers and shelves that fail, want of memory, a history that
+//! begins past one, and hooks that the program doesn't have.
 #![tactic(auto)]
 
 #[cfg(test)]

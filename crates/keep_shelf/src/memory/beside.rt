@@ -50,8 +50,8 @@ impl MemoryShelf {
         }
     }
 
-    /// Takes away what is under the key, and has `store` take it away where it is kept beside. Where nothing is under the
-    /// key, `store` isn't asked.
+    /// Takes away what is under the key, and has `store` take it away where it is kept beside. Where nothing is under
+    /// the key, `store` isn't asked.
     pub fn erase_with<F: FnOnce() -> Result<(), Fault> + Drop>(
         &mut self,
         key: Key,
