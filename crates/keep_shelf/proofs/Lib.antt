@@ -1,4 +1,3 @@
-pub mod Acting
 pub mod Nearer
 pub mod Orders
 pub mod Shifting

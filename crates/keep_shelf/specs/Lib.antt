@@ -1,4 +1,3 @@
-pub mod Acts
 pub mod Failing
 pub mod Key
 pub mod Plan

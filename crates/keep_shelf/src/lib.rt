@@ -2,7 +2,6 @@
 //! is told to.
 #![tactic(auto)]
 
-mod act;
 mod failing;
 mod key;
 mod laws;
@@ -16,3 +15,4 @@ pub use key::Key;
 pub use laws::keys_are_ordered;
 pub use memory::MemoryShelf;
 pub use shelf::{Fault, Shelf};
+pub use stock::Stock;

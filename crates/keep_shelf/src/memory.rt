@@ -1,32 +1,33 @@
-ghost use Rattle.std.specs.Prelude.{◌≡◌, ◌∷◌, ◌≤◌, IfOk, OnOk, OnErr, length, slice_get};
+ghost use Rattle.std.specs.Prelude.{◌≡◌, IfOk, OnOk, OnErr};
 ghost use Rattle.std.specs.FinMap as map;
 ghost use Rattle.keep_shelf.specs.Shelved.{called, failed, stocked};
 
 mod beside;
 
-use crate::act::Act;
 use crate::key::Key;
 use crate::shelf::{Fault, Shelf};
 use crate::stock::Stock;
+use keep_log::Log;
 use keep_repo::Bytes;
 use std::alloc::{AllocError, Global};
 use std::marker::Model;
 
-/// A shelf in memory, which can tell what stood on it after each of its calls.
+/// A shelf in memory. A call of it fails where memory doesn't suffice.
 ///
-/// It keeps its calls, and shares their bytes. A call of it fails where memory doesn't suffice.
+/// It keeps what stands on it, and shares the bytes. Of its calls nothing is kept: their record is for proofs alone.
 #[derive(Drop)]
 pub struct MemoryShelf {
-    alloc: Global,
-    made: Stock,
     content: Stock,
-    acts: Vec<Act>,
     failures: u64,
+    /// What stood there when it was made, as the one item.
+    made: Log<Stock>,
+    /// What each call that didn't fail left.
+    calls: Log<Stock>,
 }
 
 impl Model for MemoryShelf {
-    ghost use Rattle.std.specs.Prelude.{◌≡◌};
-    ghost use Rattle.keep_shelf.specs.Acts.{content_after, contents_after};
+    ghost use Rattle.std.specs.Prelude.{get_or};
+    ghost use Rattle.std.specs.FinMap as map;
     ghost use Rattle.keep_shelf.specs.Shelved.{Shelved, coded_shelved};
 
     ghost Value = { Shelved };
@@ -34,13 +35,11 @@ impl Model for MemoryShelf {
     ghost coded = { coded_shelved };
 
     ghost view = { λ s. record {
-      made = s.made;
+      made = get_or s.made.items 0 map.empty;
       content = s.content;
       failures = s.failures;
-      calls = contents_after s.made s.acts.items;
+      calls = s.calls.items;
     } };
-
-    ghost invariant = { λ s. s.content ≡ content_after s.made s.acts.items };
 }
 
 impl MemoryShelf {
@@ -48,20 +47,7 @@ impl MemoryShelf {
     pub fn new(alloc: Global) -> MemoryShelf
         ensures { result ≡ stocked map.empty }
     {
-        MemoryShelf {
-            alloc,
-            made: Stock::new(alloc),
-            content: Stock::new(alloc),
-            acts: Vec::new(alloc),
-            failures: 0,
-        }
-    }
-
-    /// How many calls didn't fail.
-    pub fn calls(&self) -> usize
-        ensures { result ≡ length self.now.calls }
-    {
-        self.acts.len()
+        MemoryShelf::over(Stock::new(alloc))
     }
 
     /// How many calls failed. The count ends at 2^64 - 1.
@@ -71,55 +57,38 @@ impl MemoryShelf {
         self.failures
     }
 
-    /// A new shelf with what stood on this one after the first i calls that didn't fail. Where i is 0, it is what stood
-    /// there when this one was made.
-    pub fn content_at(&self, i: usize) -> Result<MemoryShelf, AllocError>
-        requires { i ≤ length self.now.calls }
-        ensures content { IfOk result
-            (λ shelf. slice_get (self.now.made ∷ self.now.calls) i ≡ Some shelf.content) }
-        ensures made { IfOk result (λ shelf. shelf ≡ stocked shelf.content) }
-    {
-        let made = self.stock_at(i)?;
-        MemoryShelf::over(self.alloc, made)
-    }
-
     /// A new shelf with what stands on this one.
-    pub fn afresh(self) -> Result<MemoryShelf, AllocError>
-        ensures { IfOk result (λ shelf. shelf ≡ stocked self.content) }
+    pub fn afresh(self) -> MemoryShelf
+        ensures { result ≡ stocked self.content }
     {
-        MemoryShelf::over(self.alloc, self.content)
+        MemoryShelf::over(self.content)
     }
 
-    fn over(alloc: Global, made: Stock) -> Result<MemoryShelf, AllocError>
-        ensures { IfOk result (λ shelf. shelf ≡ stocked made) }
+    /// A new shelf with what stands on this one, which stays. The bytes are shared.
+    pub fn copy(&self) -> Result<MemoryShelf, AllocError>
+        ensures { IfOk result (λ copy. copy ≡ stocked self.now.content) }
     {
-        let content = made.copy()?;
-        Ok(MemoryShelf {
-            alloc,
-            made,
+        Ok(MemoryShelf::over(self.content.copy()?))
+    }
+
+    /// A new shelf with this on it.
+    fn over(content: Stock) -> MemoryShelf
+        ensures { result ≡ stocked content }
+    {
+        let made = Log::new().and(&content);
+        MemoryShelf {
             content,
-            acts: Vec::new(alloc),
             failures: 0,
-        })
+            made,
+            calls: Log::new(),
+        }
     }
 
-    /// What the first i acts left.
-    fn stock_at(&self, i: usize) -> Result<Stock, AllocError>
-        requires { i ≤ length self.now.calls }
-        ensures { IfOk result
-            (λ stock. slice_get (self.now.made ∷ self.now.calls) i ≡ Some stock) }
+    /// Notes that a call was done, and left what stands there now.
+    fn note(&mut self)
+        ensures { self.new ≡ called self.old self.old.content }
     {
-        self.made.after(&self.acts[..i])
-    }
-
-    /// Notes that the content was looked at.
-    #[tactic(auto, using(crate::proofs::Acting::acting))]
-    fn look(&mut self) -> Result<(), AllocError>
-        ensures ok { OnOk result (self.new ≡ called self.old self.old.content) }
-        ensures err { OnErr result (self.new ≡ self.old) }
-    {
-        self.acts.push(Act::Looked)?;
-        Ok(())
+        self.calls = self.calls.and(&self.content);
     }
 
     fn try_read(&mut self, key: Key) -> Result<Option<Bytes>, AllocError>
@@ -128,7 +97,7 @@ impl MemoryShelf {
         ensures err { OnErr result (self.new ≡ self.old) }
     {
         let found = self.content.shared(key)?;
-        self.look()?;
+        self.note();
         Ok(found)
     }
 
@@ -138,7 +107,7 @@ impl MemoryShelf {
         ensures err { OnErr result (self.new ≡ self.old) }
     {
         let keys = self.content.keys()?;
-        self.look()?;
+        self.note();
         Ok(keys)
     }
 

@@ -1,18 +1,16 @@
 ghost use Rattle.std.specs.Prelude.{◌≡◌, ℕ, IfOk, List, OnOk, OnErr, option_copied};
 ghost use Rattle.std.specs.FinMap as map;
-ghost use Rattle.keep_shelf.specs.Acts.{content_after, done};
 ghost use Rattle.keep_shelf.specs.Shelved.{Content, shifted};
 
-use crate::act::Act;
 use crate::key::Key;
 use keep_repo::Bytes;
 use std::alloc::{AllocError, Global};
 use std::collections::BTreeMap;
 use std::marker::Model;
 
-/// Bytes by key.
+/// Bytes by key, in memory.
 #[derive(Drop)]
-pub(crate) struct Stock {
+pub struct Stock {
     alloc: Global,
     bytes: BTreeMap<Key, Bytes>,
 }
@@ -29,7 +27,8 @@ impl Model for Stock {
 }
 
 impl Stock {
-    pub(crate) fn new(alloc: Global) -> Stock
+    /// The stock without anything.
+    pub fn new(alloc: Global) -> Stock
         ensures { result ≡ map.empty }
     {
         Stock {
@@ -39,7 +38,7 @@ impl Stock {
     }
 
     /// A stock of its own with the same bytes, which are shared.
-    pub(crate) fn copy(&self) -> Result<Stock, AllocError>
+    pub fn copy(&self) -> Result<Stock, AllocError>
         ensures { IfOk result (λ made. made ≡ self.now) }
     {
         Ok(Stock {
@@ -48,14 +47,15 @@ impl Stock {
         })
     }
 
-    pub(crate) fn get(&self, key: Key) -> Option<&Bytes>
+    /// What is under the key, lent.
+    pub fn get(&self, key: Key) -> Option<&Bytes>
         ensures { option_copied result ≡ map.get self.now key }
     {
         self.bytes.get(&key)
     }
 
     /// What is under the key, with another holder.
-    pub(crate) fn shared(&self, key: Key) -> Result<Option<Bytes>, AllocError>
+    pub fn shared(&self, key: Key) -> Result<Option<Bytes>, AllocError>
         ensures { IfOk result (λ found. found ≡ map.get self.now key) }
     {
         match self.get(key) {
@@ -64,42 +64,15 @@ impl Stock {
         }
     }
 
-    /// In order.
-    pub(crate) fn keys(&self) -> Result<Vec<Key>, AllocError>
+    /// The keys under which there is something, in order.
+    pub fn keys(&self) -> Result<Vec<Key>, AllocError>
         ensures { IfOk result (λ keys. keys.items ≡ map.keys self.now) }
     {
         self.bytes.keys().copied().collect(self.alloc)
     }
 
-    /// The stock that these acts make of this one, in turn.
-    pub(crate) fn after(&self, acts: &[Act]) -> Result<Stock, AllocError>
-        ensures { IfOk result (λ made. made ≡ content_after self.now acts.now) }
-    {
-        let mut stock = self.copy()?;
-        for act in acts {
-            stock.perform(act)?;
-        }
-        Ok(stock)
-    }
-
-    /// Does the act.
-    pub(crate) fn perform(&mut self, act: &Act) -> Result<(), AllocError>
-        ensures ok { OnOk result (self.new ≡ done self.old act.now) }
-        ensures err { OnErr result (self.new ≡ self.old) }
-    {
-        match act {
-            Act::Looked => {}
-            Act::Wrote(key, bytes) => {
-                self.write(*key, bytes.clone()?)?;
-            }
-            Act::Shifted(from, to) => self.shift(*from, *to)?,
-            Act::Erased(key) => self.erase(*key),
-        }
-        Ok(())
-    }
-
     /// Puts the bytes under the key, and answers what was there. In the place of others they take no memory.
-    pub(crate) fn write(&mut self, key: Key, bytes: Bytes) -> Result<Option<Bytes>, AllocError>
+    pub fn write(&mut self, key: Key, bytes: Bytes) -> Result<Option<Bytes>, AllocError>
         ensures was { IfOk result (λ was. was ≡ map.get self.old key) }
         ensures ok { OnOk result (self.new ≡ map.insert self.old key bytes) }
         ensures err { OnErr result (self.new ≡ self.old) }
@@ -121,8 +94,9 @@ impl Stock {
         }
     }
 
+    /// Puts what is under one key under another one.
     #[tactic(auto, using(crate::proofs::Shifting::shifting))]
-    fn shift(&mut self, from: Key, to: Key) -> Result<(), AllocError>
+    pub fn shift(&mut self, from: Key, to: Key) -> Result<(), AllocError>
         ensures ok { OnOk result (self.new ≡ shifted self.old from to) }
         ensures err { OnErr result (self.new ≡ self.old) }
     {
@@ -133,7 +107,8 @@ impl Stock {
         Ok(())
     }
 
-    pub(crate) fn erase(&mut self, key: Key)
+    /// Takes away what is under the key.
+    pub fn erase(&mut self, key: Key)
         ensures { self.new ≡ map.remove self.old key }
     {
         self.bytes.remove(&key);

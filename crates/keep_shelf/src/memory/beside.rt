@@ -4,7 +4,6 @@ ghost use Rattle.std.specs.FinMap as map;
 ghost use Rattle.keep_shelf.specs.Shelved.{called, failed, shifted};
 
 use super::MemoryShelf;
-use crate::act::Act;
 use crate::key::Key;
 use crate::shelf::Fault;
 use keep_repo::Bytes;
@@ -69,7 +68,6 @@ impl MemoryShelf {
         }
     }
 
-    #[tactic(auto, using(crate::proofs::Acting::acting))]
     fn try_write<F: FnOnce() -> Result<(), Fault> + Drop>(
         &mut self,
         key: Key,
@@ -82,18 +80,15 @@ impl MemoryShelf {
             (self.new ≡ called self.old (map.insert self.old.content key bytes.now)) }
         ensures err { OnErr result (self.new ≡ self.old) }
     {
-        self.acts.reserve(1)?;
-        let noted = bytes.clone()?;
         let was = self.content.write(key, bytes.clone()?)?;
         if let Err(fault) = store() {
             self.content.put_back(key, was);
             return Err(fault);
         }
-        self.acts.push_reserved(Act::Wrote(key, noted));
+        self.note();
         Ok(())
     }
 
-    #[tactic(auto, using(crate::proofs::Acting::acting))]
     fn try_shift<F: FnOnce() -> Result<(), Fault> + Drop>(
         &mut self,
         from: Key,
@@ -107,7 +102,6 @@ impl MemoryShelf {
         ensures ok { OnOk result (self.new ≡ called self.old (shifted self.old.content from to)) }
         ensures err { OnErr result (self.new ≡ self.old) }
     {
-        self.acts.reserve(1)?;
         let Some(bytes) = self.content.shared(from)? else {
             unreachable!()
         };
@@ -117,11 +111,10 @@ impl MemoryShelf {
             return Err(fault);
         }
         self.content.erase(from);
-        self.acts.push_reserved(Act::Shifted(from, to));
+        self.note();
         Ok(())
     }
 
-    #[tactic(auto, using(crate::proofs::Acting::acting))]
     fn try_erase<F: FnOnce() -> Result<(), Fault> + Drop>(
         &mut self,
         key: Key,
@@ -133,12 +126,11 @@ impl MemoryShelf {
         ensures ok { OnOk result (self.new ≡ called self.old (map.remove self.old.content key)) }
         ensures err { OnErr result (self.new ≡ self.old) }
     {
-        self.acts.reserve(1)?;
         if self.content.get(key).is_some() {
             store()?;
         }
         self.content.erase(key);
-        self.acts.push_reserved(Act::Erased(key));
+        self.note();
         Ok(())
     }
 }
