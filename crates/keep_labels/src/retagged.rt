@@ -16,48 +16,60 @@ use keep_names::{Id, Kind};
 use keep_snap::{Snap, SnapFacts, retag, snapshots_read_back, write_snap};
 use std::alloc::{AllocError, Global};
 
-/// The names of the snapshots whose tags the edit changes, and the files that are to stand in their place.
+/// Snapshots under other tags.
+#[derive(Drop)]
+pub(crate) struct Relabeled {
+    /// The names of those whose tags are changed.
+    pub(crate) names: Vec<Id>,
+    /// The files that are to stand in their place.
+    pub(crate) files: Vec<StoredFile>,
+}
+
+/// Those of the snapshots whose tags the edit changes.
 pub(crate) fn retagged(
     alloc: Global,
     catalog: &Catalog,
     edit: &Edit,
     taken: &[SnapFacts],
-) -> Result<(Vec<Id>, Vec<StoredFile>), AllocError>
-    ensures names { IfOk result (λ made. made.0.items
+) -> Result<Relabeled, AllocError>
+    ensures names { IfOk result (λ made. made.names.items
         ≡ map (λ s. s.name) (spec.changed_by (edit_view edit.now) (map facts_view taken.now))) }
-    ensures files { IfOk result (λ made. made.1.items
+    ensures files { IfOk result (λ made. made.files.items
         ≡ spec.retagged_files catalog.now (edit_view edit.now)
         (spec.changed_by (edit_view edit.now) (map facts_view taken.now))) }
 {
-    let mut names = Vec::new(alloc);
-    let mut files = Vec::new(alloc);
+    let mut made = Relabeled {
+        names: Vec::new(alloc),
+        files: Vec::new(alloc),
+    };
     for facts in taken {
-        retag_one(alloc, catalog, edit, facts, &mut names, &mut files)?;
+        made.put(alloc, catalog, edit, facts)?;
     }
-    Ok((names, files))
+    Ok(made)
 }
 
-// Puts the name and the file behind the others, if the edit changes the tags.
-fn retag_one(
-    alloc: Global,
-    catalog: &Catalog,
-    edit: &Edit,
-    facts: &SnapFacts,
-    names: &mut Vec<Id>,
-    files: &mut Vec<StoredFile>,
-) -> Result<(), AllocError>
-    ensures names { OnOk result (names.new.items ≡ names.old.items
-        ++ map (λ s. s.name) (spec.changed_by (edit_view edit.now) (facts_view facts.now ∷ []))) }
-    ensures files { OnOk result (files.new.items ≡ files.old.items
-        ++ spec.retagged_files catalog.now (edit_view edit.now)
-        (spec.changed_by (edit_view edit.now) (facts_view facts.now ∷ []))) }
-{
-    let tags = edit.apply(alloc, &facts.tags)?;
-    if are_changed(&facts.tags, &tags) {
-        names.push(facts.name)?;
-        put_retagged(alloc, catalog, facts.name, tags, files)?;
+impl Relabeled {
+    // Puts the snapshot behind the others, if the edit changes its tags.
+    fn put(
+        &mut self,
+        alloc: Global,
+        catalog: &Catalog,
+        edit: &Edit,
+        facts: &SnapFacts,
+    ) -> Result<(), AllocError>
+        ensures names { OnOk result (self.new.names.items ≡ self.old.names.items
+            ++ map (λ s. s.name) (spec.changed_by (edit_view edit.now) (facts_view facts.now ∷ []))) }
+        ensures files { OnOk result (self.new.files.items ≡ self.old.files.items
+            ++ spec.retagged_files catalog.now (edit_view edit.now)
+            (spec.changed_by (edit_view edit.now) (facts_view facts.now ∷ []))) }
+    {
+        let tags = edit.apply(alloc, &facts.tags)?;
+        if are_changed(&facts.tags, &tags) {
+            self.names.push(facts.name)?;
+            put_retagged(alloc, catalog, facts.name, tags, &mut self.files)?;
+        }
+        Ok(())
     }
-    Ok(())
 }
 
 // Puts the file of the snapshot with these tags behind the files.

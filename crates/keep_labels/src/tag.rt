@@ -11,7 +11,7 @@ ghost use Rattle.keep_plan.specs.declared.plan_error.PlanError.TheVariants as th
 
 use crate::edit::Edit;
 use crate::laws::a_planned_tagging_can_be_made;
-use crate::retagged::retagged;
+use crate::retagged::{Relabeled, retagged};
 use crate::swap::{snapshot_files, swap};
 use crate::taking::catalog;
 use keep_catalog::Catalog;
@@ -64,9 +64,9 @@ fn plan_of(
         result }
     ensures seen { IfOk result (λ planned. planned.seen ≡ view.now.length) }
 {
-    let (names, new) = retagged(alloc, catalog, edit, taken)?;
+    let Relabeled { names, files } = retagged(alloc, catalog, edit, taken)?;
     let old = snapshot_files(alloc, view.repo(), &names)?;
-    let change = put_in_place(alloc, view.repo(), old, new)?;
+    let change = put_in_place(alloc, view.repo(), old, files)?;
     Ok(Planned {
         change,
         seen: view.length(),

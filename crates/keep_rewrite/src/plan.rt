@@ -1,4 +1,4 @@
-ghost use Rattle.std.specs.Prelude.{◌≡◌, ◌≢◌, ◌++◌, [], None, Some, true, map, IfErr, IfOk, OnOk};
+ghost use Rattle.std.specs.Prelude.{◌≡◌, ◌≢◌, [], None, Some, true, map, IfErr, IfOk, OnOk};
 ghost use Rattle.keep_docs.specs.Doc.{Answers};
 ghost use Rattle.keep_repo.specs.Repository.{held};
 ghost use Rattle.keep_change.specs.Change.{is_met};
@@ -10,21 +10,20 @@ ghost use Rattle.keep_backup.specs.Stored.{store_of};
 ghost use Rattle.keep_backup.specs.Storing.{given};
 ghost use Rattle.keep_plan.specs.Refusal.{unread_first};
 ghost use Rattle.keep_plan.specs.declared.plan_error.PlanError.TheVariants as the_error;
-ghost use Rattle.keep_rewrite.specs.Rewriting.{finished_for, retreed_of, rewrite_change, rewriting, rewriting_of, unreached_first};
-ghost use Rattle.keep_rewrite.specs.Rewriting as spec;
+ghost use Rattle.keep_rewrite.specs.Rewriting.{finished_for, retreed_of, rewrite_change, rewriting_of, unreached_first};
 ghost use Rattle.keep_rewrite.specs.Walking.{AreReached};
 
-use crate::files::{dropped_files, new_files, present_names};
+use crate::files::Rewritten;
 use crate::laws::a_planned_rewrite_can_be_made;
 use crate::retreed::retreed;
+use crate::walk::Walk;
 use keep_backup::store;
 use keep_catalog::Catalog;
-use keep_change::{Change, Listed, Planned, StoredFile};
+use keep_change::Planned;
 use keep_filters::Filter;
 use keep_names::{BlobType, Id};
-use keep_plan::{PlanError, Stored, settle_new};
+use keep_plan::{PlanError, Stored};
 use keep_reach::reach_all;
-use keep_repo::Repo;
 use keep_snap::SnapFacts;
 use keep_tree::Pattern;
 use keep_view::View;
@@ -53,7 +52,12 @@ pub fn plan_rewrite(
     let catalog = catalog(alloc, view)?;
     let taken = filter.taken(alloc, &catalog)?;
     ask_reach(alloc, &catalog, &taken)?;
-    plan_of(alloc, view, &catalog, patterns, forget, &taken)
+    let walk = Walk {
+        alloc,
+        catalog: &catalog,
+        patterns,
+    };
+    plan_of(&walk, view, forget, &taken)
 }
 
 // The catalog, if each pack, index and snapshot can be read.
@@ -87,27 +91,26 @@ fn names_of(alloc: Global, taken: &[SnapFacts]) -> Result<Vec<Id>, AllocError>
     Ok(names)
 }
 
-// The change where these snapshots are taken.
+// The change where these snapshots are taken, by the walk over their trees.
 fn plan_of(
-    alloc: Global,
+    walk: &Walk,
     view: &View,
-    catalog: &Catalog,
-    patterns: &[Pattern],
     forget: bool,
     taken: &[SnapFacts],
 ) -> Result<Planned, PlanError>
-    requires catalog { catalog.now ≡ view.now.repo }
+    requires catalog { walk.now.catalog.now ≡ view.now.repo }
     requires reached { AreReached view.now.repo (map facts_view taken.now) }
     ensures change { Answers the_error.Memory (λ planned. planned.change)
         (rewriting_of view.now.repo forget
-        (retreed_of view.now.repo (map pattern_view patterns.now) (map facts_view taken.now))
+        (retreed_of view.now.repo (map pattern_view walk.now.patterns.now) (map facts_view taken.now))
         (store_of view.now.repo
-        (finished_for view.now.repo (map pattern_view patterns.now) (map facts_view taken.now)))) result }
+        (finished_for view.now.repo (map pattern_view walk.now.patterns.now) (map facts_view taken.now)))) result }
     ensures seen { IfOk result (λ planned. planned.seen ≡ view.now.length) }
 {
-    let (retreed, trees) = retreed(alloc, catalog, patterns, taken)?;
-    let stored = stored_trees(alloc, view, &trees)?;
-    let change = rewritten(alloc, view.repo(), catalog, forget, &retreed, stored)?;
+    let (retreed, trees) = retreed(walk, taken)?;
+    let stored = stored_trees(walk.alloc, view, &trees)?;
+    let rewritten = Rewritten { retreed, forget };
+    let change = rewritten.change(walk.alloc, view.repo(), walk.catalog, stored)?;
     Ok(Planned {
         change,
         seen: view.length(),
@@ -123,43 +126,4 @@ fn stored_trees(
     ensures { Answers the_error.Memory (λ stored. stored) (store_of view.now.repo (map given trees.now)) result }
 {
     store(alloc, view, trees)
-}
-
-// The change that stores this and puts the new snapshots beside or in the place of the old ones.
-fn rewritten(
-    alloc: Global,
-    repo: &Repo,
-    catalog: &Catalog,
-    forget: bool,
-    retreed: &[(Id, Id)],
-    stored: Stored,
-) -> Result<Change, PlanError>
-    requires { catalog.now ≡ repo.now }
-    ensures { Answers the_error.Memory (λ change. change) (rewriting repo.now forget retreed.now stored) result }
-{
-    let new = new_files(alloc, catalog, forget, retreed)?;
-    let adds = settle_new(alloc, repo, new)?.ok_or(PlanError::SnapshotThere)?;
-    if retreed.is_empty() {
-        return Err(PlanError::NothingToDo);
-    }
-    let drops = dropped_files(alloc, repo, forget, retreed)?;
-    let present = present_names(forget, stored.present.into_vec(), retreed)?;
-    let adds = joined(stored.adds.into_vec(), adds)?;
-    let mut change = Change::new(alloc);
-    change.adds = Listed::from_vec(adds);
-    change.drops = Listed::from_vec(drops);
-    change.clears = stored.clears;
-    change.present = Listed::from_vec(present);
-    change.unmarked = stored.unmarked;
-    Ok(change)
-}
-
-// The first files, and then the others.
-fn joined(first: Vec<StoredFile>, others: Vec<StoredFile>) -> Result<Vec<StoredFile>, AllocError>
-    ensures { IfOk result (λ files. files.items ≡ first.items ++ others.items) }
-{
-    let mut files = first;
-    let mut others = others;
-    files.append(&mut others)?;
-    Ok(files)
 }

@@ -11,43 +11,34 @@ ghost use Rattle.keep_rewrite.specs.Walking.{AreReached, IsRight, trees_of};
 
 use crate::left::Walked;
 use crate::walk::Walk;
-use keep_catalog::Catalog;
 use keep_names::{BlobType, Id};
 use keep_plan::PlanError;
 use keep_reach::levels;
 use keep_snap::SnapFacts;
-use keep_tree::{Pattern, Rests};
-use std::alloc::Global;
+use keep_tree::Rests;
 use std::collections::BTreeMap;
 
 /// The names of the snapshots from which something goes, with the trees that are left, and the trees that are written
 /// anew for that, each once.
 pub(crate) fn retreed(
-    alloc: Global,
-    catalog: &Catalog,
-    patterns: &[Pattern],
+    walk: &Walk,
     taken: &[SnapFacts],
 ) -> Result<(Vec<(Id, Id)>, Vec<(BlobType, Vec<u8>)>), PlanError>
-    requires { AreReached catalog.now (map facts_view taken.now) }
+    requires { AreReached walk.now.catalog.now (map facts_view taken.now) }
     ensures retreed { IfOk result (λ made. made.0.items
-        ≡ retreed_of catalog.now (map pattern_view patterns.now) (map facts_view taken.now)) }
+        ≡ retreed_of walk.now.catalog.now (map pattern_view walk.now.patterns.now) (map facts_view taken.now)) }
     ensures trees { IfOk result (λ made. StandsFor
-        (finished_for catalog.now (map pattern_view patterns.now) (map facts_view taken.now))
+        (finished_for walk.now.catalog.now (map pattern_view walk.now.patterns.now) (map facts_view taken.now))
         (map given made.1.items)) }
     ensures refused { IfErr result (λ error. error ≡ Memory) }
 {
-    let walk = Walk {
-        alloc,
-        catalog,
-        patterns,
-    };
     let mut walked = Walked {
-        left: BTreeMap::new(alloc),
-        finished: Vec::new(alloc),
+        left: BTreeMap::new(walk.alloc),
+        finished: Vec::new(walk.alloc),
     };
-    let mut retreed = Vec::new(alloc);
+    let mut retreed = Vec::new(walk.alloc);
     for facts in taken {
-        retree_one(&walk, facts, &mut retreed, &mut walked)?;
+        retree_one(walk, facts, &mut retreed, &mut walked)?;
     }
     let Walked { left: _, finished } = walked;
     Ok((retreed, finished))

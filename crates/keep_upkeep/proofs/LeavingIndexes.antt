@@ -4,7 +4,6 @@ use Rattle.std.proofs.lemmas.List.{append-nil, map-append, map_more}
 use Rattle.std.proofs.lemmas.List.Elements.{filter-append}
 use Rattle.std.specs.Global.{Vec}
 use Rattle.std.specs.List.{list_any}
-use Rattle.keep_names.specs.declared.file_name.FileName.{FileName}
 use Rattle.keep_names.specs.declared.file_name.Kind.TheVariants.{Index, Pack}
 use Rattle.keep_names.specs.declared.id.Id.{Id}
 use Rattle.keep_repo.specs.Repository.{Repository}
@@ -50,17 +49,17 @@ module _ (is_gone : Id → Bool) (xs : List Read) (i : ℕ) (x : Read) (lt : i <
 -- ---- all of it
 
 -- what is built and dropped, step by step, is what a sweep of these marks makes
-pub same_sweep : (r : Repository) (marks : List PackMark) (indexes : List Read) (packs names others : List Id) (left : List PackData) (built drops : List NamedBytes) (none : List FileName)
+pub same_sweep : (r : Repository) (marks : List PackMark) (indexes : List Read) (packs names others : List Id) (left : List PackData) (built drops : List NamedBytes)
     → map packs_view indexes ≡ indexes_in r → packs ≡ marked_packs marks
     → names ≡ names_of (listing_gone (has_pack packs) (map packs_view indexes))
     → left ≡ joined (left_of (has_pack packs) (listing_gone (has_pack packs) (map packs_view indexes)))
     → built ≡ index_files left → others ≡ other_indexes built names
-    → drops ≡ files_there r Pack packs ++ files_there r Index others → none ≡ []
-    → reindexing r built drops marks none ≡ sweeping r marks
-same_sweep r marks indexes packs names others left built drops none read packs_are names_are left_is built_is others_are drops_are none_is =
+    → drops ≡ files_there r Pack packs ++ files_there r Index others
+    → reindexing r built drops marks [] ≡ sweeping r marks
+same_sweep r marks indexes packs names others left built drops read packs_are names_are left_is built_is others_are drops_are =
     let files : built ≡ left_files r (marked_packs marks) =
     built_is ∙ ap index_files (left_is ∙ (λ i. joined (left_of (has_pack (packs_are i)) (listing_gone (has_pack (packs_are i)) (read i))))) in
     let listed : names ≡ names_of (listing r (marked_packs marks)) = names_are ∙ (λ i. names_of (listing_gone (has_pack (packs_are i)) (read i))) in
     let rest : others ≡ other_indexes (left_files r (marked_packs marks)) (names_of (listing r (marked_packs marks))) = others_are ∙ (λ i. other_indexes (files i) (listed i)) in
     let gone : drops ≡ swept_files r (marked_packs marks) = drops_are ∙ (λ i. files_there r Pack (packs_are i) ++ files_there r Index (rest i)) in
-    (λ i. reindexing r (files i) (gone i) marks (none_is i))
+    (λ i. reindexing r (files i) (gone i) marks [])

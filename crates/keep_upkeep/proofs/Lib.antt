@@ -11,4 +11,3 @@ pub mod Remade
 pub mod RepairPlanned
 pub mod Rising
 pub mod SweepPlanned
-pub mod WaitedMarks

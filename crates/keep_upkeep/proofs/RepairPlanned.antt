@@ -20,7 +20,6 @@ use Rattle.keep_change.specs.Form.{IsWellFormed}
 use Rattle.keep_change.specs.Lists.{AreApart, SortedListsAreWellFormed, WhatIsAskedIsMet, file_names}
 use Rattle.keep_change.specs.NamedBytes.{NamedBytes}
 use Rattle.keep_change.specs.declared.change.Change.{Change}
-use Rattle.keep_change.specs.declared.change.PackMark.{PackMark}
 use Rattle.keep_catalog.specs.Files.{header_view, ids_in, indexes_in, packs_view}
 use Rattle.keep_catalog.specs.Ordered.{in_order, keyed}
 use Rattle.keep_catalog.proofs.Ordered.{in_order-same, keys_in_order}
@@ -149,13 +148,13 @@ headers_listed [] = refl
 headers_listed (header ∷ headers) = ap (λ (packs : List PackData). header_listed (header_view header) ∷ packs) (headers_listed headers)
 
 -- what is built, dropped and asked, step by step, is what a repair makes
-pub same_repair : (r : Repository) (indexes : List Read) (packs : List PackData) (ids others : List Id) (built drops : List NamedBytes) (none : List PackMark) (absent : List FileName)
+pub same_repair : (r : Repository) (indexes : List Read) (packs : List PackData) (ids others : List Id) (built drops : List NamedBytes) (absent : List FileName)
     → map packs_view indexes ≡ indexes_in r → packs ≡ packs_there r → built ≡ index_files packs
     → absent ≡ in_order name_cmp (absent_listed r (other_listings built (map packs_view indexes)))
-    → ids ≡ ids_in r Index → others ≡ other_indexes built ids → drops ≡ files_there r Index others → none ≡ []
-    → reindexing r built drops none absent ≡ repairing r
-same_repair r indexes packs ids others built drops none absent read packs_are built_is absent_is ids_are others_are drops_are none_is =
+    → ids ≡ ids_in r Index → others ≡ other_indexes built ids → drops ≡ files_there r Index others
+    → reindexing r built drops [] absent ≡ repairing r
+same_repair r indexes packs ids others built drops absent read packs_are built_is absent_is ids_are others_are drops_are =
     let files : built ≡ whole_files r = built_is ∙ ap index_files packs_are in
     let gone : drops ≡ other_files r = drops_are ∙ ap (files_there r Index) (others_are ∙ (λ i. other_indexes (files i) (ids_are i))) in
     let asked : absent ≡ absent_packs r = absent_is ∙ (λ i. in_order name_cmp (absent_listed r (other_listings (files i) (read i)))) in
-    (λ i. reindexing r (files i) (gone i) (none_is i) (asked i))
+    (λ i. reindexing r (files i) (gone i) [] (asked i))

@@ -1,8 +1,7 @@
 -- What a sweep changes: packs go whose marks have waited, and with them what indexes list of them.
-use Rattle.std.specs.Prelude.{ℕ, ℤ, pos, ◌+ℤ◌, int_le, Bool, List, [], ◌∷◌, ◌++◌, map, filter, Option, None, Some, Result, Ok, Err, if◌then◌else◌}
+use Rattle.std.specs.Prelude.{ℕ, ℤ, pos, ◌+ℤ◌, int_le, Bool, List, [], ◌∷◌, ◌++◌, map, filter, Result, Ok, Err, if◌then◌else◌}
 use Rattle.std.specs.FinMap as finite
 use Rattle.std.specs.List.{list_any}
-use Rattle.std.specs.Option.{option_and_then}
 use Rattle.keep_names.specs.declared.file_name.Kind.TheVariants.{Index, Pack}
 use Rattle.keep_names.specs.declared.id.Id.{Id}
 use Rattle.keep_repo.specs.Repository.{Repository}
@@ -30,11 +29,6 @@ has_waited now wait mark = int_le (mark.moment +ℤ pos wait) now
 -- the marks that have waited so long, by pack; whether their packs are there isn't asked
 unfoldable pub waited_marks : Repository → ℤ → ℕ → List PackMark
 waited_marks r now wait = filter (λ m. has_waited now wait m.mark) (map pack_mark (finite.entries r.marks))
-
--- the mark of this pack, if it has waited
-abbrev pub waited_mark : Repository → ℤ → ℕ → Id → Option PackMark
-waited_mark r now wait pack =
-    option_and_then (λ mark. if has_waited now wait mark then Some (pack_mark (pack, mark)) else None) (finite.get r.marks pack)
 
 -- ---- what indexes list of them
 

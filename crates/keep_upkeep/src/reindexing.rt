@@ -9,7 +9,7 @@ ghost use Rattle.keep_change.specs.Filling.{has_name};
 ghost use Rattle.keep_change.specs.Lists.{file_names};
 ghost use Rattle.keep_upkeep.specs.Reindexing as spec;
 
-use keep_change::{Change, Listed, PackMark, StoredFile};
+use keep_change::{Change, Listed, StoredFile};
 use keep_index::{Index, write_index, written_indexes_read_back};
 use keep_names::{FileName, Id, Kind};
 use keep_plan::{Reuses, settle};
@@ -95,24 +95,19 @@ fn is_named(file: &StoredFile, name: FileName) -> bool
     name == file.name()
 }
 
-/// The change that puts new files in the place of others, clears these marks, and asks that these files are absent.
-pub(crate) fn reindex(
+/// The change that puts new files in the place of others.
+pub(crate) fn reindexed(
     alloc: Global,
     repo: &Repo,
     built: Vec<StoredFile>,
     drops: Vec<StoredFile>,
-    clears: Vec<PackMark>,
-    absent: Vec<FileName>,
 ) -> Result<Change, AllocError>
-    ensures { IfOk result (λ change. change
-        ≡ spec.reindexing repo.now built.items drops.items clears.items absent.items) }
+    ensures { IfOk result (λ change. change ≡ spec.reindexing repo.now built.items drops.items [] []) }
 {
     let stored = settle(alloc, repo, built, Reuses::new(alloc))?;
     let mut change = Change::new(alloc);
     change.adds = stored.adds;
     change.drops = Listed::from_vec(drops);
-    change.clears = Listed::from_vec(clears);
     change.present = stored.present;
-    change.absent = Listed::from_vec(absent);
     Ok(change)
 }

@@ -18,9 +18,9 @@ ghost use Rattle.keep_upkeep.specs.Repair.{absent_among, absent_listed, other_li
 ghost use Rattle.keep_upkeep.specs.Repair as spec;
 
 use crate::laws::a_planned_repair_can_be_made;
-use crate::reindexing::{has_index, index_files, other_indexes, put_files, reindex};
+use crate::reindexing::{has_index, index_files, other_indexes, put_files, reindexed};
 use keep_catalog::Catalog;
-use keep_change::{Change, Planned, StoredFile};
+use keep_change::{Change, Listed, Planned, StoredFile};
 use keep_index::{Index, IndexedPack};
 use keep_names::{Blob, FileName, Id, Kind};
 use keep_plan::PlanError;
@@ -74,7 +74,17 @@ fn repair(alloc: Global, repo: &Repo, catalog: &Catalog) -> Result<Change, Alloc
     let others = other_indexes(alloc, &built, &ids)?;
     let mut drops = Vec::new(alloc);
     put_files(repo, Kind::Index, &others, &mut drops)?;
-    reindex(alloc, repo, built, drops, Vec::new(alloc), absent)
+    let change = reindexed(alloc, repo, built, drops)?;
+    Ok(asking_absent(change, absent))
+}
+
+// The change that also asks that these files are absent.
+fn asking_absent(change: Change, absent: Vec<FileName>) -> Change
+    ensures { result ≡ record change { absent = absent.items } }
+{
+    let mut change = change;
+    change.absent = Listed::from_vec(absent);
+    change
 }
 
 // The packs that are there and can be read, by id, with what their headers say.

@@ -1,6 +1,6 @@
-ghost use Rattle.std.specs.Prelude.{◌≡◌, ◌≢◌, ◌++◌, ◌+ℤ◌, [], ◌∷◌, true, pos, int_le, IfErr, IfOk, None, OnOk, Some, map};
+ghost use Rattle.std.specs.Prelude.{◌≡◌, ◌≢◌, ◌++◌, ◌+ℤ◌, [], ◌∷◌, true, pos, filter, int_le, IfErr, IfOk, None, OnOk, Some, map};
 ghost use Rattle.std.specs.BTreeSet.{contains};
-ghost use Rattle.std.specs.List.{filter_map, list_any};
+ghost use Rattle.std.specs.List.{list_any};
 ghost use Rattle.keep_docs.specs.Doc.{Answers};
 ghost use Rattle.keep_names.specs.Orders.{id_cmp};
 ghost use Rattle.keep_names.specs.declared.id.Id as the_id;
@@ -13,15 +13,16 @@ ghost use Rattle.keep_change.specs.Form.{IsWellFormed};
 ghost use Rattle.keep_change.specs.Lists.{marked_packs};
 ghost use Rattle.keep_catalog.specs.Files.{indexes_in, packs_view};
 ghost use Rattle.keep_plan.specs.Refusal.{unread_first};
+ghost use Rattle.keep_plan.specs.Settling.{pack_mark};
 ghost use Rattle.keep_plan.specs.declared.plan_error.PlanError.TheVariants as the_error;
 ghost use Rattle.keep_upkeep.specs.Reindexing.{other_indexes};
 ghost use Rattle.keep_upkeep.specs.Sweep.{left_of, listing_gone, names_of, sweep_change};
 ghost use Rattle.keep_upkeep.specs.Sweep as spec;
 
 use crate::laws::a_planned_sweep_can_be_made;
-use crate::reindexing::{index_files, other_indexes, put_files, reindex};
+use crate::reindexing::{index_files, other_indexes, put_files, reindexed};
 use keep_catalog::Catalog;
-use keep_change::{Change, PackMark, Planned, StoredFile};
+use keep_change::{Change, Listed, PackMark, Planned, StoredFile};
 use keep_index::{Index, IndexedPack, join, without_packs};
 use keep_names::{Id, Kind};
 use keep_plan::PlanError;
@@ -75,31 +76,27 @@ fn waited_marks(
 ) -> Result<Vec<PackMark>, AllocError>
     ensures { IfOk result (λ marks. marks.items ≡ spec.waited_marks repo.now now wait) }
 {
-    let (_, packs) = repo.list()?;
-    let mut marks = Vec::new(alloc);
-    for pack in &packs {
-        put_waited(repo, *pack, now, wait, &mut marks)?;
+    let marks = repo.marks()?;
+    let mut waited = Vec::new(alloc);
+    for entry in &marks {
+        put_waited(*entry, now, wait, &mut waited)?;
     }
-    Ok(marks)
+    Ok(waited)
 }
 
 // Puts the mark of the pack behind the others, if it has waited.
 fn put_waited(
-    repo: &Repo,
-    pack: Id,
+    entry: (Id, Mark),
     now: i64,
     wait: u64,
-    marks: &mut Vec<PackMark>,
+    waited: &mut Vec<PackMark>,
 ) -> Result<(), AllocError>
-    ensures { OnOk result (marks.new.items
-        ≡ marks.old.items ++ filter_map (spec.waited_mark repo.now now wait) (pack ∷ [])) }
+    ensures { OnOk result (waited.new.items
+        ≡ waited.old.items ++ filter (λ m. spec.has_waited now wait m.mark) (pack_mark entry ∷ [])) }
 {
-    let Some(moment) = repo.mark_of(pack) else {
-        return Ok(());
-    };
-    if has_waited(moment, now, wait) {
-        let mark = Mark { moment };
-        marks.push(PackMark { pack, mark })?;
+    let (pack, mark) = entry;
+    if has_waited(mark.moment, now, wait) {
+        waited.push(PackMark { pack, mark })?;
     }
     Ok(())
 }
@@ -128,7 +125,17 @@ fn sweep(
     let mut drops = Vec::new(alloc);
     put_files(repo, Kind::Pack, &packs, &mut drops)?;
     put_files(repo, Kind::Index, &others, &mut drops)?;
-    reindex(alloc, repo, built, drops, marks, Vec::new(alloc))
+    let change = reindexed(alloc, repo, built, drops)?;
+    Ok(clearing(change, marks))
+}
+
+// The change that also clears these marks.
+fn clearing(change: Change, marks: Vec<PackMark>) -> Change
+    ensures { result ≡ record change { clears = marks.items } }
+{
+    let mut change = change;
+    change.clears = Listed::from_vec(marks);
+    change
 }
 
 // The packs of these marks.

@@ -6,8 +6,8 @@ use Rattle.keep_labels.proofs.retagged.retagged.Given as goal
 
 abbrev pub invariant-loop-facts : goal.invariant-loop-facts
 invariant-loop-facts l = record {
-  names : l.names.items ++ map (λ s. s.name) (changed_by (edit_view l.edit) (map facts_view (drop l.facts-index l.taken)))
+  names : l.made.names.items ++ map (λ s. s.name) (changed_by (edit_view l.edit) (map facts_view (drop l.facts-index l.taken)))
       ≡ map (λ s. s.name) (changed_by (edit_view l.edit) (map facts_view l.taken));
-  files : l.files.items ++ retagged_files l.catalog (edit_view l.edit) (changed_by (edit_view l.edit) (map facts_view (drop l.facts-index l.taken)))
+  files : l.made.files.items ++ retagged_files l.catalog (edit_view l.edit) (changed_by (edit_view l.edit) (map facts_view (drop l.facts-index l.taken)))
       ≡ retagged_files l.catalog (edit_view l.edit) (changed_by (edit_view l.edit) (map facts_view l.taken));
 }

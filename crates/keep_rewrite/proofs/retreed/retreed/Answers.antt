@@ -14,13 +14,13 @@ use Rattle.keep_rewrite.proofs.retreed.retreed.Goals as goal
 
 pub loop-facts-init : goal.loop-facts-init
 loop-facts-init c =
-    let patterns = map pattern_view c.args.patterns.now in
+    let patterns = map pattern_view c.args.walk.now.patterns.now in
     let all = map facts_view c.args.taken.now in
     record {
       reached = c.requires;
-      right = none_right c.args.catalog.now patterns (record { left = c.new.result; finished = c.new-2.result }) c.new.ensures.empty;
-      retreed = ap (λ (xs : List Retreed). xs ++ retreed_of c.args.catalog.now patterns all) c.new-retreed.ensures.items;
-      trees = λ new h. subst (λ (trees : List BlobData). Finishes trees new (finished_for c.args.catalog.now patterns all)) (ap (map given) c.new-2.ensures.items) h;
+      right = none_right c.args.walk.now.catalog.now patterns (record { left = c.new.result; finished = c.new-2.result }) c.new.ensures.empty;
+      retreed = ap (λ (xs : List Retreed). xs ++ retreed_of c.args.walk.now.catalog.now patterns all) c.new-retreed.ensures.items;
+      trees = λ new h. subst (λ (trees : List BlobData). Finishes trees new (finished_for c.args.walk.now.catalog.now patterns all)) (ap (map given) c.new-2.ensures.items) h;
     }
 
 pub retree_one-requires-clause-had : goal.retree_one-requires-clause-had
@@ -28,15 +28,15 @@ retree_one-requires-clause-had c =
     let i = c.loop-facts.facts-index in
     let more : drop i c.args.taken.now ≡ c.facts-item.result ∷ drop (i + 1) c.args.taken.now =
     drop_more c.args.taken.now i c.facts-item.result c.loop-facts-test.true ∙ ap (λ (x : SnapFacts). x ∷ drop (i + 1) c.args.taken.now) (sym c.facts-item.is) in
-    (subst (λ (fs : List SnapFacts). AreReached c.args.catalog.now (map facts_view fs)) more c.loop-facts.invariant.reached).0
+    (subst (λ (fs : List SnapFacts). AreReached c.args.walk.now.catalog.now (map facts_view fs)) more c.loop-facts.invariant.reached).0
 
 pub retree_one-requires-clause-before : goal.retree_one-requires-clause-before
 retree_one-requires-clause-before c = c.loop-facts.invariant.right
 
 pub loop-facts-preserved : goal.loop-facts-preserved
 loop-facts-preserved c =
-    let r = c.args.catalog.now in
-    let patterns = map pattern_view c.args.patterns.now in
+    let r = c.args.walk.now.catalog.now in
+    let patterns = map pattern_view c.args.walk.now.patterns.now in
     let all = map facts_view c.args.taken.now in
     let i = c.loop-facts.facts-index in
     let s = facts_view c.facts-item.result in
@@ -58,8 +58,8 @@ loop-facts-preserved c =
 
 pub returns-clause-retreed : goal.returns-clause-retreed
 returns-clause-retreed c =
-    let r = c.args.catalog.now in
-    let patterns = map pattern_view c.args.patterns.now in
+    let r = c.args.walk.now.catalog.now in
+    let patterns = map pattern_view c.args.walk.now.patterns.now in
     let none = drop_all c.loop-facts.facts-index c.args.taken.now c.loop-facts-test.false in
     sym (append-nil c.loop-facts.retreed.items)
     ∙ ap (λ (xs : List Retreed). c.loop-facts.retreed.items ++ xs) (retreed_none r patterns)
@@ -68,8 +68,8 @@ returns-clause-retreed c =
 
 pub returns-clause-trees : goal.returns-clause-trees
 returns-clause-trees c =
-    let r = c.args.catalog.now in
-    let patterns = map pattern_view c.args.patterns.now in
+    let r = c.args.walk.now.catalog.now in
+    let patterns = map pattern_view c.args.walk.now.patterns.now in
     let all = map facts_view c.args.taken.now in
     let none = drop_all c.loop-facts.facts-index c.args.taken.now c.loop-facts-test.false in
     all_complete r patterns all (trees_of c.loop-facts.walked)

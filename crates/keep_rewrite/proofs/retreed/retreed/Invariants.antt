@@ -8,9 +8,9 @@ use Rattle.keep_rewrite.proofs.retreed.retreed.Given as goal
 
 abbrev pub invariant-loop-facts : goal.invariant-loop-facts
 invariant-loop-facts l = record {
-  reached : AreReached l.fn.catalog (map facts_view (drop l.facts-index l.taken));
-  right : IsRight l.fn.catalog (map pattern_view l.patterns) l.walked;
-  retreed : l.retreed.items ++ retreed_of l.fn.catalog (map pattern_view l.patterns) (map facts_view (drop l.facts-index l.taken))
-      ≡ retreed_of l.fn.catalog (map pattern_view l.patterns) (map facts_view l.taken);
-  trees : Completes l.fn.catalog (map pattern_view l.patterns) (map facts_view (drop l.facts-index l.taken)) (map facts_view l.taken) (trees_of l.walked);
+  reached : AreReached l.walk.catalog.now (map facts_view (drop l.facts-index l.taken));
+  right : IsRight l.walk.catalog.now (map pattern_view l.walk.patterns.now) l.walked;
+  retreed : l.retreed.items ++ retreed_of l.walk.catalog.now (map pattern_view l.walk.patterns.now) (map facts_view (drop l.facts-index l.taken))
+      ≡ retreed_of l.walk.catalog.now (map pattern_view l.walk.patterns.now) (map facts_view l.taken);
+  trees : Completes l.walk.catalog.now (map pattern_view l.walk.patterns.now) (map facts_view (drop l.facts-index l.taken)) (map facts_view l.taken) (trees_of l.walked);
 }

@@ -1,9 +1,9 @@
-use Rattle.std.proofs.Common.{◌≡◌, ◌++◌, drop}
-use Rattle.std.specs.List.{filter_map}
-use Rattle.keep_upkeep.specs.Sweep.{waited_mark}
+use Rattle.std.proofs.Common.{◌≡◌, ◌++◌, drop, filter, map}
+use Rattle.keep_plan.specs.Settling.{pack_mark}
+use Rattle.keep_upkeep.specs.Sweep.{has_waited}
 use Rattle.keep_upkeep.proofs.sweep.waited_marks.Given as goal
 
-abbrev pub invariant-loop-pack : goal.invariant-loop-pack
-invariant-loop-pack l =
-    l.marks.items ++ filter_map (waited_mark l.repo l.now l.wait) (drop l.pack-index l.pack-items)
-    ≡ filter_map (waited_mark l.repo l.now l.wait) l.pack-items
+abbrev pub invariant-loop-entry : goal.invariant-loop-entry
+invariant-loop-entry l =
+    l.waited.items ++ filter (λ m. has_waited l.now l.wait m.mark) (map pack_mark (drop l.entry-index l.entry-items))
+    ≡ filter (λ m. has_waited l.now l.wait m.mark) (map pack_mark l.entry-items)

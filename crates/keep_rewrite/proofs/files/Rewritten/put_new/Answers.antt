@@ -2,7 +2,7 @@ use Rattle.std.proofs.Common.{ap, sym, ◌∙◌}
 use Rattle.std.specs.Option.{option_map}
 use Rattle.keep_snap.specs.Snap.{snap_view}
 use Rattle.keep_rewrite.proofs.Carried.{snap_carried}
-use Rattle.keep_rewrite.proofs.files.put_new.Goals as goal
+use Rattle.keep_rewrite.proofs.files.Rewritten.put_new.Goals as goal
 
 pub retreed_file-requires : goal.retreed_file-requires
 retreed_file-requires c =
