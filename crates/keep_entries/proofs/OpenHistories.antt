@@ -38,7 +38,7 @@ positive : (j : Journal) (n : ℕ) (kind : EventKind) → FitsBy j n kind → 0 
 positive j n (Commit c) h = omega (arith, h)
 positive j n Undo h = omega (arith, h.0)
 positive j n Redo h = omega (arith, h.0)
-positive j n (Empty marks) h = omega (arith, h.0)
+positive j n (Empty marks) h = h.0
 
 -- neither is one that comes in turn, and its own number isn't 0
 all_come : (j : Journal) (es : List Entry) → ComeInTurn j es → AllByRecursion (λ e. (0 < e.at) × (0 < e.event.number)) es

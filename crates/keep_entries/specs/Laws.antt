@@ -4,8 +4,9 @@ use Rattle.std.specs.List.Sorted.{IsStrictlySortedBy}
 use Rattle.keep_names.specs.Orders.{id_cmp}
 use Rattle.keep_repo.specs.Repository.{Repository}
 use Rattle.keep_change.specs.Lists.{marked_packs}
+use Rattle.keep_journal.specs.History.{last_marks}
 use Rattle.keep_journal.specs.Journal.{Journal}
-use Rattle.keep_journal.specs.Opening.{IsOpen, last_marks}
+use Rattle.keep_journal.specs.Opening.{IsOpen}
 use Rattle.keep_journal.specs.declared.event.Entry.{Entry}
 use Rattle.keep_journal.specs.declared.event.Event.{Event}
 use Rattle.keep_journal.specs.declared.event.EventKind.{EventKind}

@@ -12,9 +12,8 @@ use Rattle.keep_change.specs.Fold.{Numbered}
 use Rattle.keep_change.specs.declared.change.Change.{Change}
 use Rattle.keep_change.specs.declared.change.PackMark.{PackMark}
 use Rattle.keep_journal.specs.Event.{commit_of, committing, undoing, redoing, emptying}
-use Rattle.keep_journal.specs.History.{committed, last_change, change_of, in_force_after, is_in_force, final_after, final_number, length_of, AscendFrom, ComeInTurn, ComesNext, CountsFrom, FitsBy, IsLegal, IsNumbered}
+use Rattle.keep_journal.specs.History.{committed, last_change, change_of, in_force_after, is_in_force, final_after, final_number, last_marks, length_of, marks_after, AscendFrom, ComeInTurn, ComesNext, CountsFrom, FitsBy, IsLegal, IsNumbered}
 use Rattle.keep_journal.specs.Journal.{Journal, posted}
-use Rattle.keep_journal.specs.Opening.{last_marks, marks_after}
 use Rattle.keep_journal.specs.declared.event.Entry.{Entry}
 use Rattle.keep_journal.specs.declared.event.Event.{Event}
 use Rattle.keep_journal.specs.declared.event.EventKind.{EventKind}
@@ -175,6 +174,11 @@ change_of-Commit j k n c h next =
     let parts = find-append (λ (c : Numbered). c.number == n) (committed j) (record { number = n; change = c } ∷ []) in
     rw (same, parts, eq-eqb n n refl) (other_one (find (λ c. c.number == n) (committed j)) (Some (record { number = n; change = c })) (is_there ∙ absent))
 
+-- ---- an emptying that moves the final number up
+
+pub fits-Empty : (j : Journal) (n : ℕ) (marks : List PackMark) → final_number j < n → n ≤ last_change j → FitsBy j n (Empty marks)
+fits-Empty j n marks above within = (omega arith, omega arith, within, λ same. absurd (omega arith))
+
 -- ---- a history stays numbered
 
 pub IsNumbered-push : (j : Journal) (e : Entry) → IsNumbered j → ComesNext j e → IsNumbered (posted j e.at e.event)
@@ -196,13 +200,13 @@ IsNumbered-push j e h next = record {
     first_final n (Commit c) fits = rw (final_number-push j e.at (committing n c)) h.first_final
     first_final n Undo fits = rw (final_number-push j e.at (undoing n)) h.first_final
     first_final n Redo fits = rw (final_number-push j e.at (redoing n)) h.first_final
-    first_final n (Empty marks) fits = rw (final_number-push j e.at (emptying n marks)) (omega (arith, h.first_final, fits.0))
+    first_final n (Empty marks) fits = rw (final_number-push j e.at (emptying n marks)) (omega (arith, h.first_final, fits.1))
 
     last_final : (n : ℕ) (kind : EventKind) → FitsBy j n kind → final_number (posted j e.at (record { number = n; kind = kind })) ≤ last_change (posted j e.at (record { number = n; kind = kind }))
     last_final n (Commit c) fits = rw (final_number-push j e.at (committing n c), last_change-Commit j e.at n c) (omega (arith, h.last_final))
     last_final n Undo fits = rw (final_number-push j e.at (undoing n), last_change-Undo j e.at n) h.last_final
     last_final n Redo fits = rw (final_number-push j e.at (redoing n), last_change-Redo j e.at n) h.last_final
-    last_final n (Empty marks) fits = rw (final_number-push j e.at (emptying n marks), last_change-Empty j e.at n marks) fits.1
+    last_final n (Empty marks) fits = rw (final_number-push j e.at (emptying n marks), last_change-Empty j e.at n marks) fits.2
 
 -- ---- a history stays legal
 

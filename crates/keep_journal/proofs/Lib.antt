@@ -4,3 +4,4 @@ pub mod Kept
 pub mod Later
 pub mod Numbers
 pub mod Standings
+pub mod Unfinal

@@ -1,134 +1,91 @@
--- What one more event makes of the standings.
-use Rattle.std.proofs.Common.{◌≡◌, ℕ, zero, suc, ◌+◌, ◌-◌, ◌<◌, ◌≤◌, ◌==◌, ◌≢◌, nat_lt, Bool, true, false, ◌&&◌, ◌||◌, not, List, [], ◌∷◌, ◌++◌, length, set, get_or, cond, Option, Some, None, inl, inr, refl, sym, ap, ◌∙◌, arith, length-set, Bor, subst}
-use Rattle.std.proofs.lemmas.Bool.{and_right, cases_eq, cases_lt, cond-false, cond-true, eq-eqb, le-ltb, lt-leb, ne_eqb}
-use Rattle.std.proofs.lemmas.Bool.Decides.{nat_tests}
-use Rattle.std.proofs.lemmas.List.{length_push}
-use Rattle.std.proofs.lemmas.Option.{same_Some, slice_get_read, slice_get_within}
-use Rattle.std.specs.List.{slice_get}
-use Rattle.std.specs.Option.{MatchOption, option_copied}
+-- What a history keeps of each change, after one more event, and where it is looked up.
+use Rattle.std.proofs.Common.{◌≡◌, ℕ, zero, suc, ◌+◌, ◌-◌, ◌<◌, ◌≤◌, ◌==◌, nat_le, nat_lt, Bool, true, false, ◌&&◌, ◌||◌, not, List, [], ◌∷◌, ◌++◌, cond, drop, get_or, length, map, set, Option, Some, None, inl, inr, refl, subst, sym, ap, ap₂, ◌∙◌, arith, Bor}
+use Rattle.std.proofs.lemmas.Bool.{cases_lt, eq-eqb, le-leb, le-ltb, lt-ltb, ne_eqb}
+use Rattle.std.proofs.lemmas.List.{append-nil, drop-drop, drop-map, length-map, map-append}
+use Rattle.std.proofs.lemmas.Option.{same_Some, slice_get-map, slice_get_past, slice_get_read}
+use Rattle.std.specs.List.{fold, slice_get}
+use Rattle.std.specs.Option.{MatchOption, option_copied, option_map, option_to_list}
 use Rattle.std.specs.Slice.{IsItemAt}
+use Rattle.keep_names.specs.declared.file_name.FileName.{FileName}
+use Rattle.keep_change.specs.Fold.{Numbered}
+use Rattle.keep_change.specs.Lists.{file_names}
 use Rattle.keep_change.specs.declared.change.Change.{Change}
 use Rattle.keep_change.specs.declared.change.PackMark.{PackMark}
-use Rattle.keep_journal.specs.Event.{committing, undoing, redoing, emptying}
-use Rattle.keep_journal.specs.History.{last_change, change_of, final_after, in_force_after, is_in_force, ComesNext, FitsBy, IsNumbered}
-use Rattle.keep_journal.specs.Journal.{Journal, posted}
-use Rattle.keep_journal.specs.Standings.{AreStandings, IsStandingOf, IsUpToDate, journal_of, last_after, last_by}
+use Rattle.keep_journal.specs.Event.{commit_of, committing, emptying, names_added, notice_of, redoing, undoing}
+use Rattle.keep_journal.specs.History.{change_of, committed, final_after, final_number, in_force_after, is_in_force, last_change, notices_of, status_of, ComesNext, CountsFrom, FitsBy, IsNumbered}
+use Rattle.keep_journal.specs.Journal.{Journal, Recorded, posted}
+use Rattle.keep_journal.specs.Kept.{above, is_kept, kept_change, unfinal, unfinal_changes}
+use Rattle.keep_journal.specs.Standings.{changes_in, last_after, last_by, names_of, standing_of, standings_of, Follow, IsStandingOf, IsUpToDate, Reaches, ReachesBy}
 use Rattle.keep_journal.specs.declared.event.Entry.{Entry}
 use Rattle.keep_journal.specs.declared.event.Event.{Event}
 use Rattle.keep_journal.specs.declared.event.EventKind.{EventKind}
 use Rattle.keep_journal.specs.declared.event.EventKind.TheVariants.{Commit, Undo, Redo, Empty}
-use Rattle.keep_journal.specs.declared.history.Standing.{Standing}
-use Rattle.keep_journal.proofs.Commits.{last_change-Commit, last_change-Empty, last_change-Redo, last_change-Undo, change_of-Commit, change_of-push, final_number-push, is_in_force-push, IsLegal-push, IsNumbered-push, no_change, some_change}
+use Rattle.keep_journal.specs.declared.event.Notice.{Notice}
+use Rattle.keep_journal.specs.declared.history.Status.TheVariants.{Final}
+use Rattle.keep_journal.specs.declared.standing.Standing.{Standing}
+use Rattle.keep_journal.proofs.Chosen.{chosen-Commit, chosen-Empty, chosen-Redo, chosen-Undo}
+use Rattle.keep_journal.proofs.Commits.{committed-Commit, committed-Empty, committed-Redo, committed-Undo, final_number-push, find-slice_get, is_in_force-push, last_change-Commit, last_change-Empty, last_change-Redo, last_change-Undo, no_change, some_change, IsLegal-push, IsNumbered-push}
+use Rattle.keep_journal.proofs.Unfinal.{above_is_drop, change_at, unfinal_counts, unfinal_length}
 
--- ---- elements of a longer or written list
+-- ---- lists that are numbered from k on
 
-slice_get-append : {X : Type 0} (xs ys : List X) (i : ℕ) (x : X) → slice_get xs i ≡ Some x → slice_get (xs ++ ys) i ≡ Some x
-slice_get-append [] ys i x h = cc h
-slice_get-append (y ∷ xs) ys zero x h = h
-slice_get-append (y ∷ xs) ys (suc i) x h = slice_get-append xs ys i x h
+-- what agrees on the numbers in use
+counted_map : (f g : Numbered → Standing) (k : ℕ) (ns : List Numbered) → CountsFrom k ns
+    → ((n : Numbered) → k ≤ n.number → n.number < k + length ns → f n ≡ g n) → map f ns ≡ map g ns
+counted_map f g k [] h agree = refl
+counted_map f g k (m ∷ ns) h agree =
+    let first : m.number ≡ k = h.0 in
+    ap₂ ◌∷◌ (agree m (omega arith) (omega arith)) (counted_map f g (k + 1) ns h.1 (λ n low high. agree n (omega arith) (omega arith)))
 
-slice_get-end : {X : Type 0} (xs : List X) (x : X) → slice_get (xs ++ x ∷ []) (length xs) ≡ Some x
-slice_get-end [] x = refl
-slice_get-end (y ∷ xs) x = slice_get-end xs x
+-- the one at place i has number k + i
+counted_at : (k : ℕ) (ns : List Numbered) (i : ℕ) (m : Numbered) → CountsFrom k ns → slice_get ns i ≡ Some m → m.number ≡ k + i
+counted_at k [] i m h is = cc is
+counted_at k (x ∷ ns) zero m h is = ap (λ y. y.number) (sym (same_Some x m is)) ∙ h.0 ∙ omega arith
+counted_at k (x ∷ ns) (suc i) m h is = counted_at (k + 1) ns i m h.1 is ∙ omega arith
 
-slice_get_before : {X : Type 0} (xs ys : List X) (i : ℕ) → i < length xs → slice_get (xs ++ ys) i ≡ slice_get xs i
-slice_get_before [] ys i lt = absurd (omega arith)
-slice_get_before (y ∷ xs) ys zero lt = refl
-slice_get_before (y ∷ xs) ys (suc i) lt = slice_get_before xs ys i (omega arith)
+-- ---- how changes stand after one more event
 
-slice_get-set_same : {X : Type 0} (xs : List X) (i : ℕ) (x y : X) → slice_get (set xs i y) i ≡ Some x → x ≡ y
-slice_get-set_same [] i x y h = cc h
-slice_get-set_same (z ∷ xs) zero x y h = cc h
-slice_get-set_same (z ∷ xs) (suc i) x y h = slice_get-set_same xs i x y h
+stands_alike : (j k : Journal) (n : Numbered) (b : Bool) → is_in_force k n.number ≡ b → standing_of k n ≡ record { change = n.change; in_force = b }
+stands_alike j k n b same = ap (λ (f : Bool). let s : Standing = record { change = n.change; in_force = f } in s) same
 
-slice_get-set_other : {X : Type 0} (xs : List X) (i k : ℕ) (y : X) → k ≢ i → slice_get (set xs i y) k ≡ slice_get xs k
-slice_get-set_other [] i k y ne = refl
-slice_get-set_other (z ∷ xs) zero zero y ne = absurd (ne refl)
-slice_get-set_other (z ∷ xs) zero (suc k) y ne = refl
-slice_get-set_other (z ∷ xs) (suc i) zero y ne = refl
-slice_get-set_other (z ∷ xs) (suc i) (suc k) y ne = slice_get-set_other xs i k y (λ e. ne (ap suc e))
-
--- ---- one standing
-
--- the event leaves the change's place, and may turn whether it is in force
-IsStandingOf-push : (j : Journal) (k : ℕ) (e : Event) (n : ℕ) (s t : Standing) → IsStandingOf j n s
-    → t.place ≡ s.place → t.in_force ≡ in_force_after n (is_in_force j n) e → IsStandingOf (posted j k e) n t
-IsStandingOf-push j k e n s t stands place in_force = record {
-  change = stands.change;
-  at = stands.at;
-  place = rw place (slice_get-append j.entries (record { at = k; event = e } ∷ []) s.place (record { at = stands.at; event = committing n stands.change }) stands.place);
-  numbered = change_of-push j k e n stands.change stands.numbered;
-  in_force = in_force ∙ sym (is_in_force-push j k e n);
-}
-
--- ---- all of them
+-- the one of number n is turned, and all others stay
+turned_at : (j k : Journal) (b : Bool) (n : ℕ) → ((m : ℕ) → is_in_force k m ≡ cond (n == m) b (is_in_force j m))
+    → (from : ℕ) (ns : List Numbered) (i : ℕ) (s : Standing) → CountsFrom from ns → i < length ns → n ≡ from + i → s ≡ get_or (map (standing_of j) ns) i s
+    → set (map (standing_of j) ns) i (record { change = s.change; in_force = b }) ≡ map (standing_of k) ns
+turned_at j k b n turns from [] i s h within number read = absurd (omega arith)
+turned_at j k b n turns from (m ∷ ns) zero s h within number read =
+    let first : m.number ≡ from = h.0 in
+    let change : s.change ≡ m.change = ap (λ t. t.change) read in
+    let here : is_in_force k m.number ≡ b = turns m.number ∙ ap (λ t. cond t b (is_in_force j m.number)) (eq-eqb n m.number (omega arith)) in
+    let new : record { change = s.change; in_force = b } ≡ standing_of k m = ap (λ c. record { change = c; in_force = b }) change ∙ sym (stands_alike j k m b here) in
+    ap₂ ◌∷◌ new (counted_map (standing_of j) (standing_of k) (from + 1) ns h.1 (λ x low high.
+    sym (stands_alike j k x (is_in_force j x.number) (turns x.number ∙ ap (λ t. cond t b (is_in_force j x.number)) (ne_eqb n x.number (λ e. omega arith))))))
+turned_at j k b n turns from (m ∷ ns) (suc i) s h within number read =
+    let first : m.number ≡ from = h.0 in
+    let here : is_in_force k m.number ≡ is_in_force j m.number = turns m.number ∙ ap (λ t. cond t b (is_in_force j m.number)) (ne_eqb n m.number (λ e. omega arith)) in
+    ap₂ ◌∷◌ (sym (stands_alike j k m (is_in_force j m.number) here))
+    (turned_at j k b n turns (from + 1) ns i s h.1 (omega arith) (omega arith) read)
 
 or_other : (n m : ℕ) (b : Bool) → (n ≡ m → ⊥) → (n == m || b) ≡ b
 or_other n m b ne = rw (ne_eqb n m ne) refl
 
-or_same : (n : ℕ) (b : Bool) → (n == n || b) ≡ true
-or_same n b = rw (eq-eqb n n refl) refl
-
-last_one : (ss : List Standing) (new : Standing) (i : ℕ) (s : Standing) → i ≡ length ss → slice_get (ss ++ new ∷ []) i ≡ Some s → s ≡ new
-last_one ss new i s e at = same_Some s new (sym at ∙ ap (slice_get (ss ++ new ∷ [])) e ∙ slice_get-end ss new)
-
-pub AreStandings-Commit : (j : Journal) (ss : List Standing) (k n : ℕ) (c : Change) → IsNumbered j → AreStandings j ss → n ≡ last_change j + 1
-    → AreStandings (posted j k (committing n c)) (ss ++ record { place = length j.entries; in_force = true } ∷ [])
-AreStandings-Commit j ss k n c h all next =
-    let count = all.count in
-    let new : Standing = record { place = length j.entries; in_force = true } in
-    let longer = length_push ss new in
-    let more = last_change-Commit j k n c in
-    record {
-      count = omega (arith, count, longer, more);
-      each = λ i s at.
-          elim (cases_lt i (length ss)) [
-            | inl below ↦
-                let before : slice_get ss i ≡ Some s = sym (slice_get_before ss (new ∷ []) i below) ∙ at in
-                let stands = all.each i s before in
-                IsStandingOf-push j k (committing n c) (j.base + i + 1) s s stands refl
-                (stands.in_force ∙ sym (or_other n (j.base + i + 1) (is_in_force j (j.base + i + 1)) (λ e. omega arith)))
-            | inr above ↦
-                let within = slice_get_within (ss ++ new ∷ []) i s at in
-                let top : i ≡ length ss = omega arith in
-                let same : s ≡ new = last_one ss new i s top at in
-                let number : j.base + i + 1 ≡ n = omega arith in
-                rw (number, same) (record {
-                  change = c;
-                  at = k;
-                  place = slice_get-end j.entries (record { at = k; event = committing n c });
-                  numbered = change_of-Commit j k n c h next;
-                  in_force = sym (is_in_force-push j k (committing n c) n ∙ or_same n (is_in_force j n));
-                })
-          ];
-    }
-
--- the standing at a place is written, and all others stay
-AreStandings-set : (j : Journal) (k : ℕ) (e : Event) (ss : List Standing) (n p : ℕ) (s t : Standing) (b : Bool) → AreStandings j ss
-    → j.base + p + 1 ≡ n → p < length ss → s ≡ get_or ss p s → t.place ≡ s.place → t.in_force ≡ b
-    → last_change (posted j k e) ≡ last_change j → ((m : ℕ) (was : Bool) → in_force_after m was e ≡ cond (n == m) b was)
-    → AreStandings (posted j k e) (set ss p t)
-AreStandings-set j k e ss n p s t b all number within read place in_force count turns =
-    let counted = all.count in
-    record {
-      count = ap (λ l. j.base + l) (length-set ss p t) ∙ counted ∙ sym count;
-      each = λ i u at.
-          elim (cases_eq i p) [
-            | inl same ↦
-                let there : j.base + i + 1 ≡ n = omega arith in
-                let was : slice_get ss i ≡ Some s = slice_get_read ss (length ss) i s refl (omega arith) (read ∙ ap (λ x. get_or ss x s) (sym same)) in
-                let new : u ≡ t = slice_get-set_same ss i u t (ap (λ x. slice_get (set ss x t) i) same ∙ at) in
-                rw new (IsStandingOf-push j k e (j.base + i + 1) s t (all.each i s was) place
-                (in_force ∙ sym (turns (j.base + i + 1) (is_in_force j (j.base + i + 1))
-                ∙ cond-true (n == j.base + i + 1) b (is_in_force j (j.base + i + 1)) (eq-eqb n (j.base + i + 1) (sym there)))))
-            | inr other ↦
-                let was : slice_get ss i ≡ Some u = sym (slice_get-set_other ss p i t other) ∙ at in
-                let stands = all.each i u was in
-                IsStandingOf-push j k e (j.base + i + 1) u u stands refl
-                (stands.in_force ∙ sym (turns (j.base + i + 1) (is_in_force j (j.base + i + 1))
-                ∙ cond-false (n == j.base + i + 1) b (is_in_force j (j.base + i + 1)) (ne_eqb n (j.base + i + 1) (λ e. other (omega arith)))))
-          ];
-    }
+pub standings-Commit : (j : Journal) (k n : ℕ) (c : Change) → IsNumbered j → n ≡ last_change j + 1
+    → standings_of j ++ record { change = c; in_force = true } ∷ [] ≡ standings_of (posted j k (committing n c))
+standings-Commit j k n c h next =
+    let after : Journal = posted j k (committing n c) in
+    let last = h.last_final in
+    let count = unfinal_length j h in
+    let new : Numbered = record { number = n; change = c } in
+    let longer : unfinal after ≡ unfinal j ++ new ∷ [] =
+    ap (above after) (final_number-push j k (committing n c))
+    ∙ chosen-Commit (nat_lt (final_number j)) j k n c
+    ∙ ap (λ b. unfinal j ++ cond b (new ∷ []) []) (lt-ltb (final_number j) n (omega arith)) in
+    let same : map (standing_of j) (unfinal j) ≡ map (standing_of after) (unfinal j) =
+    counted_map (standing_of j) (standing_of after) (final_number j + 1) (unfinal j) (unfinal_counts j h) (λ m low high.
+    sym (stands_alike j after m (is_in_force j m.number) (is_in_force-push j k (committing n c) m.number ∙ or_other n m.number (is_in_force j m.number) (λ e. omega arith)))) in
+    let here : is_in_force after n ≡ true = is_in_force-push j k (committing n c) n ∙ ap (λ b. b || is_in_force j n) (eq-eqb n n refl) in
+    ap₂ ◌++◌ same (ap (λ s. s ∷ []) (sym (stands_alike j after new true here)))
+    ∙ sym (ap (map (standing_of after)) longer ∙ map-append (standing_of after) (unfinal j) (new ∷ []))
 
 undo_turns : (n m : ℕ) (was : Bool) → in_force_after m was (undoing n) ≡ cond (n == m) false was
 undo_turns n m was = elim (n == m) as (λ b. (not b && was) ≡ cond b false was) [ true ↦ refl | false ↦ refl ]
@@ -136,24 +93,51 @@ undo_turns n m was = elim (n == m) as (λ b. (not b && was) ≡ cond b false was
 redo_turns : (n m : ℕ) (was : Bool) → in_force_after m was (redoing n) ≡ cond (n == m) true was
 redo_turns n m was = elim (n == m) as (λ b. (b || was) ≡ cond b true was) [ true ↦ refl | false ↦ refl ]
 
-pub AreStandings-Undo : (j : Journal) (ss : List Standing) (k n p : ℕ) (s : Standing) → AreStandings j ss
-    → j.base + p + 1 ≡ n → p < length ss → s ≡ get_or ss p s
-    → AreStandings (posted j k (undoing n)) (set ss p (record { place = s.place; in_force = false }))
-AreStandings-Undo j ss k n p s all number within read =
-    AreStandings-set j k (undoing n) ss n p s (record { place = s.place; in_force = false }) false all number within read refl refl (last_change-Undo j k n) (undo_turns n)
+-- the standing at the change's place is written
+standings_set : (j after : Journal) (b : Bool) (n : ℕ) (s : Standing) → IsNumbered j → final_number j < n → n ≤ last_change j
+    → unfinal after ≡ unfinal j → ((m : ℕ) → is_in_force after m ≡ cond (n == m) b (is_in_force j m))
+    → s ≡ get_or (standings_of j) (n - final_number j - 1) s
+    → set (standings_of j) (n - final_number j - 1) (record { change = s.change; in_force = b }) ≡ standings_of after
+standings_set j after b n s h above within same turns read =
+    let count = unfinal_length j h in
+    turned_at j after b n turns (final_number j + 1) (unfinal j) (n - final_number j - 1) s (unfinal_counts j h) (omega arith) (omega arith) read
+    ∙ sym (ap (map (standing_of after)) same)
 
-pub AreStandings-Redo : (j : Journal) (ss : List Standing) (k n p : ℕ) (s : Standing) → AreStandings j ss
-    → j.base + p + 1 ≡ n → p < length ss → s ≡ get_or ss p s
-    → AreStandings (posted j k (redoing n)) (set ss p (record { place = s.place; in_force = true }))
-AreStandings-Redo j ss k n p s all number within read =
-    AreStandings-set j k (redoing n) ss n p s (record { place = s.place; in_force = true }) true all number within read refl refl (last_change-Redo j k n) (redo_turns n)
+pub standings-Undo : (j : Journal) (k n : ℕ) (s : Standing) → IsNumbered j → final_number j < n → n ≤ last_change j
+    → s ≡ get_or (standings_of j) (n - final_number j - 1) s
+    → set (standings_of j) (n - final_number j - 1) (record { change = s.change; in_force = false }) ≡ standings_of (posted j k (undoing n))
+standings-Undo j k n s h above_final within read =
+    standings_set j (posted j k (undoing n)) false n s h above_final within
+    (ap (above (posted j k (undoing n))) (final_number-push j k (undoing n)) ∙ chosen-Undo (nat_lt (final_number j)) j k n)
+    (λ m. is_in_force-push j k (undoing n) m ∙ undo_turns n m (is_in_force j m)) read
 
-pub AreStandings-Empty : (j : Journal) (ss : List Standing) (k n : ℕ) (marks : List PackMark) → AreStandings j ss
-    → AreStandings (posted j k (emptying n marks)) ss
-AreStandings-Empty j ss k n marks all = record {
-  count = all.count ∙ sym (last_change-Empty j k n marks);
-  each = λ i s at. IsStandingOf-push j k (emptying n marks) (j.base + i + 1) s s (all.each i s at) refl (all.each i s at).in_force;
-}
+pub standings-Redo : (j : Journal) (k n : ℕ) (s : Standing) → IsNumbered j → final_number j < n → n ≤ last_change j
+    → s ≡ get_or (standings_of j) (n - final_number j - 1) s
+    → set (standings_of j) (n - final_number j - 1) (record { change = s.change; in_force = true }) ≡ standings_of (posted j k (redoing n))
+standings-Redo j k n s h above_final within read =
+    standings_set j (posted j k (redoing n)) true n s h above_final within
+    (ap (above (posted j k (redoing n))) (final_number-push j k (redoing n)) ∙ chosen-Redo (nat_lt (final_number j)) j k n)
+    (λ m. is_in_force-push j k (redoing n) m ∙ redo_turns n m (is_in_force j m)) read
+
+pub standings-Empty : (j : Journal) (k n : ℕ) (marks : List PackMark) → IsNumbered j → final_number j ≤ n
+    → drop (n - final_number j) (standings_of j) ≡ standings_of (posted j k (emptying n marks))
+standings-Empty j k n marks h further =
+    let after : Journal = posted j k (emptying n marks) in
+    let first = h.first_final in
+    let skipped : final_number j - j.base + (n - final_number j) ≡ n - j.base = omega arith in
+    let left : drop (n - final_number j) (unfinal j) ≡ unfinal after =
+    ap (drop (n - final_number j)) (above_is_drop j (final_number j) h first)
+    ∙ drop-drop (n - final_number j) (final_number j - j.base) (committed j)
+    ∙ ap (λ d. drop d (committed j)) skipped
+    ∙ sym (ap (above after) (final_number-push j k (emptying n marks)) ∙ chosen-Empty (nat_lt n) j k n marks ∙ above_is_drop j n h (omega arith)) in
+    drop-map (standing_of j) (n - final_number j) (unfinal j)
+    ∙ map_alike (drop (n - final_number j) (unfinal j))
+    ∙ ap (map (standing_of after)) left
+  where
+    map_alike : (ns : List Numbered) → map (standing_of j) ns ≡ map (standing_of (posted j k (emptying n marks))) ns
+    map_alike [] = refl
+    map_alike (m ∷ ns) =
+        ap₂ ◌∷◌ (sym (stands_alike j (posted j k (emptying n marks)) m (is_in_force j m.number) (is_in_force-push j k (emptying n marks) m.number))) (map_alike ns)
 
 -- ---- what a history keeps
 
@@ -168,73 +152,148 @@ last_by-push j k n Undo last fits counted = counted ∙ sym (last_change-Undo j 
 last_by-push j k n Redo last fits counted = counted ∙ sym (last_change-Redo j k n)
 last_by-push j k n (Empty marks) last fits counted = counted ∙ sym (last_change-Empty j k n marks)
 
--- what the fields show after the event is the journal with it
-pub shown_after : (last : ℕ) (entries : List Entry) (e : Entry) (ss ts : List Standing) (top : ℕ)
-    → IsUpToDate (journal_of last (length ss) entries) ss top last → ComesNext (journal_of last (length ss) entries) e
-    → AreStandings (posted (journal_of last (length ss) entries) e.at e.event) ts
-    → journal_of (last_after last e.event) (length ts) (entries ++ e ∷ []) ≡ posted (journal_of last (length ss) entries) e.at e.event
-shown_after last entries e ss ts top h next all =
-    let j : Journal = journal_of last (length ss) entries in
-    let counted = last_by-push j e.at e.event.number e.event.kind last next.fits h.counted in
-    let count = all.count in
-    let same_base : last_after last e.event - length ts ≡ last - length ss = omega (arith, counted, count) in
-    rw same_base refl
+names_by-push : (j : Journal) (k n : ℕ) (kind : EventKind)
+    → names_of j ++ option_to_list (names_added (record { number = n; kind = kind })) ≡ names_of (posted j k (record { number = n; kind = kind }))
+names_by-push j k n (Commit c) =
+    let names : Numbered → List FileName = λ m. file_names m.change.adds in
+    sym (ap (map names) (committed-Commit j k n c) ∙ map-append names (committed j) (record { number = n; change = c } ∷ []))
+names_by-push j k n Undo = append-nil (names_of j) ∙ sym (ap (map (λ m. file_names m.change.adds)) (committed-Undo j k n))
+names_by-push j k n Redo = append-nil (names_of j) ∙ sym (ap (map (λ m. file_names m.change.adds)) (committed-Redo j k n))
+names_by-push j k n (Empty marks) = append-nil (names_of j) ∙ sym (ap (map (λ m. file_names m.change.adds)) (committed-Empty j k n marks))
 
-pub IsUpToDate-push : (last : ℕ) (entries : List Entry) (e : Entry) (ss ts : List Standing) (top : ℕ)
-    → IsUpToDate (journal_of last (length ss) entries) ss top last → ComesNext (journal_of last (length ss) entries) e
-    → AreStandings (posted (journal_of last (length ss) entries) e.at e.event) ts
-    → IsUpToDate (journal_of (last_after last e.event) (length ts) (entries ++ e ∷ [])) ts (final_after top e.event) (last_after last e.event)
-IsUpToDate-push last entries e ss ts top h next all =
-    let j : Journal = journal_of last (length ss) entries in
-    rw (shown_after last entries e ss ts top h next all) (record {
-      numbered = IsNumbered-push j e h.numbered next;
-      legal = IsLegal-push j e h.legal next;
-      standings = all;
-      last_final = ap (λ k. final_after k e.event) h.last_final ∙ sym (final_number-push j e.at e.event);
-      counted = last_by-push j e.at e.event.number e.event.kind last next.fits h.counted;
-    })
+reaches_by : (j : Journal) (n : ℕ) (kind : EventKind) (final count : ℕ) → FitsBy j n kind → final ≡ final_number j → final_number j + count ≡ last_change j
+    → ReachesBy final count n kind
+reaches_by j n (Commit c) final count fits top counted = tt
+reaches_by j n Undo final count fits top counted = (omega (arith, fits.0), omega (arith, fits.1))
+reaches_by j n Redo final count fits top counted = (omega (arith, fits.0), omega (arith, fits.1))
+reaches_by j n (Empty marks) final count fits top counted = (omega (arith, fits.1), omega (arith, fits.2))
+
+-- what comes next after a history comes so after the journal that it shows
+pub comes_next : (j : Journal) (entry : Entry) (r : Recorded) (given : Entry) → j ≡ r.journal → entry ≡ given → ComesNext r.journal given → ComesNext j entry
+comes_next j entry r given shows is next =
+    subst (λ (e : Entry). ComesNext j e) (sym is) (subst (λ (i : Journal). ComesNext i given) (sym shows) next)
+
+-- the next event is about one of the changes that stand
+pub reaches : (j : Journal) (e : Entry) (ns : List Notice) (fs : List (List FileName)) (ss : List Standing) (final last : ℕ)
+    → IsUpToDate j ns fs ss final last → ComesNext j e → Reaches final (length ss) e.event
+reaches j e ns fs ss final last h next =
+    let count = unfinal_length j h.numbered in
+    let same = ap length h.standings ∙ length-map (unfinal j) (standing_of j) in
+    reaches_by j e.event.number e.event.kind final (length ss) next.fits h.last_final (omega arith)
+
+-- what is kept is up to date after it
+pub IsUpToDate-push : (j : Journal) (e : Entry) (ns : List Notice) (fs : List (List FileName)) (ss ts : List Standing) (final last : ℕ)
+    → IsUpToDate j ns fs ss final last → ComesNext j e → Follow final ss ts e.event
+    → IsUpToDate (posted j e.at e.event) (ns ++ notice_of e ∷ []) (fs ++ option_to_list (names_added e.event)) ts (final_after final e.event) (last_after last e.event)
+IsUpToDate-push j e ns fs ss ts final last h next follow = record {
+  numbered = IsNumbered-push j e h.numbered next;
+  legal = IsLegal-push j e h.legal next;
+  notices = ap (λ xs. xs ++ notice_of e ∷ []) h.notices ∙ sym (map-append notice_of j.entries (e ∷ []));
+  names = ap (λ xs. xs ++ option_to_list (names_added e.event)) h.names ∙ names_by-push j e.at e.event.number e.event.kind;
+  standings = follow j e.at h.numbered h.last_final h.standings next.fits;
+  last_final = ap (λ k. final_after k e.event) h.last_final ∙ sym (final_number-push j e.at e.event);
+  counted = last_by-push j e.at e.event.number e.event.kind last next.fits h.counted;
+}
+
+-- the changes that stand are those that aren't final
+pub changes-standings : (j : Journal) (ss : List Standing) → ss ≡ standings_of j → changes_in ss ≡ unfinal_changes j
+changes-standings j ss is = ap changes_in is ∙ each (unfinal j) where
+  each : (ns : List Numbered) → changes_in (map (standing_of j) ns) ≡ map (λ n. n.change) ns
+  each [] = refl
+  each (n ∷ ns) = ap (λ cs. n.change ∷ cs) (each ns)
 
 -- ---- looking one up
 
--- the place of change n among the last so many, counted back from the last one
-pub number_at : (last : ℕ) (entries : List Entry) (ss : List Standing) (top n p : ℕ) → IsUpToDate (journal_of last (length ss) entries) ss top last
-    → n ≤ last_change (journal_of last (length ss) entries) → p + last + 1 ≡ length ss + n
-    → (last - length ss + p + 1 ≡ n) × (p < length ss)
-number_at last entries ss top n p h within at =
-    let count = h.standings.count in
-    let counted = h.counted in
-    (omega (arith, count, counted, at), omega (arith, count, counted, at, within))
+-- what is lent of a place
+pub item_copied : {X : Type 0} (xs : List X) (p : ℕ) (r : Option (Bor X)) → IsItemAt xs p r → option_copied r ≡ slice_get xs p
+item_copied xs p None item =
+    let past : length xs ≤ p = item.3 in
+    sym (slice_get_past xs p past)
+item_copied xs p (Some x) item =
+    let within : p < length xs = item.3.0 in
+    sym (slice_get_read xs (length xs) p x.now refl within item.1)
 
--- a number above the last change, or up to what was final when the history began, is no change's
-pub none_above : (last : ℕ) (entries : List Entry) (ss : List Standing) (top n : ℕ) → IsUpToDate (journal_of last (length ss) entries) ss top last
-    → last < n → change_of (journal_of last (length ss) entries) n ≡ None
-none_above last entries ss top n h above =
-    let counted = h.counted in
-    no_change _ n h.numbered (rw (lt-leb n (last_change (journal_of last (length ss) entries)) (omega (arith, counted))) (and_right (nat_lt (last - length ss) n) false refl))
+pub standing_at : (j : Journal) (ss : List Standing) (n p : ℕ) (o : Option Standing) → IsNumbered j → ss ≡ standings_of j → final_number j < n
+    → p ≡ n - final_number j - 1 → o ≡ slice_get ss p → MatchOption o (final_number j < n → change_of j n ≡ None) (IsStandingOf j n)
+standing_at j ss n p o h is above_final place at =
+    found o (slice_get (unfinal j) p) refl (at ∙ ap (λ xs. slice_get xs p) is ∙ slice_get-map (standing_of j) (unfinal j) p)
+  where
+    found : (o : Option Standing) (m : Option Numbered) → slice_get (unfinal j) p ≡ m → o ≡ option_map (standing_of j) m
+        → MatchOption o (final_number j < n → change_of j n ≡ None) (IsStandingOf j n)
+    found None None there e = λ _. change_at j n h above_final ∙ ap (λ i. option_map (λ m. m.change) (slice_get (unfinal j) i)) (sym place) ∙ ap (option_map (λ m. m.change)) there
+    found None (Some m) there e = cc e
+    found (Some s) None there e = cc e
+    found (Some s) (Some m) there e =
+        let same : s ≡ standing_of j m = same_Some s (standing_of j m) e in
+        let number : m.number ≡ n = counted_at (final_number j + 1) (unfinal j) p m (unfinal_counts j h) there ∙ omega arith in
+        record {
+          unfinal = above_final;
+          numbered =
+              change_at j n h above_final ∙ ap (λ i. option_map (λ m. m.change) (slice_get (unfinal j) i)) (sym place)
+              ∙ ap (option_map (λ m. m.change)) there ∙ ap (λ t. Some t.change) (sym same);
+          in_force = ap (λ t. t.in_force) same ∙ ap (is_in_force j) number;
+        }
 
-pub none_below : (last : ℕ) (entries : List Entry) (ss : List Standing) (top n : ℕ) → IsUpToDate (journal_of last (length ss) entries) ss top last
-    → n + length ss ≤ last → change_of (journal_of last (length ss) entries) n ≡ None
-none_below last entries ss top n h below = no_change _ n h.numbered (rw (le-ltb (last - length ss) n (omega arith)) refl)
+-- the names that a change added
+pub names_at : (j : Journal) (fs : List (List FileName)) (n : ℕ) → IsNumbered j → fs ≡ names_of j → j.base < n
+    → slice_get fs (n - j.base - 1) ≡ option_map (λ c. file_names c.adds) (change_of j n)
+names_at j fs n h is above_base =
+    let names : Numbered → List FileName = λ m. file_names m.change.adds in
+    ap (λ xs. slice_get xs (n - j.base - 1)) is
+    ∙ slice_get-map names (committed j) (n - j.base - 1)
+    ∙ ap (option_map names) (sym (find-slice_get (j.base + 1) (committed j) (n - j.base - 1) n h.commits (omega arith)))
+    ∙ twice _
+  where
+    twice : (o : Option Numbered) → option_map (λ m. file_names m.change.adds) o ≡ option_map (λ c. file_names c.adds) (option_map (λ m. m.change) o)
+    twice None = refl
+    twice (Some m) = refl
 
--- the change at a place, counted from the last one back
-pub standing_at : (j : Journal) (ss : List Standing) (n p : ℕ) (r : Option (Bor Standing)) → IsNumbered j → AreStandings j ss
-    → j.base + p + 1 ≡ n → IsItemAt ss p r → MatchOption (option_copied r) (change_of j n ≡ None) (λ s. IsStandingOf j n s)
-standing_at j ss n p None h all number item =
-    let count = all.count in
-    let past : length ss ≤ p = item.3 in
-    no_change j n h (grind (arith, nat_tests))
-standing_at j ss n p (Some s) h all number item =
-    let within : p < length ss = item.3.0 in
-    let at = slice_get_read ss (length ss) p s.now refl within item.1 in
-    let found = all.each p s.now at in
-    subst (λ (x : ℕ). IsStandingOf j x s.now) number found
+pub no_names : (j : Journal) (n : ℕ) → IsNumbered j → n ≤ j.base → option_map (λ c. file_names c.adds) (change_of j n) ≡ None
+no_names j n h below = ap (option_map (λ c. file_names c.adds)) (no_change j n h (rw (le-ltb j.base n below) refl))
+
+pub kept_at : (j : Journal) (n : ℕ) (s : Standing) → IsStandingOf j n s → s.in_force ≡ true → kept_change j n ≡ Some s.change
+kept_at j n s stands is =
+    ap (λ b. cond b (change_of j n) None) (ap₂ ◌&&◌ (sym stands.in_force ∙ is) (lt-ltb (final_number j) n stands.unfinal)) ∙ stands.numbered
+
+pub not_kept_at : (j : Journal) (n : ℕ) (s : Standing) → IsStandingOf j n s → s.in_force ≡ false → kept_change j n ≡ None
+not_kept_at j n s stands is =
+    ap (λ b. cond (b && nat_lt (final_number j) n) (change_of j n) None) (sym stands.in_force ∙ is)
+
+pub none_kept : (j : Journal) (n : ℕ) → (final_number j < n → change_of j n ≡ None) → kept_change j n ≡ None
+none_kept j n none = elim (cases_lt (final_number j) n) [
+  | inl lt ↦ ap (λ o. cond (is_kept j n) o None) (none lt) ∙ either (is_kept j n)
+  | inr le ↦ ap (λ b. cond (is_in_force j n && b) (change_of j n) None) (le-ltb (final_number j) n le) ∙ neither (is_in_force j n)
+]
+  where
+    either : (b : Bool) → cond b (let o : Option Change = None in o) None ≡ None
+    either true = refl
+    either false = refl
+
+    neither : (b : Bool) → cond (b && false) (change_of j n) None ≡ None
+    neither true = refl
+    neither false = refl
+
+-- a change up to the final number is final
+pub is_final : (j : Journal) (n final last : ℕ) → final ≡ final_number j → last ≡ last_change j → (n ≡ 0 → ⊥) → n ≤ last → n ≤ final → status_of j n ≡ Final
+is_final j n final last is counted positive within below =
+    let there : nat_lt 0 n ≡ true = lt-ltb 0 n (omega (arith, positive)) in
+    let up_to : nat_le n (last_change j) ≡ true = le-leb n (last_change j) (omega arith) in
+    let done : nat_le n (final_number j) ≡ true = le-leb n (final_number j) (omega arith) in
+    rw (there, up_to, done) refl
 
 -- a change that isn't final is in the journal
-pub not_missing : (last : ℕ) (entries : List Entry) (ss : List Standing) (top n : ℕ) → IsUpToDate (journal_of last (length ss) entries) ss top last
-    → top < n → n ≤ last → change_of (journal_of last (length ss) entries) n ≡ None → ⊥
-not_missing last entries ss top n h above within none =
-    let first = h.numbered.first_final in
-    let final = h.last_final in
-    let counted = h.counted in
-    let there = some_change _ n h.numbered (omega (arith, first, final)) (omega (arith, counted)) in
-    cc (there.1, none)
+pub not_missing : (j : Journal) (n : ℕ) → IsNumbered j → final_number j < n → n ≤ last_change j → (final_number j < n → change_of j n ≡ None) → ⊥
+not_missing j n h above_final within none =
+    let first = h.first_final in
+    let there = some_change j n h (omega arith) within in
+    cc (there.1, none above_final)
+
+-- ---- the last event
+
+-- what is told of the last one has its number
+pub last_told : (es : List Entry) (before k : ℕ) (x : Notice) → k + 1 ≡ length es → Some x ≡ slice_get (map notice_of es) k → x.at ≡ fold (λ b e. e.at) before es
+last_told [] before k x end is = cc is
+last_told (e ∷ []) before zero x end is = ap (λ y. y.at) (same_Some x (notice_of e) is)
+last_told (e ∷ []) before (suc k) x end is = cc is
+last_told (e ∷ f ∷ es) before zero x end is = absurd (omega arith)
+last_told (e ∷ f ∷ es) before (suc k) x end is = last_told (f ∷ es) e.at k x (omega arith) is

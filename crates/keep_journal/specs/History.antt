@@ -1,21 +1,27 @@
 -- What a journal says of each change.
-use Rattle.std.specs.Prelude.{◌≡◌, ℕ, ◌+◌, ◌<◌, ◌≤◌, ◌==◌, nat_lt, nat_le, Bool, true, false, ◌||◌, ◌&&◌, not, if◌then◌else◌, List, [], ◌∷◌, length, fold, Option}
+use Rattle.std.specs.Prelude.{◌≡◌, ℕ, ◌+◌, ◌<◌, ◌≤◌, ◌==◌, nat_lt, nat_le, Bool, true, false, ◌||◌, ◌&&◌, not, if◌then◌else◌, List, [], ◌∷◌, length, fold, map, Option, Some, None}
 use Rattle.std.specs.List.{filter_map, find}
 use Rattle.std.specs.Option.{option_map}
 use Rattle.keep_change.specs.Fold.{Numbered}
 use Rattle.keep_change.specs.declared.change.Change.{Change}
-use Rattle.keep_journal.specs.Event.{commit_of}
+use Rattle.keep_change.specs.declared.change.PackMark.{PackMark}
+use Rattle.keep_journal.specs.Event.{commit_of, notice_of}
 use Rattle.keep_journal.specs.Journal.{Journal, posted}
 use Rattle.keep_journal.specs.declared.event.Entry.{Entry}
 use Rattle.keep_journal.specs.declared.event.Event.{Event}
 use Rattle.keep_journal.specs.declared.event.EventKind.{EventKind}
 use Rattle.keep_journal.specs.declared.event.EventKind.TheVariants.{Commit, Undo, Redo, Empty}
+use Rattle.keep_journal.specs.declared.event.Notice.{Notice}
 use Rattle.keep_journal.specs.declared.history.Status.{Status}
 use Rattle.keep_journal.specs.declared.history.Status.TheVariants.{Unknown, Final, InForce, Undone}
 
 -- the number of the last event, 0 where there is none
 abbrev pub length_of : Journal → ℕ
 length_of j = fold (λ before e. e.at) 0 j.entries
+
+-- what is told of each event
+abbrev pub notices_of : Journal → List Notice
+notices_of j = map notice_of j.entries
 
 -- the changes that were committed, each with its number
 abbrev pub committed : Journal → List Numbered
@@ -60,6 +66,18 @@ final_after before e = final_by before e.number e.kind
 abbrev pub final_number : Journal → ℕ
 final_number j = fold (λ before e. final_after before e.event) j.base j.entries
 
+-- the marks of the last emptying after the event
+abbrev pub marks_by : Option (List PackMark) → EventKind → Option (List PackMark)
+marks_by before (Empty marks) = Some marks
+marks_by before _ = before
+
+abbrev pub marks_after : Option (List PackMark) → Event → Option (List PackMark)
+marks_after before e = marks_by before e.kind
+
+-- the marks that the last emptying has, none where there was no emptying
+abbrev pub last_marks : Journal → Option (List PackMark)
+last_marks j = fold (λ before e. marks_after before e.event) None j.entries
+
 -- how change n stands
 abbrev pub status_of : Journal → ℕ → Status
 status_of j n =
@@ -67,12 +85,14 @@ status_of j n =
     else (if nat_le n (final_number j) then Final
     else (if is_in_force j n then InForce else Undone))
 
--- what the event is about: a commit has the next number, an undo is of a change in force that isn't final, a redo of one that is undone, and an emptying moves the final number up
+-- what the event is about: a commit has the next number, an undo is of a change in force that isn't final, a redo of
+-- one that is undone, and an emptying moves the final number up, but for the first one: it may be the one that made
+-- final what was so when the history began
 abbrev pub FitsBy : Journal → ℕ → EventKind → Type 0
 FitsBy j n (Commit c) = n ≡ last_change j + 1
 FitsBy j n Undo = (final_number j < n) × (n ≤ last_change j) × (is_in_force j n ≡ true)
 FitsBy j n Redo = (final_number j < n) × (n ≤ last_change j) × (is_in_force j n ≡ false)
-FitsBy j n (Empty marks) = (final_number j < n) × (n ≤ last_change j)
+FitsBy j n (Empty marks) = (0 < n) × (final_number j ≤ n) × (n ≤ last_change j) × (n ≡ final_number j → last_marks j ≡ None)
 
 abbrev pub Fits : Journal → Event → Type 0
 Fits j e = FitsBy j e.number e.kind

@@ -1,5 +1,6 @@
 -- A history as a value.
 use Rattle.std.specs.Prelude.{ℕ, List, [], ◌∷◌, ◌++◌}
+use Rattle.keep_change.specs.declared.change.Change.{Change}
 use Rattle.keep_journal.specs.declared.event.Entry.{Entry}
 use Rattle.keep_journal.specs.declared.event.Event.{Event}
 
@@ -12,7 +13,8 @@ pub record Journal : Type 0 where
 abbrev pub posted : Journal → ℕ → Event → Journal
 posted j at event = record j { entries = j.entries ++ record { at = at; event = event } ∷ [] }
 
--- a journal, and how many more events there is room for
+-- a journal, how many more events there is room for, and the changes that are held in memory with their bytes
 pub record Recorded : Type 0 where
   pub journal : Journal
   pub room : ℕ
+  pub held : List Change

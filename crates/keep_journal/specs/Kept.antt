@@ -1,5 +1,5 @@
 -- Which changes can still be undone.
-use Rattle.std.specs.Prelude.{ℕ, ◌==◌, nat_lt, nat_le, Bool, ◌&&◌, ◌||◌, not, if◌then◌else◌, List, filter, Option, None}
+use Rattle.std.specs.Prelude.{ℕ, ◌==◌, nat_lt, nat_le, Bool, ◌&&◌, ◌||◌, not, if◌then◌else◌, List, filter, map, Option, None}
 use Rattle.keep_change.specs.Fold.{Numbered}
 use Rattle.keep_change.specs.declared.change.Change.{Change}
 use Rattle.keep_journal.specs.History.{change_of, committed, is_in_force, final_number}
@@ -16,6 +16,10 @@ above j n = chosen (nat_lt n) j
 -- the changes that aren't final, undone ones too
 abbrev pub unfinal : Journal → List Numbered
 unfinal j = above j (final_number j)
+
+-- the same without their numbers
+abbrev pub unfinal_changes : Journal → List Change
+unfinal_changes j = map (λ n. n.change) (unfinal j)
 
 -- whether the change can still be undone: it is in force and not final
 abbrev pub is_kept : Journal → ℕ → Bool

@@ -1,5 +1,5 @@
 -- The repository under a history: what the changes that can still be undone were made of.
-use Rattle.std.specs.Prelude.{◌≡◌, ◌≤◌, List, [], ◌∷◌, length, fold, Option, Some, None, All, IfSome}
+use Rattle.std.specs.Prelude.{◌≡◌, ◌≤◌, List, [], ◌∷◌, length, None, All, IfSome}
 use Rattle.keep_repo.specs.Repository.{Repository}
 use Rattle.keep_change.specs.Fold.{Numbered, first_break, fold_of}
 use Rattle.keep_change.specs.Form.{IsWellFormed}
@@ -7,13 +7,9 @@ use Rattle.keep_change.specs.Limits.{facet_limit}
 use Rattle.keep_change.specs.Marks.{marks_of}
 use Rattle.keep_change.specs.Result.{result_of, reverse_of}
 use Rattle.keep_change.specs.Touch.{facets}
-use Rattle.keep_change.specs.declared.change.PackMark.{PackMark}
-use Rattle.keep_journal.specs.History.{committed, IsLegal, IsNumbered}
+use Rattle.keep_journal.specs.History.{committed, last_marks, IsLegal, IsNumbered}
 use Rattle.keep_journal.specs.Journal.{Journal}
 use Rattle.keep_journal.specs.Kept.{kept}
-use Rattle.keep_journal.specs.declared.event.Event.{Event}
-use Rattle.keep_journal.specs.declared.event.EventKind.{EventKind}
-use Rattle.keep_journal.specs.declared.event.EventKind.TheVariants.{Empty}
 
 -- the repository with these changes taken back, the last first
 abbrev pub unfold_of : List Numbered → Repository → Repository
@@ -31,18 +27,6 @@ AreWellFormed j = All (λ n. IsWellFormed n.change) (committed j)
 -- every committed change is within the limit of facets
 abbrev pub AreWithinLimit : Journal → Type 0
 AreWithinLimit j = All (λ n. length (facets n.change) ≤ facet_limit) (committed j)
-
--- the marks of the last emptying after the event
-abbrev pub marks_by : Option (List PackMark) → EventKind → Option (List PackMark)
-marks_by before (Empty marks) = Some marks
-marks_by before _ = before
-
-abbrev pub marks_after : Option (List PackMark) → Event → Option (List PackMark)
-marks_after before e = marks_by before e.kind
-
--- the marks that the last emptying has, none where there was no emptying
-abbrev pub last_marks : Journal → Option (List PackMark)
-last_marks j = fold (λ before e. marks_after before e.event) None j.entries
 
 -- the events are numbered and legal; the kept changes can be made of the opening in turn, and make the live repository; the opening's marks are those of the last emptying
 pub record IsOpen (opening : Repository) (j : Journal) (live : Repository) : Type 0 where

@@ -1,7 +1,6 @@
-ghost use Rattle.std.specs.Prelude.{◌≡◌, IfOk};
+ghost use Rattle.std.specs.Prelude.{◌≡◌};
 
 use keep_change::{Listed, PackMark, SharedChange, What};
-use std::alloc::{AllocError, Global};
 
 /// What an event did.
 #[derive(Drop)]
@@ -24,32 +23,8 @@ pub struct Event {
     pub kind: EventKind,
 }
 
-impl EventKind {
-    /// The same once more. A commit's change is shared.
-    fn copy(&self, alloc: Global) -> Result<EventKind, AllocError>
-        ensures { IfOk result (λ copy. copy ≡ self.now) }
-    {
-        Ok(match self {
-            EventKind::Commit(change) => EventKind::Commit(change.clone()?),
-            EventKind::Undo => EventKind::Undo,
-            EventKind::Redo => EventKind::Redo,
-            EventKind::Empty(marks) => EventKind::Empty(marks.copy(alloc)?),
-        })
-    }
-}
-
 impl Event {
     ghost use Rattle.keep_journal.specs.Event.{what_of};
-
-    /// The same event once more. A commit's change is shared.
-    pub fn copy(&self, alloc: Global) -> Result<Event, AllocError>
-        ensures { IfOk result (λ copy. copy ≡ self.now) }
-    {
-        Ok(Event {
-            number: self.number,
-            kind: self.kind.copy(alloc)?,
-        })
-    }
 
     pub fn what(&self) -> What
         ensures { result ≡ what_of self.now }
@@ -68,4 +43,27 @@ impl Event {
 pub struct Entry {
     pub at: u64,
     pub event: Event,
+}
+
+/// What a history tells of an event for good: its number, what it did, and to which change.
+#[derive(Clone, Copy)]
+pub struct Notice {
+    pub at: u64,
+    pub what: What,
+    pub change: u64,
+}
+
+impl Notice {
+    ghost use Rattle.keep_journal.specs.Event.{notice_of};
+
+    /// What is told of the entry.
+    pub(crate) fn of(entry: &Entry) -> Notice
+        ensures { result ≡ notice_of entry.now }
+    {
+        Notice {
+            at: entry.at,
+            what: entry.event.what(),
+            change: entry.event.number,
+        }
+    }
 }

@@ -1,8 +1,16 @@
-ghost use Rattle.std.specs.Prelude.{◌≡◌, ◌<◌, ◌≤◌, ◌++◌, ◌∷◌, [], length, IfOk, IfSome, IsSome, IsTrue, MatchOption, OnOk, vec_len, vec_capacity, option_copied};
+ghost use Rattle.std.specs.Prelude.{◌≡◌, ◌<◌, ◌≤◌, [], map, option_copied, IfOk, IfSome, MatchOption, None, OnOk};
+ghost use Rattle.std.specs.Option.{option_map};
 ghost use Rattle.keep_change.specs.Form.{IsWellFormed};
+ghost use Rattle.keep_change.specs.Lists.{file_names};
 
-use crate::event::{Entry, Event, EventKind};
-use keep_change::Change;
+use crate::event::{Entry, Notice};
+use crate::posting::Posting;
+use crate::standing::{
+    Standing, copy_names, copy_notices, copy_standings, final_after, last_after, note, note_names,
+};
+use keep_change::{Change, Listed};
+use keep_log::Log;
+use keep_names::FileName;
 use std::alloc::{AllocError, Global};
 use std::marker::Model;
 
@@ -17,48 +25,50 @@ pub enum Status {
     Undone,
 }
 
-/// Where the commit of a change stands among the entries, and whether the change is in force.
-#[derive(Clone, Copy)]
-struct Standing {
-    place: usize,
-    in_force: bool,
-}
-
-/// The events of a repository in their order, each under its own number, and what became of each
-/// change.
+/// The events of a repository in their order, each under its own number, and what became of each change.
+///
+/// Of a final change it holds the names of the files that it added, and no bytes. The entries are told whole for
+/// clauses alone: they take no memory.
 #[derive(Drop)]
 pub struct History {
-    entries: Vec<Entry>,
-    /// Of the last changes, by number.
+    /// What is told of each event.
+    notices: Vec<Notice>,
+    /// The names of the files that each change added since the history began, by number.
+    names: Vec<Listed<FileName>>,
+    /// The changes that aren't final, by number.
     standings: Vec<Standing>,
+    /// The number up to which changes were final when the history began, and that up to which they are.
+    base: u64,
     final_number: u64,
     last_change: u64,
+    entries: Log<Entry>,
 }
 
 impl Model for History {
-    ghost use Rattle.std.specs.Prelude.{◌-◌, length, min, vec_len, vec_capacity};
+    ghost use Rattle.std.specs.Prelude.{◌-◌, map, min, vec_len, vec_capacity};
     ghost use Rattle.keep_journal.specs.Journal.{Recorded};
 
     ghost Value = { Recorded };
 
-    ghost use Rattle.keep_journal.specs.Standings.{IsUpToDate, journal_of};
+    ghost use Rattle.keep_journal.specs.Standings.{IsUpToDate, changes_in};
 
     ghost view = { λ h. record {
-      journal = journal_of h.last_change (length h.standings.items) h.entries.items;
+      journal = record { base = h.base; entries = h.entries.items };
       room = min
-          (vec_capacity h.entries - vec_len h.entries)
-          (vec_capacity h.standings - vec_len h.standings);
+          (vec_capacity h.notices - vec_len h.notices)
+          (min (vec_capacity h.names - vec_len h.names) (vec_capacity h.standings - vec_len h.standings));
+      held = changes_in h.standings.items;
     } };
 
     ghost invariant = { λ h. IsUpToDate
-        (journal_of h.last_change (length h.standings.items) h.entries.items)
-        h.standings.items h.final_number h.last_change };
+        (record { base = h.base; entries = h.entries.items })
+        h.notices.items h.names.items h.standings.items h.final_number h.last_change };
 }
 
 impl History {
-    ghost use Rattle.keep_journal.specs.History.{change_of, final_number, is_change, last_change, length_of, status_of, ComesNext, IsLegal, IsNumbered};
+    ghost use Rattle.keep_journal.specs.History.{change_of, final_number, last_change, length_of, notices_of, status_of, ComesNext, IsLegal, IsNumbered};
     ghost use Rattle.keep_journal.specs.Journal.{Journal, posted};
-    ghost use Rattle.keep_journal.specs.Kept.{kept_change};
+    ghost use Rattle.keep_journal.specs.Kept.{kept_change, unfinal_changes};
     ghost use Rattle.keep_journal.specs.Opening.{AreWellFormed};
     ghost use Rattle.keep_journal.specs.Standings.{IsStandingOf};
 
@@ -67,39 +77,47 @@ impl History {
         ensures { result.journal ≡ record { base = final_number; entries = [] } }
     {
         History {
-            entries: Vec::new(alloc),
+            notices: Vec::new(alloc),
+            names: Vec::new(alloc),
             standings: Vec::new(alloc),
+            base: final_number,
             final_number,
             last_change: final_number,
+            entries: Log::new(),
         }
     }
 
     /// Another history of the same events. The changes are shared.
     pub fn copy(&self, alloc: Global) -> Result<History, AllocError>
-        ensures { IfOk result (λ copy. copy.journal ≡ self.now.journal) }
+        ensures journal { IfOk result (λ copy. copy.journal ≡ self.now.journal) }
+        ensures held { IfOk result (λ copy. copy.held ≡ self.now.held) }
     {
         Ok(History {
-            entries: copy_entries(alloc, self.entries())?,
+            notices: copy_notices(alloc, self.notices.as_slice())?,
+            names: copy_names(alloc, self.names.as_slice())?,
             standings: copy_standings(alloc, self.standings.as_slice())?,
+            base: self.base,
             final_number: self.final_number,
             last_change: self.last_change,
+            entries: self.entries.again(),
         })
     }
 
-    pub fn entries(&self) -> &[Entry]
-        ensures exact { result.now ≡ self.now.journal.entries }
+    /// What is told of each event, in their order.
+    pub fn notices(&self) -> &[Notice]
+        ensures exact { result.now ≡ notices_of self.now.journal }
         ensures numbered { IsNumbered self.now.journal }
         ensures legal { IsLegal self.now.journal }
     {
-        self.entries.as_slice()
+        self.notices.as_slice()
     }
 
     /// The number of the last event, 0 where there is none.
     pub fn length(&self) -> u64
         ensures { result ≡ length_of self.now.journal }
     {
-        match self.entries.last() {
-            Some(entry) => entry.at,
+        match self.notices.last() {
+            Some(notice) => notice.at,
             None => 0,
         }
     }
@@ -134,16 +152,12 @@ impl History {
         }
     }
 
-    /// Change n, if the history has it. A change that was final when the history began isn't in it.
+    /// Change n, where it isn't final.
     pub fn change(&self, n: u64) -> Option<&Change>
-        ensures exact { option_copied result ≡ change_of self.now.journal n }
-        ensures known { IsSome result → IsTrue (is_change self.now.journal n) }
+        ensures exact { final_number self.now.journal < n → option_copied result ≡ change_of self.now.journal n }
+        ensures gone { n ≤ final_number self.now.journal → option_copied result ≡ None }
     {
-        let standing = self.standing(n)?;
-        match &self.entries.get(standing.place)?.event.kind {
-            EventKind::Commit(change) => Some(change.as_change()),
-            _ => None,
-        }
+        Some(self.standing(n)?.change.as_change())
     }
 
     /// Change n, where it is in force and isn't final.
@@ -151,11 +165,23 @@ impl History {
         ensures exact { option_copied result ≡ kept_change self.now.journal n }
         ensures formed { AreWellFormed self.now.journal → IfSome (option_copied result) IsWellFormed }
     {
-        let change = self.change(n)?;
-        match self.status(n) {
-            Status::InForce => Some(change),
-            Status::Unknown | Status::Final | Status::Undone => None,
+        let standing = self.standing(n)?;
+        if !standing.in_force {
+            return None;
         }
+        Some(standing.change.as_change())
+    }
+
+    /// The names of the files that change n added, be it final or not, if the history has it. A change that was final
+    /// when the history began isn't in it.
+    pub fn names_added(&self, n: u64) -> Option<&[FileName]>
+        ensures { option_copied result ≡ option_map (λ c. file_names c.adds) (change_of self.now.journal n) }
+    {
+        if n <= self.base {
+            return None;
+        }
+        let place = (n - self.base - 1) as usize;
+        Some(self.names.get(place)?.as_slice())
     }
 
     /// Makes room for one more event.
@@ -163,117 +189,39 @@ impl History {
         ensures same { self.new.journal ≡ self.old.journal }
         ensures ok { OnOk result (0 < self.new.room) }
     {
-        self.entries.reserve(1)?;
+        self.notices.reserve(1)?;
+        self.names.reserve(1)?;
         self.standings.reserve(1)
     }
 
-    /// Appends the event, for which there is room. It takes no memory.
-    pub fn push(&mut self, entry: Entry)
+    /// Appends the event, for which there is room. It takes no memory, and what an emptying makes final is let go: the
+    /// changes that are held with their bytes are those that aren't final.
+    pub fn push(&mut self, posting: Posting)
         requires room { 0 < self.old.room }
-        requires next { ComesNext self.old.journal entry }
-        ensures { self.new.journal ≡ posted self.old.journal entry.at entry.event }
+        requires next { ComesNext self.old.journal posting }
+        ensures posted { self.new.journal ≡ posted self.old.journal posting.at posting.event }
+        ensures held { self.new.held ≡ unfinal_changes self.new.journal }
     {
-        note(&mut self.standings, &self.entries, self.last_change, &entry);
-        self.final_number = final_after(self.final_number, &entry.event);
+        let Posting { entry, names } = posting;
+        self.entries = self.entries.and(&entry);
+        self.notices.push_reserved(Notice::of(&entry));
+        note_names(&mut self.names, names);
+        let final_number = final_after(self.final_number, &entry.event);
         self.last_change = last_after(self.last_change, &entry.event);
-        self.entries.push_reserved(entry);
+        note(&mut self.standings, self.final_number, entry.event);
+        self.final_number = final_number;
     }
 
-    fn standing(&self, n: u64) -> Option<Standing>
-        ensures { MatchOption result
-            (change_of self.now.journal n ≡ None)
-            (λ s. IsStandingOf self.now.journal n s) }
+    /// How change n stands, where it isn't final.
+    fn standing(&self, n: u64) -> Option<&Standing>
+        ensures { MatchOption (option_copied result)
+            (final_number self.now.journal < n → change_of self.now.journal n ≡ None)
+            (IsStandingOf self.now.journal n) }
     {
-        let later = self.last_change.checked_sub(n)? as usize;
-        let up_to = self.standings.len().checked_sub(later)?;
-        let place = up_to.checked_sub(1)?;
-        self.standings.get(place).copied()
-    }
-}
-
-ghost use Rattle.std.specs.Prelude.{◌+◌};
-ghost use Rattle.keep_journal.specs.History.{final_after as final_number_after, final_number, ComesNext};
-ghost use Rattle.keep_journal.specs.Journal.{posted};
-ghost use Rattle.keep_journal.specs.Standings.{AreStandings, IsUpToDate, journal_of, last_after as last_change_after};
-
-/// Brings the standings up to date with the entry, which comes after these.
-fn note(standings: &mut Vec<Standing>, entries: &[Entry], last: u64, entry: &Entry)
-    requires room { vec_len standings.old < vec_capacity standings.old }
-    requires kept { IsUpToDate (journal_of last (length standings.old.items) entries.now)
-        standings.old.items (final_number (journal_of last (length standings.old.items) entries.now)) last }
-    requires next { ComesNext (journal_of last (length standings.old.items) entries.now) entry.now }
-    ensures { AreStandings
-        (posted (journal_of last (length standings.old.items) entries.now) entry.now.at entry.now.event)
-        standings.new.items }
-{
-    match &entry.event.kind {
-        EventKind::Commit(_) => standings.push_reserved(Standing {
-            place: entries.len(),
-            in_force: true,
-        }),
-        EventKind::Undo => {
-            let place = place_of(standings.len(), last, entry.event.number);
-            standings[place].in_force = false;
+        if n <= self.final_number {
+            return None;
         }
-        EventKind::Redo => {
-            let place = place_of(standings.len(), last, entry.event.number);
-            standings[place].in_force = true;
-        }
-        EventKind::Empty(_) => {}
+        let place = n - self.final_number - 1;
+        self.standings.get(place as usize)
     }
-}
-
-/// Where change n stands among the last so many changes.
-fn place_of(count: usize, last: u64, n: u64) -> usize
-    requires there { n ≤ last }
-    requires within { last < n + count }
-    ensures { result + last + 1 ≡ count + n }
-{
-    count - 1 - (last - n) as usize
-}
-
-/// The last final change's number after the event.
-fn final_after(before: u64, event: &Event) -> u64
-    ensures { result ≡ final_number_after before event.now }
-{
-    match &event.kind {
-        EventKind::Empty(_) => event.number,
-        _ => before,
-    }
-}
-
-/// The last change's number after the event.
-fn last_after(before: u64, event: &Event) -> u64
-    ensures { result ≡ last_change_after before event.now }
-{
-    match &event.kind {
-        EventKind::Commit(_) => event.number,
-        _ => before,
-    }
-}
-
-/// The same entries once more.
-fn copy_entries(alloc: Global, entries: &[Entry]) -> Result<Vec<Entry>, AllocError>
-    ensures { IfOk result (λ copy. copy.items ≡ entries.now) }
-{
-    let mut copy = Vec::with_capacity(alloc, entries.len())?;
-    for entry in entries {
-        let event = entry.event.copy(alloc)?;
-        copy.push(Entry {
-            at: entry.at,
-            event,
-        })?;
-    }
-    Ok(copy)
-}
-
-/// The same standings once more.
-fn copy_standings(alloc: Global, standings: &[Standing]) -> Result<Vec<Standing>, AllocError>
-    ensures { IfOk result (λ copy. copy.items ≡ standings.now) }
-{
-    let mut copy = Vec::with_capacity(alloc, standings.len())?;
-    for standing in standings {
-        copy.push(*standing)?;
-    }
-    Ok(copy)
 }

@@ -4,7 +4,10 @@
 mod event;
 mod history;
 mod laws;
+mod posting;
+mod standing;
 
-pub use event::{Entry, Event, EventKind};
+pub use event::{Entry, Event, EventKind, Notice};
 pub use history::{History, Status};
 pub use laws::histories_cross_threads;
+pub use posting::Posting;

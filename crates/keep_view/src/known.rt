@@ -1,10 +1,11 @@
-ghost use Rattle.std.specs.Prelude.{◌≡◌, ◌||◌, IfOk, OnOk};
+ghost use Rattle.std.specs.Prelude.{◌≡◌, ◌<◌, ◌||◌, IfOk, OnOk};
 ghost use Rattle.std.specs.BTreeSet.{contains};
 ghost use Rattle.std.specs.FinSet as set;
 ghost use Rattle.keep_names.specs.Orders.{id_cmp};
 ghost use Rattle.keep_names.specs.declared.id.Id as the_id;
 ghost use Rattle.keep_repo.specs.Facet.{facet_eq};
 ghost use Rattle.keep_repo.specs.declared.facet.Facet.TheVariants.{File};
+ghost use Rattle.keep_journal.specs.History.{final_number};
 ghost use Rattle.keep_journal.specs.Kept.{unfinal};
 ghost use Rattle.keep_journal.specs.Opening.{IsOpen, opening_under};
 ghost use Rattle.keep_view.specs.Shown.{known_of};
@@ -39,8 +40,9 @@ pub(crate) fn known_snapshots(
     Ok(known)
 }
 
-/// Learns what change n tells of: what it adds, and what it drops where it is in force.
+/// Learns what change n, which isn't final, tells of: what it adds, and what it drops where it is in force.
 fn learn_change(known: &mut BTreeSet<Id>, history: &History, n: u64) -> Result<(), AllocError>
+    requires { final_number history.now.journal < n }
     ensures { OnOk result ((id : the_id.Id) → contains id_cmp known.new id
         ≡ (contains id_cmp known.old id || is_told_by history.now.journal n id)) }
 {

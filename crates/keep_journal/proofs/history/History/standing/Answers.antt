@@ -1,28 +1,21 @@
--- Standings are counted from the last one back.
-use Rattle.std.proofs.Common.{arith}
-use Rattle.keep_journal.proofs.Standings.{none_above, none_below, number_at, standing_at}
+-- Standings are counted from the first change that isn't final.
+use Rattle.std.proofs.Common.{◌-◌, ◌<◌, ap, arith}
+use Rattle.keep_journal.specs.History.{final_number}
+use Rattle.keep_journal.proofs.Standings.{item_copied, standing_at}
 use Rattle.keep_journal.proofs.history.History.standing.Goals as goal
 
-pub returns-in_err-later : goal.returns-in_err-later
-returns-in_err-later c =
-    let above = none_above _ _ _ _ c.args.n c.self.invariant (omega (arith, c.in_err-later.ensures)) in
-    rw (c.from_residual.ensures, ← c.self.view_is) above
-
-pub returns-in_err-up_to : goal.returns-in_err-up_to
-returns-in_err-up_to c =
-    let below = none_below _ _ _ _ c.args.n c.self.invariant (omega (arith, c.in_ok-later.ensures, c.in_err-up_to.ensures, c.len.ensures)) in
-    rw (c.from_residual-in_err-up_to.ensures, ← c.self.view_is) below
-
-pub returns-in_err-place : goal.returns-in_err-place
-returns-in_err-place c =
-    let below = none_below _ _ _ _ c.args.n c.self.invariant
-    (omega (arith, c.in_ok-later.ensures, c.in_ok-up_to.ensures, c.in_err-place.ensures, c.len.ensures)) in
-    rw (c.from_residual-in_err-place.ensures, ← c.self.view_is) below
+pub returns-then-n-self : goal.returns-then-n-self
+returns-then-n-self c =
+    let last = c.self.invariant.last_final in
+    let view = ap (λ r. final_number r.journal) c.self.view_is in
+    λ above. absurd (omega (arith, c.if-n-self.true, last, view, above))
 
 pub returns : goal.returns
 returns c =
-    let at = number_at _ _ _ _ c.args.n c.in_ok-place.place c.self.invariant (omega (arith, c.self.invariant.counted, c.in_ok-later.ensures))
-    (omega (arith, c.in_ok-later.ensures, c.in_ok-up_to.ensures, c.in_ok-place.ensures, c.len.ensures)) in
-    rw (c.copied.ensures, ← c.self.view_is)
-    (standing_at _ c.self.inside.standings.items c.args.n c.in_ok-place.place c.get.result c.self.invariant.numbered c.self.invariant.standings at.0
-    (rw c.deref.ensures.value at c.get.ensures.lookup))
+    let is = c.self.invariant in
+    let last = is.last_final in
+    let above = c.if-n-self.false in
+    let place = c.self.inside in
+    rw (← c.self.view_is)
+    (standing_at _ place.standings.items c.args.n (c.args.n - place.final_number - 1) _ is.numbered is.standings (omega (arith, last, above)) (omega (arith, last))
+    (item_copied place.standings.items (c.args.n - place.final_number - 1) c.get.result (rw c.deref.ensures.value at c.get.ensures.lookup)))
