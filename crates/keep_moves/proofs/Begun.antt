@@ -2,7 +2,7 @@
 use Rattle.std.proofs.Common.{◌≡◌, ℕ, ◌+◌, ◌<◌, ◌≤◌, ◌==◌, nat_le, nat_lt, Bool, true, false, cond, not, ◌||◌, ◌&&◌, inl, inr, List, [], ◌∷◌, map, Option, Some, None, refl, sym, ap, ◌∙◌, arith, subst}
 use Rattle.std.specs.List.{filter_map, find}
 use Rattle.std.specs.Option.{option_and_then, option_map, option_map_or, option_or}
-use Rattle.std.proofs.lemmas.Bool.{and_right, cases_eq, eq-eqb, lt-leb, lt-ltb, ne_eqb}
+use Rattle.std.proofs.lemmas.Bool.{and_right, cases_eq, eq-eqb, lt-leb, ne_eqb}
 use Rattle.std.proofs.lemmas.List.Folds.{find-append}
 use Rattle.keep_names.specs.declared.file_name.FileName.{FileName}
 use Rattle.keep_repo.specs.Repository.{Repository, held}
@@ -17,20 +17,18 @@ use Rattle.keep_change.proofs.Carry.{held-result_of, held-reverse_of, writes_onc
 use Rattle.keep_change.proofs.History.{is_ready-reverse}
 use Rattle.keep_change.proofs.Records.{WritesOnce}
 use Rattle.keep_journal.specs.Event.{committing, redoing, undoing}
-use Rattle.keep_journal.specs.History.{change_of, committed, final_number, is_in_force, last_change, length_of, IsNumbered}
+use Rattle.keep_journal.specs.History.{change_of, committed, final_number, is_in_force, last_change}
 use Rattle.keep_journal.specs.Journal.{Journal, posted}
 use Rattle.keep_journal.specs.declared.event.Event.{Event}
 use Rattle.keep_journal.proofs.Commits.{change_of-Commit, committed-Commit, committed-Redo, committed-Undo, final_number-push, is_in_force-push, no_change}
-use Rattle.keep_shelf.specs.declared.key.Key.{Key}
-use Rattle.keep_shelf.specs.declared.key.Key.TheVariants.{Live, Trash, Entry}
+use Rattle.keep_shelf.specs.declared.key.Key.TheVariants.{Live, Trash}
 use Rattle.keep_moves.specs.Behind.{IsBehind}
 use Rattle.keep_moves.specs.Course.{with_entry}
 use Rattle.keep_moves.specs.Laws.{CommitIsBegun, RedoIsBegun, UndoIsBegun}
 use Rattle.keep_moves.specs.Lists.{redo_moves, undo_moves}
 use Rattle.keep_moves.specs.Move.{Stand, moved_all}
-use Rattle.keep_moves.specs.Standing.{file_bytes, is_told, stand_of, trashed}
+use Rattle.keep_moves.specs.Standing.{HoldsFiles, file_bytes, trashed}
 use Rattle.keep_moves.proofs.About.{is_about, left_by_all, move_of}
-use Rattle.keep_moves.proofs.Entries.{entry_more}
 use Rattle.keep_moves.proofs.Listed.{after_reversed, before_reversed, commit_listed, redo_listed, reversed_turn, undo_listed, written_turns}
 use Rattle.keep_moves.proofs.Turned.{CanTurn, before_in, bytes_held, can_make, live_after, trash_after}
 
@@ -65,34 +63,35 @@ record IsAbout (j i : Journal) (n : ℕ) : Type 0 where
   change : (m : ℕ) → (m ≡ n → ⊥) → change_of i m ≡ change_of j m
 
 module _ (first : Bool) (j : Journal) (k n : ℕ) (e : Event) (ws : List Written) (live after : Repository) (g : Stand)
-    (numbered : IsNumbered j) (above : length_of j < k) (is : (q : Key) → g q ≡ stand_of j live q)
-    (about : IsAbout j (posted j k e) n) (told : is_told (final_number j) e ≡ true)
+    (is : HoldsFiles j live g) (about : IsAbout j (posted j k e) n)
     (can : CanTurn first n ws live (with_entry k e g)) (made : held after ≡ replaced ws (held live))
     (trash : (name : FileName) → trashed (posted j k e) n name ≡ before_in ws name) where
   -- the trash of another change
   others_trash : (m : ℕ) (name : FileName) → (m ≡ n → ⊥) → moved_all (filter_map (move_of first n) ws) (with_entry k e g) (Trash m name) ≡ trashed (posted j k e) m name
   others_trash m name other =
       left_by_all first n ws (with_entry k e g) (Trash m name) (λ f. ap (λ b. b && is_about n (Live name) f) (ne_eqb m n other))
-      ∙ is (Trash m name)
+      ∙ is.trash m name
       ∙ sym (trashed_same j (posted j k e) m name (ap (nat_le m) about.final) (about.force m other) (about.change m other))
 
-  leads : (q : Key) → moved_all (filter_map (move_of first n) ws) (with_entry k e g) q ≡ stand_of (posted j k e) after q
-  leads (Live name) =
-      live_after first n ws live (with_entry k e g) can name
-      ∙ sym (ap (λ (h : Holding). file_bytes (h (File name))) made) ∙ bytes_held after name
-  leads (Trash m name) = elim (cases_eq m n) [
+  trash_left : (m : ℕ) (name : FileName) → moved_all (filter_map (move_of first n) ws) (with_entry k e g) (Trash m name) ≡ trashed (posted j k e) m name
+  trash_left m name = elim (cases_eq m n) [
     | inl same ↦
         ap (λ x. moved_all (filter_map (move_of first n) ws) (with_entry k e g) (Trash x name)) same
         ∙ trash_after first n ws live (with_entry k e g) can name ∙ sym (trash name)
         ∙ sym (ap (λ x. trashed (posted j k e) x name) same)
     | inr other ↦ others_trash m name other
   ]
-  leads (Entry i) =
-      left_by_all first n ws (with_entry k e g) (Entry i) (λ f. refl)
-      ∙ entry_more j k e numbered above about.final told live after g is i
 
   begun : IsBehind (posted j k e) after (filter_map (move_of first n) ws) (with_entry k e g)
-  begun = record { can = can_make first n ws live (with_entry k e g) can; rest = leads }
+  begun = record {
+    can = can_make first n ws live (with_entry k e g) can;
+    rest = record {
+      files = λ name.
+          live_after first n ws live (with_entry k e g) can name
+          ∙ sym (ap (λ (h : Holding). file_bytes (h (File name))) made) ∙ bytes_held after name;
+      trash = trash_left;
+    };
+  }
 
 -- ---- a commit
 
@@ -119,19 +118,18 @@ commit_begun j k n c live g numbered next once ready is =
     let final : final_number (posted j k e) ≡ final_number j = final_number-push j k e in
     let force : is_in_force (posted j k e) n ≡ true = is_in_force-push j k e n ∙ ap (λ b. b || is_in_force j n) (eq-eqb n n refl) in
     subst (λ ms. IsBehind (posted j k e) (result_of c live) ms (with_entry k e g)) (commit_listed n c)
-    (begun true j k n e (written c) live (result_of c live) g numbered next.above is
+    (begun true j k n e (written c) live (result_of c live) g is
     (record {
       final = final;
       force = λ m other. is_in_force-push j k e m ∙ ap (λ b. b || is_in_force j m) (ne_eqb n m (λ same. other (sym same)));
       change = λ m other. change_of-other j k n c m other;
     })
-    (lt-ltb (final_number j) n above)
     (record {
       once = writes_once c once;
       turn = written_turns c;
       ready = ready;
-      lives = λ name. is (Live name);
-      trash = λ name. is (Trash n name) ∙ trashed_none j n name empty;
+      lives = is.files;
+      trash = λ name. is.trash n name ∙ trashed_none j n name empty;
     })
     (held-result_of c (writes_once c once) live)
     (λ name. trashed_as (posted j k e) n c true name (subst (λ f. f < n) (sym final) above) (change_of-Commit j k n c numbered number) force))
@@ -156,19 +154,18 @@ undo_begun j k n c live g numbered next is_c once ready is =
     let same : change_of (posted j k e) ≡ change_of j = λ i m. option_map (λ (d : Numbered). d.change) (find (λ (d : Numbered). d.number == m) (committed-Undo j k n i)) in
     let undone : is_in_force (posted j k e) n ≡ false = is_in_force-push j k e n ∙ ap (λ b. not b && is_in_force j n) (eq-eqb n n refl) in
     subst (λ ms. IsBehind (posted j k e) (result_of (reverse_of c) live) ms (with_entry k e g)) (undo_listed n c ∙ sym (ap (λ o. option_map_or (undo_moves n) o []) is_c))
-    (begun false j k n e (map reversed (written c)) live (result_of (reverse_of c) live) g numbered next.above is
+    (begun false j k n e (map reversed (written c)) live (result_of (reverse_of c) live) g is
     (record {
       final = final;
       force = λ m other. is_in_force-push j k e m ∙ ap (λ b. not b && is_in_force j m) (ne_eqb n m (λ s. other (sym s)));
       change = λ m other. ap (λ (f : ℕ → Option Change). f m) same;
     })
-    (lt-ltb (final_number j) n above)
     (record {
       once = reversed_once c once;
       turn = reversed_turn (written c) ∙ written_turns c;
       ready = sym (is_ready-reverse c (held live)) ∙ ready;
-      lives = λ name. is (Live name);
-      trash = λ name. is (Trash n name) ∙ trashed_as j n c true name above is_c next.fits.2 ∙ sym (after_reversed (written c) name);
+      lives = is.files;
+      trash = λ name. is.trash n name ∙ trashed_as j n c true name above is_c next.fits.2 ∙ sym (after_reversed (written c) name);
     })
     (held-reverse_of c (writes_once c once) live)
     (λ name. trashed_as (posted j k e) n c false name (subst (λ f. f < n) (sym final) above) (ap (λ (f : ℕ → Option Change). f n) same ∙ is_c) undone ∙ sym (before_reversed (written c) name)))
@@ -183,19 +180,18 @@ redo_begun j k n c live g numbered next is_c once ready is =
     let same : change_of (posted j k e) ≡ change_of j = λ i m. option_map (λ (d : Numbered). d.change) (find (λ (d : Numbered). d.number == m) (committed-Redo j k n i)) in
     let force : is_in_force (posted j k e) n ≡ true = is_in_force-push j k e n ∙ ap (λ b. b || is_in_force j n) (eq-eqb n n refl) in
     subst (λ ms. IsBehind (posted j k e) (result_of c live) ms (with_entry k e g)) (redo_listed n c ∙ sym (ap (λ o. option_map_or (redo_moves n) o []) is_c))
-    (begun false j k n e (written c) live (result_of c live) g numbered next.above is
+    (begun false j k n e (written c) live (result_of c live) g is
     (record {
       final = final;
       force = λ m other. is_in_force-push j k e m ∙ ap (λ b. b || is_in_force j m) (ne_eqb n m (λ s. other (sym s)));
       change = λ m other. ap (λ (f : ℕ → Option Change). f m) same;
     })
-    (lt-ltb (final_number j) n above)
     (record {
       once = writes_once c once;
       turn = written_turns c;
       ready = ready;
-      lives = λ name. is (Live name);
-      trash = λ name. is (Trash n name) ∙ trashed_as j n c false name above is_c next.fits.2;
+      lives = is.files;
+      trash = λ name. is.trash n name ∙ trashed_as j n c false name above is_c next.fits.2;
     })
     (held-result_of c (writes_once c once) live)
     (λ name. trashed_as (posted j k e) n c true name (subst (λ f. f < n) (sym final) above) (ap (λ (f : ℕ → Option Change). f n) same ∙ is_c) force))

@@ -7,6 +7,7 @@ pub mod Entries
 pub mod Erased
 pub mod Keys
 pub mod Listed
+pub mod Noticed
 pub mod Played
 pub mod Silenced
 pub mod Swept

@@ -18,6 +18,7 @@ use Rattle.keep_moves.specs.Course.{calls_of, entry_put, looks_of, with_entry}
 use Rattle.keep_moves.specs.Laws.{EventsAreSettled, MovesAreMade, ReadsLeaveAll, StopsStayBehind}
 use Rattle.keep_moves.specs.Lists.{moves_of}
 use Rattle.keep_moves.specs.Move.{CanMake, Stand, key_eq, moved, remains}
+use Rattle.keep_moves.specs.Standing.{HoldsFiles}
 use Rattle.keep_moves.specs.declared.moves.Move.{Move}
 use Rattle.keep_moves.specs.declared.moves.Move.TheVariants.{Put, Shift, Erase}
 use Rattle.keep_moves.proofs.Apart.{first_remains, rest_can}
@@ -109,7 +110,7 @@ stops_behind j live (m ∷ due) (suc i) s behind =
 -- ---- all calls of an event
 
 pub events_settled : EventsAreSettled
-events_settled j k e live s begun q =
+events_settled j k e live s begun =
     let ms = moves_of j e in
     let front = played (looks (looks_of j e)) s in
     let entered = called front (made_in (entry_put k e) front.content) in
@@ -121,4 +122,4 @@ events_settled j k e live s begun q =
     let all : IsBehind (posted j k e) live [] (finite.get (played (map Make ms) entered).content) =
     subst (λ ps. IsBehind (posted j k e) live [] (finite.get (played (map Make ps) entered).content)) (take-length ms)
     (subst (λ ps. IsBehind (posted j k e) live ps (finite.get (played (map Make (take (length ms) ms)) entered).content)) (drop-length ms) behind) in
-    ap (λ t. finite.get t.content q) parts ∙ all.rest q
+    subst (λ t. HoldsFiles (posted j k e) live (finite.get t.content)) (sym parts) all.rest

@@ -1,13 +1,12 @@
 -- A shelf on which moves are left to be made.
-use Rattle.std.specs.Prelude.{◌≡◌, List}
+use Rattle.std.specs.Prelude.{List}
 use Rattle.keep_repo.specs.Repository.{Repository}
 use Rattle.keep_journal.specs.Journal.{Journal}
-use Rattle.keep_shelf.specs.declared.key.Key.{Key}
 use Rattle.keep_moves.specs.Move.{CanMake, Stand, moved_all}
-use Rattle.keep_moves.specs.Standing.{stand_of}
+use Rattle.keep_moves.specs.Standing.{HoldsFiles}
 use Rattle.keep_moves.specs.declared.moves.Move.{Move}
 
--- the moves that are due can all be made, and then the shelf holds what the journal and the repository say
+-- the moves that are due can all be made, and then the shelf holds the files that the journal and the repository say
 pub record IsBehind (j : Journal) (live : Repository) (due : List Move) (stand : Stand) : Type 0 where
   pub can : CanMake due stand
-  pub rest : (q : Key) → moved_all due stand q ≡ stand_of j live q
+  pub rest : HoldsFiles j live (moved_all due stand)

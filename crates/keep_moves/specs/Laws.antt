@@ -1,6 +1,7 @@
 -- The laws of moves, and the counts of calls.
-use Rattle.std.specs.Prelude.{◌≡◌, ℕ, ◌+◌, ◌*◌, true, List, ◌∷◌, ◌++◌, drop, length, map, take, Some}
+use Rattle.std.specs.Prelude.{◌≡◌, ℕ, ◌+◌, ◌*◌, ◌<◌, true, List, ◌∷◌, ◌++◌, drop, is_some, length, map, take, Some}
 use Rattle.std.specs.FinMap as finite
+use Rattle.std.specs.List.{AllByRecursion}
 use Rattle.keep_repo.specs.Repository.{Repository, held}
 use Rattle.keep_change.specs.Change.{is_ready}
 use Rattle.keep_change.specs.Form.{HasNoFacetTwice}
@@ -9,17 +10,18 @@ use Rattle.keep_change.specs.Result.{result_of, reverse_of}
 use Rattle.keep_change.specs.declared.change.Change.{Change}
 use Rattle.keep_change.specs.declared.change.PackMark.{PackMark}
 use Rattle.keep_journal.specs.Event.{committing, emptying, redoing, undoing}
-use Rattle.keep_journal.specs.History.{change_of, committed, ComesNext, IsNumbered}
+use Rattle.keep_journal.specs.History.{change_of, committed, final_number, ComesNext, IsLegal, IsNumbered}
 use Rattle.keep_journal.specs.Journal.{Journal, posted}
 use Rattle.keep_journal.specs.declared.event.Event.{Event}
 use Rattle.keep_shelf.specs.Shelved.{Content, Shelved}
-use Rattle.keep_shelf.specs.declared.key.Key.{Key}
+use Rattle.keep_told.specs.Told.{told_of}
+use Rattle.keep_shelf.specs.declared.key.Key.TheVariants.{Entry}
 use Rattle.keep_moves.specs.Behind.{IsBehind}
 use Rattle.keep_moves.specs.Calls.{Call, Make, looks, made_in, played}
 use Rattle.keep_moves.specs.Course.{calls_of, with_entry}
 use Rattle.keep_moves.specs.Lists.{moves_of, swept_keys}
 use Rattle.keep_moves.specs.Move.{AllApart, CanMake, Stand, finished_all, moved, moved_all, remains}
-use Rattle.keep_moves.specs.Standing.{stand_of}
+use Rattle.keep_moves.specs.Standing.{HoldsFiles}
 use Rattle.keep_moves.specs.declared.moves.Move.{Move}
 
 -- of moves without a key in common, one that remains is made, wherever it stands among them: what is left once all are made is the same
@@ -63,7 +65,7 @@ pub record CallsAreCounted (j : Journal) (k n : ℕ) : Type 0 where
 
 -- no move is left to be made
 abbrev pub IsSettled : Journal → Repository → Stand → Type 0
-IsSettled j live stand = (q : Key) → stand q ≡ stand_of j live q
+IsSettled j live stand = HoldsFiles j live stand
 
 -- once the event's entry is put where no move was left, all of the event's moves can be made, and they lead to what stands there for the journal with the event and for this repository
 abbrev pub IsBegun : Journal → ℕ → Event → Repository → Stand → Type 0
@@ -90,12 +92,16 @@ RedoIsBegun =
     → IsNumbered j → ComesNext j (record { at = k; event = redoing n }) → change_of j n ≡ Some c → HasNoFacetTwice c → is_ready (held live) c ≡ true
     → IsSettled j live stand → IsBegun j k (redoing n) (result_of c live) stand
 
--- and with an emptying, which changes no live file
+-- something stands under the number of each entry that still tells something
+abbrev pub EntriesStand : Journal → Stand → Type 0
+EntriesStand j stand = AllByRecursion (λ e. is_some (stand (Entry e.at)) ≡ true) (told_of j).entries
+
+-- and with an emptying that moves the final number up, where each entry that it erases stands: it changes no live file
 abbrev pub EmptyIsBegun : Type 0
 EmptyIsBegun =
     (j : Journal) (k n : ℕ) (marks : List PackMark) (live : Repository) (stand : Stand)
-    → IsNumbered j → ComesNext j (record { at = k; event = emptying n marks }) → HaveNoFacetTwice (committed j)
-    → IsSettled j live stand → IsBegun j k (emptying n marks) live stand
+    → IsLegal j → ComesNext j (record { at = k; event = emptying n marks }) → final_number j < n → HaveNoFacetTwice (committed j)
+    → EntriesStand j stand → IsSettled j live stand → IsBegun j k (emptying n marks) live stand
 
 -- and once all calls of an event that is begun so are made, no move is left
 abbrev pub EventsAreSettled : Type 0

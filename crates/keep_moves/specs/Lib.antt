@@ -4,4 +4,5 @@ pub mod Course
 pub mod Laws
 pub mod Lists
 pub mod Move
+pub mod Notices
 pub mod Standing

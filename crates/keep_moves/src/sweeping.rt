@@ -1,13 +1,13 @@
-ghost use Rattle.std.specs.Prelude.{◌≡◌, ◌≤◌, ◌++◌, IfOk, OnOk, filter, map};
-ghost use Rattle.keep_journal.specs.History.{last_change};
+ghost use Rattle.std.specs.Prelude.{◌≡◌, ◌<◌, ◌≤◌, ◌++◌, IfOk, OnOk, map};
+ghost use Rattle.keep_journal.specs.History.{final_number as last_final, last_change};
 ghost use Rattle.keep_shelf.specs.declared.key.Key.TheVariants.{Trash};
-ghost use Rattle.keep_moves.specs.Lists.{entry_keys, is_silenced, swept_keys, trash_at};
-ghost use Rattle.keep_moves.specs.Standing.{is_told as tells};
+ghost use Rattle.keep_moves.specs.Lists.{swept_keys, trash_at};
+ghost use Rattle.keep_moves.specs.Notices.{silenced_keys, tells as tells_something};
 ghost use Rattle.keep_moves.specs.declared.moves.Move.TheVariants.{Erase};
 
 use crate::moves::Move;
-use keep_change::StoredFile;
-use keep_journal::{Entry, Event, EventKind, History};
+use keep_change::{StoredFile, What};
+use keep_journal::{History, Notice};
 use keep_shelf::Key;
 use std::alloc::{AllocError, Global};
 
@@ -17,17 +17,18 @@ pub fn swept_moves(alloc: Global, history: &History, n: u64) -> Result<Vec<Move>
     ensures { IfOk result (λ moves. moves.items ≡ map Erase (swept_keys history.now.journal n)) }
 {
     let final_number = history.final_number();
-    let entries = history.entries();
+    let notices = history.notices();
     let mut moves = Vec::new(alloc);
     for before in final_number..n {
         sweep_change(&mut moves, history, before + 1)?;
     }
-    sweep_entries(&mut moves, entries, final_number, n)?;
+    sweep_entries(&mut moves, notices, final_number, n)?;
     Ok(moves)
 }
 
-// Appends the erasures of what the trash of change m has.
+// Appends the erasures of what the trash of change m has, which isn't final yet.
 fn sweep_change(moves: &mut Vec<Move>, history: &History, m: u64) -> Result<(), AllocError>
+    requires { last_final history.now.journal < m }
     ensures { OnOk result (moves.new.items
         ≡ moves.old.items ++ map Erase (trash_at history.now.journal m)) }
 {
@@ -54,27 +55,27 @@ fn push_erasures(moves: &mut Vec<Move>, m: u64, files: &[StoredFile]) -> Result<
 // Appends the erasures of the entries that tell nothing once all changes up to n are final.
 fn sweep_entries(
     moves: &mut Vec<Move>,
-    entries: &[Entry],
+    notices: &[Notice],
     final_number: u64,
     n: u64,
 ) -> Result<(), AllocError>
-    ensures { let silenced = filter (λ e. is_silenced final_number n e.event) entries.now in
-        OnOk result (moves.new.items ≡ moves.old.items ++ map Erase (entry_keys silenced)) }
+    ensures { OnOk result (moves.new.items
+        ≡ moves.old.items ++ map Erase (silenced_keys final_number n notices.now)) }
 {
-    for entry in entries {
-        if is_told(final_number, &entry.event) && !is_told(n, &entry.event) {
-            moves.push(Move::Erase(Key::Entry(entry.at)))?;
+    for notice in notices {
+        if tells(final_number, notice) && !tells(n, notice) {
+            moves.push(Move::Erase(Key::Entry(notice.at)))?;
         }
     }
     Ok(())
 }
 
 // Whether the event still tells something where changes up to this number are final.
-fn is_told(final_number: u64, event: &Event) -> bool
-    ensures { result ≡ tells final_number event.now }
+fn tells(final_number: u64, notice: &Notice) -> bool
+    ensures { result ≡ tells_something final_number notice.now }
 {
-    match &event.kind {
-        EventKind::Empty(_) => final_number <= event.number,
-        EventKind::Commit(_) | EventKind::Undo | EventKind::Redo => final_number < event.number,
+    match notice.what {
+        What::Empty => notice.change == final_number,
+        What::Commit | What::Undo | What::Redo => final_number < notice.change,
     }
 }

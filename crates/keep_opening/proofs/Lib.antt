@@ -1,0 +1,11 @@
+pub mod Agreed
+pub mod Along
+pub mod Finished
+pub mod Glued
+pub mod Going
+pub mod Joined
+pub mod Lasting
+pub mod Remade
+pub mod Trashed
+pub mod Unmade
+pub mod Whole

@@ -1,0 +1,9 @@
+pub mod Filing
+pub mod Intake
+pub mod Leafing
+pub mod Marking
+pub mod OpenError
+pub mod Opened
+pub mod Settling
+pub mod Telling
+pub mod Wanted

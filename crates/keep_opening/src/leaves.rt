@@ -1,0 +1,56 @@
+ghost use Rattle.std.specs.Prelude.{◌≡◌, ◌++◌, IfOk, List, OnOk};
+ghost use Rattle.std.specs.FinMap as map;
+ghost use Rattle.keep_opening.specs.Leafing.{AreUnder};
+ghost use Rattle.keep_reading.specs.Leaves.{AreLeaves, Tells};
+ghost use Rattle.keep_reading.specs.declared.leaf.Leaf as the_leaf;
+
+use keep_entries::{EntryError, read_entry};
+use keep_reading::Leaf;
+use keep_repo::Bytes;
+use keep_shelf::{Key, Stock};
+use std::alloc::{AllocError, Global};
+
+/// What stands under the keys of entries, each read.
+pub(crate) fn leaves_of(alloc: Global, stock: &Stock) -> Result<Vec<Leaf>, AllocError>
+    ensures { IfOk result (λ leaves. AreLeaves (map.get stock.now) leaves.items) }
+{
+    let keys = stock.keys()?;
+    let mut leaves = Vec::new(alloc);
+    for key in &keys {
+        push_leaf(alloc, stock, *key, &mut leaves)?;
+    }
+    Ok(leaves)
+}
+
+// Appends the leaf under the key, if it is that of an entry.
+fn push_leaf(
+    alloc: Global,
+    stock: &Stock,
+    key: Key,
+    leaves: &mut Vec<Leaf>,
+) -> Result<(), AllocError>
+    ensures { OnOk result ((more : List the_leaf.Leaf)
+        × (leaves.new.items ≡ leaves.old.items ++ more) × AreUnder (map.get stock.now) key more) }
+{
+    if let Key::Entry(k) = key {
+        if let Some(bytes) = stock.get(key) {
+            leaves.push(leaf_of(alloc, k, bytes)?)?;
+        }
+    }
+    Ok(())
+}
+
+// The leaf of this number, with these bytes.
+fn leaf_of(alloc: Global, k: u64, bytes: &Bytes) -> Result<Leaf, AllocError>
+    ensures number { IfOk result (λ leaf. leaf.at ≡ k) }
+    ensures tells { IfOk result (λ leaf. Tells k bytes.now leaf.event) }
+{
+    match read_entry(alloc, k, bytes.as_slice()) {
+        Ok(entry) => Ok(Leaf {
+            at: k,
+            event: Some(entry.event),
+        }),
+        Err(EntryError::BadEntry(_)) => Ok(Leaf { at: k, event: None }),
+        Err(EntryError::Memory) => Err(AllocError),
+    }
+}

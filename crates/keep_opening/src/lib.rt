@@ -1,0 +1,17 @@
+//! The opening of a shelf: what stands there is taken in, read, and tested.
+#![tactic(auto)]
+
+mod files;
+mod intake;
+mod leaves;
+mod marking;
+mod open_error;
+mod opening;
+mod settling;
+mod telling;
+mod trash;
+
+pub use intake::take_in;
+pub use open_error::OpenError;
+pub use opening::{Opened, read};
+pub use settling::{last_moves, remains};
