@@ -6,6 +6,7 @@ use Rattle.keep_ledger.specs.Ends.{Ends, FaultsLast, heard}
 use Rattle.keep_ledger.specs.LedgerState.{LedgerState}
 use Rattle.keep_ledger.specs.OnShelf.{OnShelf}
 use Rattle.keep_ledger.specs.Reply.{Replies, state_after}
+use Rattle.keep_ledger.specs.Stops.{EachCallReads}
 use Rattle.keep_ledger.specs.Sums.{AreSums}
 use Rattle.keep_ledger.specs.declared.reply.Refusal.{Refusal}
 use Rattle.keep_ledger.specs.declared.reply.Refusal.TheVariants.{Fault}
@@ -31,7 +32,7 @@ hooks_of book = hooks_data book.hooks.vetoes.items book.hooks.watches.items
 abbrev pub HasSums : {S I F g J E h : _} → Book S I F g J E h → Type 0
 HasSums book = AreSums (ledger_of book).events (hooks_of book).watches (tallies_of book.hooks.watches.items)
 
--- the book replies by its ledger and its vetoes, where the shelf doesn't fail before the event is in; an event that is in, settled or not, is added, and the answer tells of the calls; what is armed stays, and each total is still the sum
+-- the book replies by its ledger and its vetoes, where the shelf doesn't fail before the event is in; an event that is in, settled or not, is added, and the answer tells of the calls, each of which left a shelf that says what was so before or what is so after; what is armed stays, and each total is still the sum
 pub record Responds {S I F g J E h : _} (before : Book S I F g J E h) (request : Request)
     (reply : Result Told Refusal) (after : Book S I F g J E h) : Type 0 where
   pub replies : reply ≢ Err Fault
@@ -39,6 +40,7 @@ pub record Responds {S I F g J E h : _} (before : Book S I F g J E h) (request :
   pub ledger : ledger_of after ≡ state_after (ledger_of before) request (heard (ledger_of before) request reply)
   pub ends : Ends (on_shelf before) request reply (on_shelf after)
   pub faults : FaultsLast (on_shelf before) (hooks_of before).vetoes request reply (on_shelf after)
+  pub stops : EachCallReads (on_shelf before) request (on_shelf after)
   pub hooks : hooks_of after ≡ hooks_of before
   pub sums : HasSums after
 

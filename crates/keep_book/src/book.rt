@@ -1,4 +1,3 @@
-ghost use Rattle.std.specs.FinMap as finite;
 ghost use Rattle.keep_hooks.specs.Rules.{tallies_of};
 ghost use Rattle.keep_book.specs.Names.{HaveNoNameTwice};
 
@@ -29,21 +28,19 @@ impl<S: Shelf> Book<S> {
     ghost use Rattle.keep_ledger.specs.Ends.{heard};
     ghost use Rattle.keep_ledger.specs.LedgerState.{JustCommitted, LedgerState};
     ghost use Rattle.keep_ledger.specs.Limits.{event_limit};
-    ghost use Rattle.keep_ledger.specs.Opened.{IsNotOpened, bad_entry, opened};
+    ghost use Rattle.keep_ledger.specs.Opened.{IsNotOpened, IsOpened};
     ghost use Rattle.keep_ledger.specs.Reply.{Restores, TakesBack};
     ghost use Rattle.keep_ledger.specs.Sums.{sums_of};
     ghost use Rattle.keep_ledger.specs.declared.request.Request.TheVariants as request;
     ghost use Rattle.keep_book.specs.Armed.{Responds, HasSums, IsUnchanged, hook_of, hooks_of, is_double, ledger_of, on_shelf, with_veto, with_watch};
     ghost use Rattle.keep_book.specs.Names.{is_armed};
 
-    /// Opens a shelf that has live files alone, as a book without changes, vetoes and watches over the repository of
-    /// these files: `Ledger::open`, with the same errors.
+    /// Opens a shelf as what it says, without vetoes and watches: `Ledger::open`, with the same errors.
     pub fn open(alloc: Global, shelf: S) -> Result<Book<S>, OpenError>
-        ensures opened { IfOk result (λ book. on_shelf book ≡ opened (S.shelved shelf)) }
+        ensures opened { IfOk result (λ book. IsOpened (S.shelved shelf) (on_shelf book)) }
         ensures hooks { IfOk result (λ book. hooks_of book ≡ record { vetoes = []; watches = [] }) }
         ensures sums { IfOk result (λ book. HasSums book) }
-        ensures free { OnOk result (bad_entry (finite.keys (S.shelved shelf).content) ≡ None) }
-        ensures refused { IfErr result (IsNotOpened (bad_entry (finite.keys (S.shelved shelf).content))) }
+        ensures refused { IfErr result (IsNotOpened (S.shelved shelf)) }
     {
         let ledger = Ledger::open(alloc, shelf)?;
         Ok(Book {

@@ -9,6 +9,7 @@ use Rattle.keep_repo.specs.Repository.{held}
 use Rattle.keep_change.specs.Change.{is_met}
 use Rattle.keep_change.specs.Form.{least_unmet}
 use Rattle.keep_change.specs.Limits.{facet_limit}
+use Rattle.keep_change.specs.Marks.{marks_of}
 use Rattle.keep_change.specs.Touch.{facets}
 use Rattle.keep_change.specs.declared.change.Planned.{Planned}
 use Rattle.keep_change.specs.declared.outline.What.TheVariants as what
@@ -16,12 +17,13 @@ use Rattle.keep_change.proofs.Least.{met_least}
 use Rattle.keep_hooks.specs.Written.{name_count}
 use Rattle.keep_journal.specs.History.{Fits, last_change, length_of}
 use Rattle.keep_journal.specs.Opening.{IsOpen}
+use Rattle.keep_journal.proofs.Commits.{fits-Empty}
 use Rattle.keep_journal.proofs.Numbers.{is_change_parts}
 use Rattle.keep_ledger.specs.Dependents.{Passes, blocked_by, leaned_on}
 use Rattle.keep_ledger.specs.Guarding.{event_outline}
 use Rattle.keep_ledger.specs.LedgerState.{LedgerState}
 use Rattle.keep_ledger.specs.Limits.{change_limit, event_limit}
-use Rattle.keep_ledger.specs.Made.{event_of}
+use Rattle.keep_ledger.specs.Made.{event_of, opening_after}
 use Rattle.keep_ledger.specs.Reply.{IsFormed, about, commit_refusal, early_refusal, first_of, is_full, is_full_for, late_refusal, undo_refusal}
 use Rattle.keep_ledger.specs.Request.{CanBegin, CanBeMade}
 use Rattle.keep_ledger.specs.declared.reply.Refusal.{Refusal}
@@ -141,7 +143,7 @@ fits b (Redo n) begins =
     (can.above, (is_change_parts b.events n can.change).1, can.not_in_force)
 fits b (Empty n) begins =
     let can = can_empty b.events n begins.free in
-    (can.above, (is_change_parts b.events n can.change).1)
+    fits-Empty b.events n (marks_of (opening_after b (Empty n))) can.above (is_change_parts b.events n can.change).1
 
 -- it is about the change that the request is about
 pub its_number : (b : LedgerState) (request : Request) → (event_of b request).number ≡ about b.events request

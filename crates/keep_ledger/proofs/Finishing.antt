@@ -1,19 +1,27 @@
 -- The moves that are due are made, all or as far as the shelf goes.
-use Rattle.std.proofs.Common.{◌≡◌, ◌∙◌, ℕ, ◌+◌, ◌-◌, ◌<◌, ◌≤◌, List, Result, Ok, Err, ap, arith, drop, length, map, subst, sym, take}
+use Rattle.std.proofs.Common.{◌≡◌, ◌∙◌, ℕ, ◌+◌, ◌-◌, ◌<◌, ◌≤◌, List, [], Result, Ok, Err, ap, arith, drop, length, map, subst, sym, take}
 use Rattle.std.specs.Prelude.{OnErr, OnOk}
 use Rattle.std.specs.FinMap as finite
-use Rattle.std.proofs.Math.Seq.{take-length}
+use Rattle.std.proofs.Math.Seq.{drop-length, take-length}
 use Rattle.std.proofs.lemmas.List.{drop-drop, length-drop}
 use Rattle.keep_repo.specs.Repository.{Repository}
 use Rattle.keep_journal.specs.Journal.{Journal}
+use Rattle.keep_journal.specs.Opening.{opening_under}
 use Rattle.keep_shelf.specs.Shelved.{Shelved, failed}
 use Rattle.keep_moves.specs.Behind.{IsBehind}
 use Rattle.keep_moves.specs.Calls.{Make, played}
 use Rattle.keep_moves.specs.declared.moves.Move.{Move}
 use Rattle.keep_moves.proofs.Played.{stops_behind}
+use Rattle.keep_stops.specs.Due.{IsRead}
+use Rattle.keep_stops.proofs.Moving.{moves_read}
 use Rattle.keep_touch.specs.declared.touch.Touch.{Touch}
 use Rattle.keep_ledger.specs.Ends.{FaultsAtMoves}
 use Rattle.keep_ledger.specs.OnShelf.{IsKept, OnShelf, ledger_on}
+
+-- what holds anyway holds after an error
+pub whatever : {T E A : Type 0} (r : Result T E) → A → OnErr r A
+whatever (Ok t) a = tt
+whatever (Err e) a = a
 
 module _ (j : Journal) (live : Repository) (touch : Touch) (moves : List Move) (made : ℕ) (s : Shelved) (kept : IsKept j live touch moves made s) where
   -- some more of them were made
@@ -26,7 +34,27 @@ module _ (j : Journal) (live : Repository) (touch : Touch) (moves : List Move) (
         subst (λ content. IsBehind j live (drop now moves) (finite.get content)) (sym same)
         (subst (λ due. IsBehind j live due (finite.get (played (map Make (take i (drop made moves))) s).content)) (drop-drop i made moves ∙ ap (λ k. drop k moves) (sym count))
         (stops_behind j live (drop made moves) i s kept.behind));
+    reads =
+        subst (λ content. IsRead (opening_under j live) j (drop now moves) (finite.get content)) (sym same)
+        (subst (λ due. IsRead (opening_under j live) j due (finite.get (played (map Make (take i (drop made moves))) s).content)) (drop-drop i made moves ∙ ap (λ k. drop k moves) (sym count))
+        (moves_read (opening_under j live) j (drop made moves) s i kept.reads kept.behind.can).1);
   }
+
+  -- all of them were made, and are let go
+  pub all_made : (now : ℕ) (left : Shelved) → now ≡ length moves → left ≡ played (map Make (drop made moves)) s → (none : List Move) → none ≡ []
+      → IsKept j live touch none 0 left
+  all_made now left all played_on none nothing =
+      let due = drop made moves in
+      let within = kept.within in
+      let done = more_made (length due) now left (omega (arith, length-drop made moves)) (omega arith)
+      (ap (λ (t : Shelved). t.content) (played_on ∙ ap (λ ms. played (map Make ms) s) (sym (take-length due)))) in
+      let rest : drop now moves ≡ [] = ap (λ k. drop k moves) all ∙ drop-length moves in
+      subst (λ (ms : List Move). IsKept j live touch ms 0 left) (sym nothing) (record {
+        consistent = done.consistent;
+        within = omega arith;
+        behind = subst (λ (ms : List Move). IsBehind j live ms (finite.get left.content)) rest done.behind;
+        reads = subst (λ (ms : List Move). IsRead (opening_under j live) j ms (finite.get left.content)) rest done.reads;
+      })
 
   module _ {T E : Type 0} (r : Result T E) (now : ℕ) (left : Shelved)
       (all : OnOk r (now ≡ length moves)) (ok : OnOk r (left ≡ played (map Make (drop made moves)) s))

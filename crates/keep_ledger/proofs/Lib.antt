@@ -5,12 +5,15 @@ pub mod Doing
 pub mod Entered
 pub mod Finishing
 pub mod Marking
+pub mod Reading
 pub mod Redoing
 pub mod Replying
 pub mod Restoring
 pub mod Standing
 pub mod Steps
+pub mod Stopping
 pub mod Sums
 pub mod Taken
+pub mod Telling
 pub mod Totals
 pub mod Undoing

@@ -63,6 +63,7 @@ module _ (self : OnShelf) (request : Request) (j : Journal) (live : Repository) 
           };
           within = is.kept.within;
           behind = rw same_content is.kept.behind;
+          reads = rw same_content is.kept.reads;
         } in
         rw same there
 

@@ -16,11 +16,11 @@ use Rattle.keep_change.specs.declared.change.PackMark.{PackMark}
 use Rattle.keep_change.proofs.History.{taking_back_restores_lem}
 use Rattle.keep_change.proofs.Law.{no_break}
 use Rattle.keep_change.proofs.Records.{and_first}
-use Rattle.keep_journal.specs.History.{committed, final_number, last_change, length_of}
+use Rattle.keep_journal.specs.History.{committed, final_number, last_change, length_of, ComesNext}
 use Rattle.keep_journal.specs.Journal.{Journal, posted}
 use Rattle.keep_journal.specs.Kept.{kept, later, up_to}
 use Rattle.keep_journal.specs.Event.{committing, emptying}
-use Rattle.keep_journal.proofs.Commits.{committed-Commit, committed-Empty, last_marks-push, IsLegal-push, IsNumbered-push}
+use Rattle.keep_journal.proofs.Commits.{committed-Commit, committed-Empty, fits-Empty, last_marks-push, IsLegal-push, IsNumbered-push}
 use Rattle.keep_journal.proofs.Kept.{kept-Commit, kept-Empty, kept_split, fold_of-append}
 use Rattle.keep_journal.specs.Opening.{IsOpen, opening_under, unfold_of}
 use Rattle.keep_journal.proofs.Later.{no_facet_twice}
@@ -94,9 +94,10 @@ open-Empty opening j live k n marks is above low high recorded =
     let parts = kept_split j n is.numbered in
     let whole : first_break (up_to j n ++ later j n) opening ≡ None = subst (λ ns. first_break ns opening ≡ None) parts is.unbroken in
     let left = kept-Empty j k n marks (omega arith) in
+    let next : ComesNext j (record { at = k; event = emptying n marks }) = record { above = above; fits = fits-Empty j n marks low high } in
     record {
-      numbered = IsNumbered-push j (record { at = k; event = emptying n marks }) is.numbered (record { above = above; fits = (low, high) });
-      legal = IsLegal-push j (record { at = k; event = emptying n marks }) is.legal (record { above = above; fits = (low, high) });
+      numbered = IsNumbered-push j (record { at = k; event = emptying n marks }) is.numbered next;
+      legal = IsLegal-push j (record { at = k; event = emptying n marks }) is.legal next;
       formed = rw (committed-Empty j k n marks) is.formed;
       within = rw (committed-Empty j k n marks) is.within;
       unbroken = rw left (break_rest (up_to j n) (later j n) opening whole);

@@ -49,7 +49,7 @@ names_one : (j : Journal) (k n : ℕ) (did : EventKind) → FitsBy j n did → n
 names_one j k n (kind.Commit c) fits = omega (arith, fits, last_change-Commit j k n c)
 names_one j k n kind.Undo fits = omega (arith, fits.1, last_change-Undo j k n)
 names_one j k n kind.Redo fits = omega (arith, fits.1, last_change-Redo j k n)
-names_one j k n (kind.Empty marks) fits = omega (arith, fits.1, last_change-Empty j k n marks)
+names_one j k n (kind.Empty marks) fits = omega (arith, fits.2, last_change-Empty j k n marks)
 
 -- so that no event names a change past the last
 all_known : (j : Journal) (es : List Entry) (last : ℕ) → ComeInTurn j es → last_change (joined j es) ≤ last

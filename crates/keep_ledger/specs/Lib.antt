@@ -3,14 +3,13 @@ pub mod Ends
 pub mod Entering
 pub mod Formed
 pub mod Guarding
-pub mod Intake
 pub mod LedgerState
 pub mod Limits
 pub mod Made
 pub mod OnShelf
-pub mod OpenError
 pub mod Opened
 pub mod Refusal
 pub mod Reply
 pub mod Request
+pub mod Stops
 pub mod Sums

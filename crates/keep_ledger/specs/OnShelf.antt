@@ -4,6 +4,7 @@ use Rattle.std.specs.FinMap as finite
 use Rattle.keep_repo.specs.Repository.{Repository}
 use Rattle.keep_journal.specs.History.{length_of}
 use Rattle.keep_journal.specs.Journal.{Journal}
+use Rattle.keep_journal.specs.Opening.{opening_under}
 use Rattle.keep_shelf.specs.Shelved.{Shelved, failed}
 use Rattle.keep_touch.specs.declared.touch.Touch.{Touch}
 use Rattle.keep_moves.specs.Behind.{IsBehind}
@@ -11,6 +12,7 @@ use Rattle.keep_moves.specs.Calls.{Make, looks, played}
 use Rattle.keep_moves.specs.Course.{entry_put, looks_of}
 use Rattle.keep_moves.specs.Lists.{moves_of}
 use Rattle.keep_moves.specs.declared.moves.Move.{Move}
+use Rattle.keep_stops.specs.Due.{IsRead}
 use Rattle.keep_ledger.specs.LedgerState.{IsConsistent, LedgerState, ledger_of_live}
 use Rattle.keep_ledger.specs.Made.{event_of, with_event}
 use Rattle.keep_ledger.specs.declared.request.Request.{Request}
@@ -25,11 +27,13 @@ pub record OnShelf : Type 0 where
 abbrev pub ledger_on : Journal → Repository → List Move → Shelved → OnShelf
 ledger_on j live due shelf = record { state = ledger_of_live j live; due = due; shelf = shelf }
 
--- what a ledger keeps true: so many of the last event's moves were made, the others are due, and by these the shelf is behind
+-- what a ledger keeps true: so many of the last event's moves were made, the others are due, by these the shelf is behind,
+-- and what stands there says what the ledger says
 pub record IsKept (j : Journal) (live : Repository) (touch : Touch) (moves : List Move) (made : ℕ) (shelf : Shelved) : Type 0 where
   pub consistent : IsConsistent j live touch
   pub within : made ≤ length moves
   pub behind : IsBehind j live (drop made moves) (finite.get shelf.content)
+  pub reads : IsRead (opening_under j live) j (drop made moves) (finite.get shelf.content)
 
 -- ---- what calls make of a ledger
 

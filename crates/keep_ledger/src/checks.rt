@@ -98,6 +98,7 @@ pub(crate) fn check_blocked(
 ) -> Result<(), Refusal>
     requires formed { AreWellFormed history.now.journal }
     requires noted { AreNoted touch.now history.now.journal }
+    requires unfinal { final_number history.now.journal < n }
     ensures passes { Passes (option_map Refusal.Blocked (blocked_by history.now.journal live.now n)) result }
     ensures plain { IfErr result (λ refusal. is_plain refusal ≡ true) }
 {
@@ -123,6 +124,7 @@ fn check_open(history: &History, n: u64) -> Result<(), Refusal>
         (first_of ((not (is_change history.now.journal n), Refusal.Unknown)
         ∷ (nat_le n (final_number history.now.journal), Refusal.Final) ∷ []))
         result }
+    ensures unfinal { OnOk result (final_number history.now.journal < n) }
     ensures plain { IfErr result (λ refusal. is_plain refusal ≡ true) }
 {
     match history.status(n) {

@@ -1,4 +1,5 @@
-ghost use Rattle.std.specs.Prelude.{◌≡◌};
+ghost use Rattle.std.specs.Prelude.{◌≡◌, ◌<◌};
+ghost use Rattle.keep_journal.specs.History.{final_number};
 ghost use Rattle.keep_journal.specs.Opening.{AreWellFormed};
 ghost use Rattle.keep_touch.specs.Mentions.{AreNoted};
 ghost use Rattle.keep_ledger.specs.Dependents.{leaned_on, blocked_at, blocked_by};
@@ -11,7 +12,8 @@ use keep_touch::Touch;
 
 /// The first change in force after n that touches what change n writes.
 pub(crate) fn leaned_on(history: &History, touch: &Touch, n: u64) -> Option<u64>
-    requires { AreNoted touch.now history.now.journal }
+    requires noted { AreNoted touch.now history.now.journal }
+    requires unfinal { final_number history.now.journal < n }
     ensures { result ≡ leaned_on history.now.journal n }
 {
     touch.first_after(history, n, history.change(n)?)
@@ -45,6 +47,7 @@ pub(crate) fn first_blocked(
 pub(crate) fn blocked_by(history: &History, touch: &Touch, live: &Repo, n: u64) -> Option<u64>
     requires formed { AreWellFormed history.now.journal }
     requires noted { AreNoted touch.now history.now.journal }
+    requires unfinal { final_number history.now.journal < n }
     ensures { result ≡ blocked_by history.now.journal live.now n }
 {
     first_blocked(history, touch, live, n, history.change(n)?)

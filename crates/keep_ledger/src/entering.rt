@@ -1,9 +1,10 @@
-ghost use Rattle.std.specs.Prelude.{◌≡◌, IfErr, OnErr, OnOk, length, true};
+ghost use Rattle.std.specs.Prelude.{◌≡◌, ◌<◌, IfErr, OnErr, OnOk, length, true};
 ghost use Rattle.keep_repo.specs.Repository.{held};
 ghost use Rattle.keep_change.specs.Change.{is_ready};
 ghost use Rattle.keep_change.specs.Form.{HasNoFacetTwice};
 ghost use Rattle.keep_change.specs.Halves.{turned};
 ghost use Rattle.keep_change.specs.Result.{result_of};
+ghost use Rattle.keep_journal.specs.History.{Fits, final_number};
 ghost use Rattle.keep_journal.specs.Journal.{posted};
 ghost use Rattle.keep_entries.specs.Spelling.{entry_text};
 ghost use Rattle.keep_moves.specs.Course.{looks_of};
@@ -29,6 +30,7 @@ pub(crate) fn enter<S: Shelf>(
     prepared: &Prepared,
 ) -> Result<(), Refusal>
     requires can { CanTurnFor history.now.journal prepared.now.entry.event live.old }
+    requires fits { Fits history.now.journal prepared.now.entry.event }
     requires noted { AreNoted touch.old history.now.journal }
     requires text { prepared.now.text ≡ entry_text prepared.now.entry.event }
     ensures live { OnOk result (live.new ≡ live_after history.now.journal prepared.now.entry.event live.old) }
@@ -44,7 +46,7 @@ pub(crate) fn enter<S: Shelf>(
 {
     // Whatever the event, the notes are those of the commits again.
     notes_follow_events();
-    match &prepared.entry.event.kind {
+    match &prepared.entry.as_entry().event.kind {
         EventKind::Commit(change) => enter_noted(live, touch, shelf, change.as_change(), prepared),
         EventKind::Undo => enter_again(history, live, shelf, Turn::TakeBack, prepared),
         EventKind::Redo => enter_again(history, live, shelf, Turn::Make, prepared),
@@ -72,8 +74,13 @@ fn enter_noted<S: Shelf>(
     ensures same_notes { OnErr result (NoteTheSame touch.old touch.new) }
     ensures stopped { IfErr result (λ stop. Stops stop 0 (S.shelved shelf.old) (S.shelved shelf.new)) }
 {
-    touch.note(prepared.entry.event.number, change)?;
-    match turn_live(live, shelf, Turn::Make, change, &[], prepared) {
+    touch.note(prepared.entry.as_entry().event.number, change)?;
+    let turning = Turning {
+        turn: Turn::Make,
+        change,
+        returning: &[],
+    };
+    match turn_live(live, shelf, &turning, prepared) {
         Ok(()) => Ok(()),
         Err(refusal) => {
             touch.forget(change);
@@ -91,6 +98,7 @@ fn enter_again<S: Shelf>(
     prepared: &Prepared,
 ) -> Result<(), Refusal>
     requires can { CanTurnAgain history.now.journal prepared.now.entry.event.number turn live.old }
+    requires unfinal { final_number history.now.journal < prepared.now.entry.event.number }
     requires text { prepared.now.text ≡ entry_text prepared.now.entry.event }
     ensures live { let number = prepared.now.entry.event.number in
         OnOk result (live.new ≡ live_again history.now.journal number turn live.old) }
@@ -101,57 +109,66 @@ fn enter_again<S: Shelf>(
     ensures stopped { let most = looks_again history.now.journal prepared.now.entry.event.number turn in
         IfErr result (λ stop. Stops stop most (S.shelved shelf.old) (S.shelved shelf.new)) }
 {
-    match history.change(prepared.entry.event.number) {
-        Some(change) => turn_live(
-            live,
-            shelf,
-            turn,
-            change,
-            change.coming_files(turn),
-            prepared,
-        ),
+    match history.change(prepared.entry.as_entry().event.number) {
+        Some(change) => {
+            let turning = Turning {
+                turn,
+                change,
+                returning: change.coming_files(turn),
+            };
+            turn_live(live, shelf, &turning, prepared)
+        }
         None => Ok(look_and_write(shelf, &[], prepared)?),
     }
+}
+
+/// How an event turns a change, and the files that come back from the change's trash.
+#[derive(Drop)]
+struct Turning<'a> {
+    turn: Turn,
+    change: &'a Change,
+    returning: &'a [StoredFile],
 }
 
 /// Turns the change in the live repository, and writes the entry between its halves. A fault takes the first half back.
 fn turn_live<S: Shelf>(
     live: &mut LiveRepo,
     shelf: &mut S,
-    turn: Turn,
-    change: &Change,
-    looked_at: &[StoredFile],
+    turning: &Turning,
     prepared: &Prepared,
 ) -> Result<(), Refusal>
-    requires once { HasNoFacetTwice change.now }
-    requires ready { is_ready (held live.old) (turned turn change.now) ≡ true }
+    requires once { HasNoFacetTwice turning.now.change.now }
+    requires ready { is_ready (held live.old) (turned turning.now.turn turning.now.change.now) ≡ true }
     requires text { prepared.now.text ≡ entry_text prepared.now.entry.event }
-    ensures live { OnOk result (live.new ≡ result_of (turned turn change.now) live.old) }
+    ensures live { OnOk result (live.new ≡ result_of (turned turning.now.turn turning.now.change.now) live.old) }
     ensures written { let entry = prepared.now.entry in
-        OnOk result (S.shelved shelf.new ≡ written_on (length looked_at.now) entry.at entry.event (S.shelved shelf.old)) }
+        let looks = length turning.now.returning.now in
+        OnOk result (S.shelved shelf.new ≡ written_on looks entry.at entry.event (S.shelved shelf.old)) }
     ensures same { OnErr result (live.new ≡ live.old) }
-    ensures stopped { IfErr result (λ stop. Stops stop (length looked_at.now) (S.shelved shelf.old) (S.shelved shelf.new)) }
+    ensures stopped { let most = length turning.now.returning.now in
+        IfErr result (λ stop. Stops stop most (S.shelved shelf.old) (S.shelved shelf.new)) }
 {
-    live.begin(turn, change)?;
-    if let Err(Fault) = look_and_write(shelf, looked_at, prepared) {
-        live.abandon(turn, change);
+    live.begin(turning.turn, turning.change)?;
+    if let Err(Fault) = look_and_write(shelf, turning.returning, prepared) {
+        live.abandon(turning.turn, turning.change);
         return Err(Refusal::Fault);
     }
-    live.complete(turn, change);
+    live.complete(turning.turn, turning.change);
     Ok(())
 }
 
 /// Reads these files from the trash of the event's change, and writes the entry.
 fn look_and_write<S: Shelf>(
     shelf: &mut S,
-    looked_at: &[StoredFile],
+    returning: &[StoredFile],
     prepared: &Prepared,
 ) -> Result<(), Fault>
     requires { prepared.now.text ≡ entry_text prepared.now.entry.event }
     ensures ok { let entry = prepared.now.entry in
-        OnOk result (S.shelved shelf.new ≡ written_on (length looked_at.now) entry.at entry.event (S.shelved shelf.old)) }
-    ensures err { OnErr result (FailsWithin (length looked_at.now) (S.shelved shelf.old) (S.shelved shelf.new)) }
+        OnOk result (S.shelved shelf.new ≡ written_on (length returning.now) entry.at entry.event (S.shelved shelf.old)) }
+    ensures err { OnErr result (FailsWithin (length returning.now) (S.shelved shelf.old) (S.shelved shelf.new)) }
 {
-    look(shelf, prepared.entry.event.number, looked_at)?;
-    shelf.write(Key::Entry(prepared.entry.at), &prepared.text)
+    let entry = prepared.entry.as_entry();
+    look(shelf, entry.event.number, returning)?;
+    shelf.write(Key::Entry(entry.at), &prepared.text)
 }

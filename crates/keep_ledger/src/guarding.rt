@@ -1,9 +1,10 @@
-ghost use Rattle.std.specs.Prelude.{◌≡◌, ◌^◌, ◌≤◌, IfErr, IfOk, IfSome, true};
+ghost use Rattle.std.specs.Prelude.{◌≡◌, ◌^◌, ◌<◌, ◌≤◌, IfErr, IfOk, IfSome, true};
 ghost use Rattle.std.specs.List.{All};
 ghost use Rattle.keep_change.specs.Outline.{outline_of};
 ghost use Rattle.keep_change.specs.declared.outline.Outline.{Outline};
 ghost use Rattle.keep_hooks.specs.Guards.{HasRoom, tallies_after};
 ghost use Rattle.keep_hooks.specs.Written.{name_count};
+ghost use Rattle.keep_journal.specs.History.{final_number};
 ghost use Rattle.keep_ledger.specs.Entering.{is_plain};
 ghost use Rattle.keep_ledger.specs.Guarding.{IsOutline, Vetoes, event_outline, outline_at, rules_for};
 
@@ -31,7 +32,8 @@ pub(crate) fn outline_for<V: Guard>(
     Ok(None)
 }
 
-/// The outline of the event that takes change n back or makes it again, where there is a veto or a watch.
+/// The outline of the event that takes change n back or makes it again, which isn't final, where there is a veto or a
+/// watch.
 pub(crate) fn outline_at<V: Guard>(
     alloc: Global,
     guard: &V,
@@ -39,6 +41,7 @@ pub(crate) fn outline_at<V: Guard>(
     what: What,
     n: u64,
 ) -> Result<Option<Outline>, AllocError>
+    requires { final_number history.now.journal < n }
     ensures { let asked = outline_at history.now.journal what n in
         IfOk result (λ made. IsOutline (V.armed guard.now).vetoes (V.tallies guard.now) asked made) }
 {

@@ -1,5 +1,9 @@
-ghost use Rattle.std.specs.Prelude.{◌≡◌, ◌≢◌, ◌<◌, ℕ, IfErr, IfOk, IsSome, IsTrue, OnErr, OnOk, Ok, Err, None, [], length, map, true};
+ghost use Rattle.std.specs.Prelude.{◌≡◌, ◌≢◌, ◌<◌, ◌^◌, ◌≤◌, ◌⊎◌, ℕ, IfErr, IfOk, IfSome, IsSome, IsTrue, OnErr, OnOk, Ok, Err, None, [], length, map, true};
 ghost use Rattle.std.specs.FinMap as finite;
+ghost use Rattle.std.specs.List.{All};
+ghost use Rattle.keep_change.specs.declared.outline.Outline.{Outline};
+ghost use Rattle.keep_hooks.specs.Guards.{HasRoom, tallies_after};
+ghost use Rattle.keep_hooks.specs.Written.{name_count};
 ghost use Rattle.keep_journal.specs.History.{change_of, length_of};
 ghost use Rattle.keep_journal.specs.Kept.{is_kept};
 ghost use Rattle.keep_journal.specs.Opening.{IsOpen};
@@ -11,15 +15,14 @@ ghost use Rattle.keep_ledger.specs.Ends.{Ends, FaultsAtMoves, FaultsLast, heard}
 ghost use Rattle.keep_ledger.specs.Entering.{Enters, is_plain};
 ghost use Rattle.keep_ledger.specs.Guarding.{IsOutline, event_outline};
 ghost use Rattle.keep_ledger.specs.OnShelf.{settled};
-ghost use Rattle.keep_ledger.specs.Opened.{IsNotOpened, bad_entry, opened};
+ghost use Rattle.keep_ledger.specs.Opened.{IsNotOpened, IsOpened};
 ghost use Rattle.keep_ledger.specs.Reply.{IsFormed, Replies, early_refusal, late_refusal, state_after, told_of};
 ghost use Rattle.keep_ledger.specs.Request.{CanBegin, CanBeMade};
+ghost use Rattle.keep_ledger.specs.Stops.{EachCallReads, IsShown};
 ghost use Rattle.keep_ledger.specs.Sums.{AreSums};
 
 use crate::checks::{check_blocked, check_commit, check_empty, check_met, check_redo, check_undo};
 use crate::guarding::{check_vetoes, outline_at, outline_for, tell};
-use crate::open_error::OpenError;
-use crate::opening::read_live;
 use crate::reply::{Refusal, Told};
 use crate::request::Request;
 use keep_catalog::LiveRepo;
@@ -27,6 +30,7 @@ use keep_change::{Outline, What};
 use keep_hooks::Guard;
 use keep_journal::History;
 use keep_moves::{Move, settle};
+use keep_opening::OpenError;
 use keep_repo::Repo;
 use keep_shelf::{Fault, Shelf};
 use keep_touch::Touch;
@@ -72,27 +76,18 @@ impl<S: Shelf> Model for Ledger<S> {
 }
 
 impl<S: Shelf> Ledger<S> {
-    /// Opens a shelf that has live files alone, as a ledger without changes over the repository of these files, which
-    /// has no marks. The keys are listed and each file is read; nothing is changed on the shelf.
+    /// Opens a shelf as what it says: the keys are listed and each file is read, and then the moves that were left of the
+    /// last event are made.
     ///
-    /// `BadEntry` where something stands under another key; `Fault` where one of those calls fails; `Memory` where
-    /// there is none for the files. The shelf is let go then.
+    /// `BadEntry` where what stands there says nothing; `Fault` where one of those calls fails; `Memory` where there is
+    /// none. The shelf is let go then, and nothing was changed on it before it was read.
     pub fn open(alloc: Global, shelf: S) -> Result<Ledger<S>, OpenError>
-        ensures opened { IfOk result (λ ledger. ledger ≡ opened (S.shelved shelf)) }
-        ensures free { OnOk result (bad_entry (finite.keys (S.shelved shelf).content) ≡ None) }
-        ensures refused { IfErr result (IsNotOpened (bad_entry (finite.keys (S.shelved shelf).content))) }
+        ensures opened { IfOk result (λ ledger. IsOpened (S.shelved shelf) ledger) }
+        ensures refused { IfErr result (IsNotOpened (S.shelved shelf)) }
     {
-        let mut shelf = shelf;
-        let repo = read_live(alloc, &mut shelf)?;
-        Ok(Ledger {
-            alloc,
-            live: LiveRepo::new(alloc, repo),
-            history: History::new(alloc, 0),
-            touch: Touch::new(alloc),
-            moves: Vec::new(alloc),
-            made: 0,
-            shelf,
-        })
+        let mut ledger = Ledger::read(alloc, shelf)?;
+        ledger.finish()?;
+        Ok(ledger)
     }
 
     /// The present repository, with the bytes shared.
@@ -126,12 +121,14 @@ impl<S: Shelf> Ledger<S> {
     }
 
     /// The events. They are legal, no change among them touches more facets than it may, and those in force make
-    /// the live repository of the opening. The shelf is behind them by the moves that are due.
+    /// the live repository of the opening. The shelf is behind them by the moves that are due, and says them all the
+    /// same.
     pub fn history(&self) -> &History
         ensures events { result.now.journal ≡ self.now.state.events }
         ensures open { let b = self.now.state in IsOpen b.opening b.events b.live }
         ensures behind { let b = self.now.state in
             IsBehind b.events b.live self.now.due (finite.get self.now.shelf.content) }
+        ensures shown { IsShown self.now }
     {
         &self.history
     }
@@ -161,6 +158,7 @@ impl<S: Shelf> Ledger<S> {
         ensures after { self.new.state ≡ state_after self.old.state request (heard self.old.state request result) }
         ensures ends { Ends self.old request result self.new }
         ensures faults { FaultsLast self.old (V.armed guard.old).vetoes request result self.new }
+        ensures stops { EachCallReads self.old request self.new }
         ensures open { let b = self.old.state in IsOpen b.opening b.events b.live }
         ensures hooks { V.armed guard.new ≡ V.armed guard.old }
         ensures sums { AreSums self.new.state.events (V.armed guard.new).watches (V.tallies guard.new) }
@@ -173,13 +171,17 @@ impl<S: Shelf> Ledger<S> {
         }
     }
 
-    /// Makes the moves that are due, in their order. Where a call fails, the others stay due.
+    /// Makes the moves that are due, in their order, and lets them go. Where a call fails, the others stay due.
     fn finish(&mut self) -> Result<(), Fault>
         ensures ok { OnOk result (self.new ≡ settled self.old) }
         ensures err { OnErr result (FaultsAtMoves self.old self.new) }
+        ensures shown { IsShown self.old }
         ensures open { let b = self.old.state in IsOpen b.opening b.events b.live }
     {
-        settle(&mut self.shelf, self.moves.as_slice(), &mut self.made)
+        settle(&mut self.shelf, self.moves.as_slice(), &mut self.made)?;
+        self.moves = Vec::new(self.alloc);
+        self.made = 0;
+        Ok(())
     }
 
     /// Does what is asked where no move is due, but for the moves of its event, or refuses it.
@@ -199,6 +201,28 @@ impl<S: Shelf> Ledger<S> {
         check_vetoes(guard, &request, &outline)?;
         self.check_state(&request)?;
         let outline = outline?;
+        self.make_and_tell(guard, request, outline)
+    }
+
+    /// Brings the event in, and then tells the watches of it.
+    fn make_and_tell<V: Guard>(
+        &mut self,
+        guard: &mut V,
+        request: Request,
+        outline: Option<Outline>,
+    ) -> Result<Told, Refusal>
+        requires settled { self.old.due ≡ [] }
+        requires free { CanBeMade self.old.state request }
+        requires small { All HasRoom (V.tallies guard.old) }
+        requires few { IfSome outline (λ made. name_count made ≤ 2 ^ 20) }
+        ensures enters { Enters self.old request result self.new }
+        ensures cause { IfErr result (λ refusal. (refusal ≡ Refusal.Memory) ⊎ (refusal ≡ Refusal.Fault)) }
+        ensures armed { V.armed guard.new ≡ V.armed guard.old }
+        ensures told { OnOk result ((asked : Outline)
+            → IsOutline (V.armed guard.old).vetoes (V.tallies guard.old) asked outline
+            → V.tallies guard.new ≡ tallies_after asked (V.tallies guard.old)) }
+        ensures untold { OnErr result (V.tallies guard.new ≡ V.tallies guard.old) }
+    {
         let told = self.make(request)?;
         tell(guard, outline);
         Ok(told)

@@ -9,7 +9,7 @@ use crate::ledger::Ledger;
 use crate::preparing::{Prepared, prepare};
 use crate::reply::{Refusal, Told};
 use crate::request::Request;
-use keep_journal::{Entry, History};
+use keep_journal::{Entry, History, Posting};
 use keep_shelf::Shelf;
 
 impl<S: Shelf> Ledger<S> {
@@ -38,16 +38,23 @@ impl<S: Shelf> Ledger<S> {
 }
 
 /// Appends the entry, for which there is room.
-fn post(history: &mut History, entry: Entry) -> Told
+fn post(history: &mut History, entry: Posting) -> Told
     requires room { 0 < history.old.room }
     requires next { ComesNext history.old.journal entry }
     ensures told { result ≡ record { number = entry.event.number; at = entry.at } }
     ensures events { history.new.journal ≡ posted history.old.journal entry.at entry.event }
 {
-    let told = Told {
-        number: entry.event.number,
-        at: entry.at,
-    };
+    let told = told_of(entry.as_entry());
     history.push(entry);
     told
+}
+
+/// What is told of the entry.
+fn told_of(entry: &Entry) -> Told
+    ensures { result ≡ record { number = entry.now.event.number; at = entry.now.at } }
+{
+    Told {
+        number: entry.event.number,
+        at: entry.at,
+    }
 }

@@ -1,62 +1,34 @@
-ghost use Rattle.std.specs.Prelude.{◌≡◌, ◌+◌, None, Some, IfErr, IfOk, MatchOption, OnErr, OnOk, length};
-ghost use Rattle.std.specs.FinMap as map;
-ghost use Rattle.keep_shelf.specs.declared.key.Key.{Key};
-ghost use Rattle.keep_moves.specs.Calls.{looks, played};
-ghost use Rattle.keep_ledger.specs.Intake.{taken};
-ghost use Rattle.keep_ledger.specs.Opened.{IsNotOpened, bad_entry, live_on};
+ghost use Rattle.std.specs.Prelude.{IfErr, IfOk};
+ghost use Rattle.keep_ledger.specs.Opened.{IsNotOpened, IsReadOf};
 
-use crate::open_error::OpenError;
-use keep_repo::Repo;
-use keep_shelf::{Key, Shelf};
+use crate::ledger::Ledger;
+use crate::noting::notes_of;
+use keep_catalog::LiveRepo;
+use keep_due::due_moves;
+use keep_opening::{OpenError, Opened, read, take_in};
+use keep_shelf::Shelf;
 use std::alloc::Global;
 
-/// The repository of the live files on the shelf, where nothing else stands there. The shelf is only read.
-pub(crate) fn read_live<S: Shelf>(alloc: Global, shelf: &mut S) -> Result<Repo, OpenError>
-    ensures live { IfOk result (λ repo. repo ≡ live_on (S.shelved shelf.old).content) }
-    ensures free { OnOk result (bad_entry (map.keys (S.shelved shelf.old).content) ≡ None) }
-    ensures calls { let before = S.shelved shelf.old in
-        OnOk result (S.shelved shelf.new ≡ played (looks (1 + length (map.keys before.content))) before) }
-    ensures refused { IfErr result (IsNotOpened (bad_entry (map.keys (S.shelved shelf.old).content))) }
-    ensures same { (S.shelved shelf.new).content ≡ (S.shelved shelf.old).content }
-{
-    let keys = shelf.list()?;
-    check_keys(keys.as_slice())?;
-    read_files(alloc, shelf, keys.as_slice())
-}
-
-/// All keys, which are in order, are those of live files.
-fn check_keys(keys: &[Key]) -> Result<(), OpenError>
-    ensures free { OnOk result (bad_entry keys.now ≡ None) }
-    ensures bad { IfErr result (λ error. MatchOption (bad_entry keys.now) ⊥ (λ k. error ≡ OpenError.BadEntry k)) }
-{
-    let mut has_trash = false;
-    for key in keys {
-        match key {
-            Key::Live(_) => {}
-            Key::Trash(_, _) => has_trash = true,
-            Key::Entry(number) => return Err(OpenError::BadEntry(*number)),
-        }
+impl<S: Shelf> Ledger<S> {
+    /// Reads a shelf. The moves that were left of its last event are due.
+    pub(crate) fn read(alloc: Global, shelf: S) -> Result<Ledger<S>, OpenError>
+        ensures read { IfOk result (λ ledger. IsReadOf (S.shelved shelf) ledger) }
+        ensures refused { IfErr result (IsNotOpened (S.shelved shelf)) }
+    {
+        let mut shelf = shelf;
+        let stock = take_in(alloc, &mut shelf)?;
+        let opened = read(alloc, &stock)?;
+        let moves = due_moves(alloc, &stock, &opened.history)?;
+        let touch = notes_of(alloc, &opened.history)?;
+        let Opened { history, live, .. } = opened;
+        Ok(Ledger {
+            alloc,
+            live: LiveRepo::new(alloc, live),
+            history,
+            touch,
+            moves,
+            made: 0,
+            shelf,
+        })
     }
-    if has_trash {
-        return Err(OpenError::BadEntry(0));
-    }
-    Ok(())
-}
-
-/// The repository of the live files that stand under these keys.
-fn read_files<S: Shelf>(alloc: Global, shelf: &mut S, keys: &[Key]) -> Result<Repo, OpenError>
-    ensures files { IfOk result (λ repo. repo ≡ taken (S.shelved shelf.old).content keys.now) }
-    ensures calls { let before = S.shelved shelf.old in
-        OnOk result (S.shelved shelf.new ≡ played (looks (length keys.now)) before) }
-    ensures refused { IfErr result (IsNotOpened None) }
-    ensures same { (S.shelved shelf.new).content ≡ (S.shelved shelf.old).content }
-{
-    let mut repo = Repo::new(alloc);
-    for key in keys {
-        let found = shelf.read(*key)?;
-        if let (Key::Live(name), Some(bytes)) = (*key, found) {
-            repo.insert_file(name, bytes)?;
-        }
-    }
-    Ok(repo)
 }

@@ -1,6 +1,7 @@
-ghost use Rattle.std.specs.Prelude.{◌≡◌, ◌+◌, IfOk};
-ghost use Rattle.keep_journal.specs.History.{Fits, length_of};
+ghost use Rattle.std.specs.Prelude.{◌≡◌, ◌<◌, ◌+◌, IfOk};
+ghost use Rattle.keep_journal.specs.History.{Fits, final_number, length_of};
 ghost use Rattle.keep_journal.specs.Opening.{IsOpen, opening_under};
+ghost use Rattle.keep_entries.specs.Entry.{Fits as FitsEntry};
 ghost use Rattle.keep_entries.specs.Spelling.{entry_text};
 ghost use Rattle.keep_moves.specs.Lists.{moves_of};
 ghost use Rattle.keep_ledger.specs.Entering.{moves_again as again};
@@ -11,7 +12,7 @@ ghost use Rattle.keep_ledger.specs.Request.{CanBeMade};
 use crate::opening_marks::marks_under;
 use crate::request::Request;
 use keep_change::{SharedChange, Turn};
-use keep_journal::{Entry, Event, EventKind, History};
+use keep_journal::{Entry, Event, EventKind, History, Posting};
 use keep_moves::{Move, entry_of, first_moves, swept_moves, turn_moves};
 use keep_repo::{Bytes, Repo};
 use std::alloc::{AllocError, Global};
@@ -19,7 +20,7 @@ use std::alloc::{AllocError, Global};
 /// What takes memory of an event: its entry, the entry's text, and its moves.
 #[derive(Drop)]
 pub(crate) struct Prepared {
-    pub entry: Entry,
+    pub entry: Posting,
     pub text: Bytes,
     pub moves: Vec<Move>,
 }
@@ -36,6 +37,8 @@ pub(crate) fn prepare(
     ensures at { IfOk result (λ made. made.entry.at ≡ length_of history.now.journal + 1) }
     ensures event { let b = ledger_of_live history.now.journal live.now in
         IfOk result (λ made. made.entry.event ≡ event_of b request) }
+    ensures fits { IfOk result (λ made. Fits history.now.journal made.entry.event) }
+    ensures written { IfOk result (λ made. FitsEntry made.entry.event) }
     ensures text { IfOk result (λ made. made.text ≡ entry_text made.entry.event) }
     ensures moves { IfOk result (λ made. made.moves.items ≡ moves_of history.now.journal made.entry.event) }
 {
@@ -44,6 +47,7 @@ pub(crate) fn prepare(
     let entry = Entry { at, event };
     let text = entry_of(alloc, &entry)?;
     let moves = moves_for(alloc, history, &entry.event)?;
+    let entry = Posting::of(alloc, entry)?;
     Ok(Prepared { entry, text, moves })
 }
 
@@ -97,13 +101,14 @@ fn moves_for(alloc: Global, history: &History, event: &Event) -> Result<Vec<Move
     }
 }
 
-/// The moves of change n of the history when it is turned again.
+/// The moves of change n of the history, which isn't final, when it is turned again.
 fn moves_again(
     alloc: Global,
     history: &History,
     turn: Turn,
     n: u64,
 ) -> Result<Vec<Move>, AllocError>
+    requires { final_number history.now.journal < n }
     ensures { IfOk result (λ moves. moves.items ≡ again history.now.journal n turn) }
 {
     match history.change(n) {

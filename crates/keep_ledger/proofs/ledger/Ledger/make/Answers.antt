@@ -2,15 +2,26 @@
 use Rattle.std.proofs.Common.{◌∙◌, Err, ap, drop, subst, sym}
 use Rattle.std.specs.FinMap as finite
 use Rattle.std.proofs.lemmas.Result.{err_from_is_err_and}
+use Rattle.keep_journal.specs.Opening.{opening_under}
 use Rattle.keep_moves.specs.Behind.{IsBehind}
 use Rattle.keep_moves.specs.Course.{looks_of}
+use Rattle.keep_stops.specs.Due.{IsRead}
 use Rattle.keep_ledger.specs.Entering.{CanTurnFor, Enters}
 use Rattle.keep_ledger.specs.LedgerState.{ledger_of_live}
 use Rattle.keep_ledger.specs.Made.{event_of}
 use Rattle.keep_ledger.specs.OnShelf.{entered, ledger_on}
+use Rattle.keep_ledger.specs.Request.{CanBeMade}
 use Rattle.keep_ledger.proofs.Entered.{IsEntered, can_turn, is_entered}
 use Rattle.keep_ledger.proofs.Standing.{not_entered, stands, stays_kept, tells}
 use Rattle.keep_ledger.proofs.ledger.Ledger.make.Goals as goal
+
+pub prepare-requires-clause-free : goal.prepare-requires-clause-free
+prepare-requires-clause-free g c =
+    let b = c.self.inside in
+    let j = c.reserve.new.self.journal in
+    let is = stands c.args.self.now c.args.request b.history.journal j b.live b.touch b.moves.items b.made (g.S.Shelf.shelved b.shelf)
+    c.self.invariant c.self.view_is c.requires.settled c.requires.free c.in_ok-reserve.ensures.same in
+    subst (λ r. CanBeMade (ledger_of_live j r) c.args.request) (sym c.repo.ensures) is.can
 
 pub enter-requires-clause-can : goal.enter-requires-clause-can
 enter-requires-clause-can g c =
@@ -57,7 +68,8 @@ in_now g c =
     c.self.invariant c.self.view_is c.requires.settled c.requires.free c.in_ok-reserve.ensures.same in
     let event = c.in_ok-prepared.ensures.event ∙ ap (λ r. event_of (ledger_of_live j r) c.args.request) c.repo.ensures in
     let behind = subst (λ due. IsBehind j b.live due (finite.get s.content)) is.none is.kept.behind in
-    is_entered j b.live s is.kept.consistent.is_open behind c.args.request is.can made.entry c.in_ok-prepared.ensures.at event
+    let read = subst (λ due. IsRead (opening_under j b.live) j due (finite.get s.content)) is.none is.kept.reads in
+    is_entered j b.live s is.kept.consistent.is_open behind c.args.request is.can made.entry c.in_ok-prepared.ensures.at event c.in_ok-prepared.ensures.written read
     c.post.new.history.journal c.enter.new.live c.enter.new.touch made.moves.items (g.S.Shelf.shelved c.enter.new.shelf)
     c.post.ensures.events c.in_ok-enter.ensures.live c.in_ok-enter.ensures.noted c.in_ok-prepared.ensures.moves c.in_ok-enter.ensures.written
 
