@@ -1,10 +1,10 @@
 ghost use Rattle.std.specs.Prelude.{◌≡◌, IfOk, IsOk, map, string_bytes, true};
 ghost use Rattle.std.specs.List.{filter_map, list_any};
-ghost use Rattle.keep_lines.specs.Edits.{added_by, edit_data, is_set, removed_by, said_edit, set_by};
+ghost use Rattle.keep_lines.specs.Edits.{edit_data, is_set, said_edit, tag_by};
 ghost use Rattle.keep_lines.specs.Edits as spec;
 ghost use Rattle.keep_labels.specs.Edits.{edit_view, is_bad_edit};
 
-use crate::tag_line::TagWord;
+use crate::tag_line::{Deed, TagWord};
 use keep_labels::Edit;
 use std::alloc::{AllocError, Global};
 
@@ -26,9 +26,9 @@ pub fn edit_of(alloc: Global, words: &[TagWord]) -> Result<Edit, AllocError>
 fn good_edit(alloc: Global, words: &[TagWord]) -> Result<Edit, AllocError>
     ensures { IfOk result (λ edit. edit_view edit ≡ said_edit words.now) }
 {
-    let add = added(alloc, words)?;
-    let remove = removed(alloc, words)?;
-    let set = set(alloc, words)?;
+    let add = tags_of(alloc, words, Deed::Add)?;
+    let remove = tags_of(alloc, words, Deed::Remove)?;
+    let set = tags_of(alloc, words, Deed::Set)?;
     let replace = if sets(words) { Some(set) } else { None };
     Ok(Edit {
         replace,
@@ -60,42 +60,14 @@ fn are_bad(words: &[TagWord]) -> bool
     !moves(words) || moves_empty(words)
 }
 
-// The tags that are added, in their order.
-fn added(alloc: Global, words: &[TagWord]) -> Result<Vec<String>, AllocError>
-    ensures { IfOk result (λ tags. map string_bytes tags.items ≡ filter_map added_by words.now) }
+// The tags of the words that do this with theirs, in their order. The empty text is none to set.
+fn tags_of(alloc: Global, words: &[TagWord], deed: Deed) -> Result<Vec<String>, AllocError>
+    ensures { IfOk result (λ tags. map string_bytes tags.items ≡ filter_map (tag_by deed) words.now) }
 {
     let mut tags = Vec::new(alloc);
     for word in words {
-        if let TagWord::Add(tag) = word {
+        if let Some(tag) = word.tag_for(deed) {
             tags.push(tag.clone()?)?;
-        }
-    }
-    Ok(tags)
-}
-
-// The tags that are removed.
-fn removed(alloc: Global, words: &[TagWord]) -> Result<Vec<String>, AllocError>
-    ensures { IfOk result (λ tags. map string_bytes tags.items ≡ filter_map removed_by words.now) }
-{
-    let mut tags = Vec::new(alloc);
-    for word in words {
-        if let TagWord::Remove(tag) = word {
-            tags.push(tag.clone()?)?;
-        }
-    }
-    Ok(tags)
-}
-
-// The tags that are set.
-fn set(alloc: Global, words: &[TagWord]) -> Result<Vec<String>, AllocError>
-    ensures { IfOk result (λ tags. map string_bytes tags.items ≡ filter_map set_by words.now) }
-{
-    let mut tags = Vec::new(alloc);
-    for word in words {
-        if let TagWord::Set(tag) = word {
-            if !tag.is_empty() {
-                tags.push(tag.clone()?)?;
-            }
         }
     }
     Ok(tags)

@@ -1,4 +1,4 @@
-ghost use Rattle.std.specs.Prelude.{IfOk};
+ghost use Rattle.std.specs.Prelude.{◌≡◌, IfOk, option_map, string_bytes};
 ghost use Rattle.keep_lines.specs.Prints.{Parses};
 ghost use Rattle.keep_lines.specs.TagLine.{IsTag, tag_text};
 
@@ -20,6 +20,30 @@ pub enum TagWord {
     Remove(String),
     /// To put a list in the tags' place, with this one in it. The empty text names none.
     Set(String),
+}
+
+/// What a word does with its tag.
+#[derive(Clone, Copy)]
+pub(crate) enum Deed {
+    Add,
+    Remove,
+    Set,
+}
+
+impl TagWord {
+    ghost use Rattle.keep_lines.specs.Edits.{tag_by};
+
+    /// The tag of the word, if it does this with it. The empty text is none to set.
+    pub(crate) fn tag_for(&self, deed: Deed) -> Option<&String>
+        ensures { option_map (λ tag. string_bytes tag.now) result ≡ tag_by deed self.now }
+    {
+        match (deed, self) {
+            (Deed::Add, TagWord::Add(tag)) => Some(tag),
+            (Deed::Remove, TagWord::Remove(tag)) => Some(tag),
+            (Deed::Set, TagWord::Set(tag)) if !tag.is_empty() => Some(tag),
+            _ => None,
+        }
+    }
 }
 
 /// The other tags that these words ask for: `FILTER WORD ..`. Whether they make an edit isn't asked.

@@ -1,13 +1,8 @@
-pub mod AnswerLemmas
-pub mod ArmingLemmas
 pub mod CountLemmas
 pub mod FirstLine
-pub mod KnownLemmas
 pub mod LineLemmas
-pub mod ListLines
 pub mod NextLine
 pub mod OpeningLemmas
-pub mod RestoreLemmas
 pub mod RunLemmas
 pub mod StatusLemmas
 pub mod StepLemmas

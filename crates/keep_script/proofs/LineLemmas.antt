@@ -1,7 +1,7 @@
 -- What the lines of some bytes are.
 use Rattle.std.proofs.Common.{◌≡◌, ℕ, ◌<◌, List, [], ◌∷◌, ◌++◌, Option, Some, None, IfSome, true, false, length, inl, inr, refl, sym, ap, ◌∙◌, append_assoc, append-nil, arith}
 use Rattle.std.proofs.lemmas.Bool.{cases_Bool, cases_lt}
-use Rattle.std.specs.Io.KnownBytes.{Consumes, IsAtEnd}
+use Rattle.std.specs.Io.KnownBytes.{Consumes, IsAtEnd, prepend_known}
 use Rattle.std.specs.List.{AllByRecursion, after_first, before_first, position_or_len}
 use Rattle.keep_script.proofs.NextLine.{before_first-all, before_first-none, cut}
 use Rattle.keep_script.specs.Line.{HasLineEnd, ended, is_line_end, lines_of, onto_first}
@@ -69,3 +69,9 @@ Starts-last (Some xs) (Some ys) [] some none taken end = absurd (omega arith)
 Starts-last (Some xs) (Some ys) (b ∷ line) some none taken end =
     let all : xs ≡ b ∷ line = taken ∙ ap (λ l. (b ∷ line) ++ l) end ∙ append-nil (b ∷ line) in
     ([], ap lines_of all ∙ lines_of-last b line none)
+
+-- a reader is at its end where nothing is left
+pub IsAtEnd-read : (unread : List ℕ) (r : Option (List ℕ)) → IsAtEnd (prepend_known unread r) → IsAtEnd r
+IsAtEnd-read unread None h = tt
+IsAtEnd-read [] (Some ys) h = h
+IsAtEnd-read (x ∷ unread) (Some ys) h = cc h

@@ -5,15 +5,16 @@ use Rattle.std.proofs.lemmas.Grind.{flat_map-append}
 use Rattle.std.specs.Io.KnownBytes.{Appends, Consumes, IsAtEnd, Keeps}
 use Rattle.std.specs.List.{AllByRecursion}
 use Rattle.keep_script.proofs.LineLemmas.{lines_of-front, lines_of-last}
-use Rattle.keep_script.specs.Answer.{Answered, IsBad, Shows}
+use Rattle.keep_answers.specs.Answer.{Answered, IsBad, Shows}
 use Rattle.keep_script.specs.Input.{LosesPiece}
-use Rattle.keep_script.specs.Known.{Writes}
+use Rattle.keep_answers.specs.Known.{Writes}
 use Rattle.keep_script.specs.Line.{HasLineEnd, ended, lines_of}
 use Rattle.keep_script.specs.Run.{Answer, BreaksOff, Ends, IsAnswer, ReadUpTo, Refuses, StopsAt}
-use Rattle.keep_script.specs.State.{State}
+use Rattle.keep_answers.specs.State.{State}
 use Rattle.keep_script.specs.Status.{ReachesEnd, status_at_end}
-use Rattle.keep_script.specs.Step.{AnswersLast, AnswersNext, BeginsAnswer, BeginsWith}
-use Rattle.keep_script.specs.Text.{bad_line_answer}
+use Rattle.keep_answers.specs.Answering.{BeginsAnswer}
+use Rattle.keep_script.specs.Step.{AnswersLast, AnswersNext, BeginsWith}
+use Rattle.keep_answers.specs.Text.{bad_line_answer}
 use Rattle.keep_lines.specs.declared.mistake.Mistake.{Mistake}
 use Rattle.keep_script.specs.declared.status.Status.{Status}
 use Rattle.keep_script.specs.declared.status.Status.TheVariants as ended_as

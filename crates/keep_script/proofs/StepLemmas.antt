@@ -3,17 +3,21 @@ use Rattle.std.proofs.Common.{◌≡◌, ℕ, ◌<◌, List, [], ◌∷◌, Opti
 use Rattle.std.proofs.KnownBytes.{Appends-kept, Appends-nil, Appends-trans}
 use Rattle.std.specs.Io.KnownBytes.{Appends, Keeps}
 use Rattle.std.specs.List.{before_first}
-use Rattle.keep_script.proofs.AnswerLemmas.{Shows-nothing}
+use Rattle.keep_answers.proofs.AnswerLemmas.{Shows-nothing}
 use Rattle.keep_script.proofs.LineLemmas.{Starts, lines_of-first}
 use Rattle.keep_lines.specs.declared.mistake.Mistake.{Mistake}
 use Rattle.keep_lines.specs.declared.mistake.Mistake.TheVariants.{TooLong}
-use Rattle.keep_script.specs.Answer.{Answered, IsBad}
+use Rattle.keep_answers.specs.Answer.{Answered, IsBad}
 use Rattle.keep_script.specs.Input.{EndsReading, LosesPiece}
-use Rattle.keep_script.specs.Known.{Writes}
+use Rattle.keep_answers.specs.Known.{Writes}
 use Rattle.keep_lines.specs.Line.{longest_line}
 use Rattle.keep_script.specs.Line.{is_line_end}
-use Rattle.keep_script.specs.State.{State}
-use Rattle.keep_script.specs.Step.{AnswersLast, AnswersLine, AnswersNext, BeginsAnswer, BeginsWith}
+use Rattle.keep_answers.specs.State.{State}
+use Rattle.keep_answers.specs.Answering.{AnswersLine, BeginsAnswer}
+use Rattle.keep_answers.specs.declared.halt.Halt.{Halt}
+use Rattle.keep_answers.specs.declared.halt.Halt.TheVariants as halted
+use Rattle.keep_script.specs.Status.{stop_of}
+use Rattle.keep_script.specs.Step.{AnswersLast, AnswersNext, BeginsWith}
 use Rattle.keep_script.specs.declared.status.Stop.{Stop}
 use Rattle.keep_script.specs.declared.status.Stop.TheVariants.{BadLine, ReadFailed, ScriptTooLong, WriteFailed, NoMemory}
 
@@ -52,16 +56,14 @@ AnswersNext-unread a b state left ahead left' WriteFailed r kept long failed sam
 AnswersNext-unread a b state left ahead left' NoMemory r kept long failed same = rw same ([], Appends-none a b kept, inl (Shows-nothing state))
 
 -- the line was read, and its answer failed
-pub AnswersNext-failed : (a b c : Option (List ℕ)) (state after : State) (line : List ℕ) (left ahead left' : Option (List ℕ)) (stop : Stop) (r : Result Bool Stop) → Keeps a b → Starts left line
-    → Writes b c (λ t. AnswersLine state line t (Err stop) after) → r ≡ Err stop → Writes a c (λ t. AnswersNext state left ahead left' t r after)
-AnswersNext-failed a b c state after line left ahead left' (BadLine why) r kept start (t, h, answer) same =
-    rw same (Writes-after a b c (λ t. AnswersNext state left ahead left' t (Err (BadLine why)) after) kept (t, h, (BeginsWith-from left line (λ l. IsBad state l why) start answer.0, answer.1)))
-AnswersNext-failed a b c state after line left ahead left' ReadFailed r kept start (t, h, answer) same = absurd answer
-AnswersNext-failed a b c state after line left ahead left' ScriptTooLong r kept start (t, h, answer) same = absurd answer
-AnswersNext-failed a b c state after line left ahead left' WriteFailed r kept start (t, h, answer) same =
-    rw same (Writes-after a b c (λ t. AnswersNext state left ahead left' t (Err WriteFailed) after) kept (t, h, inr (BeginsWith-from left line (λ l. BeginsAnswer state l t after) start answer)))
-AnswersNext-failed a b c state after line left ahead left' NoMemory r kept start (t, h, answer) same =
-    rw same (Writes-after a b c (λ t. AnswersNext state left ahead left' t (Err NoMemory) after) kept (t, h, inr (BeginsWith-from left line (λ l. BeginsAnswer state l t after) start answer)))
+pub AnswersNext-failed : (a b c : Option (List ℕ)) (state after : State) (line : List ℕ) (left ahead left' : Option (List ℕ)) (halt : Halt) (stop : Stop) (r : Result Bool Stop) → Keeps a b → Starts left line
+    → Writes b c (λ t. AnswersLine state line t (Err halt) after) → stop ≡ stop_of halt → r ≡ Err stop → Writes a c (λ t. AnswersNext state left ahead left' t r after)
+AnswersNext-failed a b c state after line left ahead left' (halted.BadLine why) stop r kept start (t, h, answer) is same =
+    rw (same, is) (Writes-after a b c (λ t. AnswersNext state left ahead left' t (Err (BadLine why)) after) kept (t, h, (BeginsWith-from left line (λ l. IsBad state l why) start answer.0, answer.1)))
+AnswersNext-failed a b c state after line left ahead left' halted.WriteFailed stop r kept start (t, h, answer) is same =
+    rw (same, is) (Writes-after a b c (λ t. AnswersNext state left ahead left' t (Err WriteFailed) after) kept (t, h, inr (BeginsWith-from left line (λ l. BeginsAnswer state l t after) start answer)))
+AnswersNext-failed a b c state after line left ahead left' halted.NoMemory stop r kept start (t, h, answer) is same =
+    rw (same, is) (Writes-after a b c (λ t. AnswersNext state left ahead left' t (Err NoMemory) after) kept (t, h, inr (BeginsWith-from left line (λ l. BeginsAnswer state l t after) start answer)))
 
 -- the last line was answered
 pub AnswersLast-some : (state after : State) (line t : List ℕ) → 0 < length line → Answered state line t after → AnswersLast state line t after

@@ -1,11 +1,6 @@
-pub mod Answer
-pub mod Arming
+pub mod Begun
 pub mod Input
-pub mod Known
 pub mod Line
-pub mod RawFile
 pub mod Run
-pub mod State
 pub mod Status
 pub mod Step
-pub mod Text

@@ -1,6 +1,7 @@
 -- The lines of a script, as bytes.
-use Rattle.std.specs.Prelude.{ℕ, ◌<◌, ◌==◌, Bool, if◌then◌else◌, List, [], ◌∷◌, ◌++◌, length, codes}
+use Rattle.std.specs.Prelude.{ℕ, ◌<◌, ◌==◌, Bool, if◌then◌else◌, List, [], ◌∷◌, length}
 use Rattle.std.specs.List.{flat_map, position_or_len}
+use Rattle.keep_answers.specs.Known.{line}
 
 -- how many bytes a run reads at most
 abbrev pub longest_script : ℕ
@@ -23,10 +24,6 @@ onto_first b (line ∷ lines) = (b ∷ line) ∷ lines
 abbrev pub lines_of : List ℕ → List (List ℕ)
 lines_of [] = []
 lines_of (b ∷ bytes) = if is_line_end b then [] ∷ lines_of bytes else onto_first b (lines_of bytes)
-
--- a text with a line end
-abbrev pub line : List ℕ → List ℕ
-line text = text ++ codes "\n"
 
 -- lines, each with its end
 abbrev pub ended : List (List ℕ) → List ℕ

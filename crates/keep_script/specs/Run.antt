@@ -1,18 +1,21 @@
 -- What a run over the lines of a script writes, and how it ends.
 use Rattle.std.specs.Prelude.{◌≡◌, ◌≢◌, ℕ, ◌+◌, ◌⊎◌, List, [], ◌∷◌, ◌++◌, Option, None, IfSome}
-use Rattle.std.specs.FinMap as map
 use Rattle.std.specs.Io.KnownBytes.{Appends, Consumes, IsAtEnd, Keeps}
 use Rattle.std.specs.List.{AllByRecursion}
+use Rattle.keep_jobs.specs.Job.{SettingsData}
+use Rattle.keep_jobs.specs.Kits.{KitData}
 use Rattle.keep_shelf.specs.Shelved.{Shelved}
-use Rattle.keep_ledger.specs.Opened.{IsNotOpened, bad_entry}
-use Rattle.keep_ledger.specs.declared.open_error.OpenError.TheVariants.{Memory}
+use Rattle.keep_ledger.specs.OnShelf.{OnShelf}
+use Rattle.keep_ledger.specs.Opened.{IsNotOpened, IsOpened}
+use Rattle.keep_opening.specs.declared.open_error.OpenError.TheVariants.{Memory}
 use Rattle.keep_lines.specs.declared.mistake.Mistake.{Mistake}
-use Rattle.keep_script.specs.Answer.{Answered, IsBad, Shows}
-use Rattle.keep_script.specs.Known.{AppendsPart}
+use Rattle.keep_answers.specs.Answer.{Answered, IsBad}
+use Rattle.keep_answers.specs.Known.{AppendsPart}
 use Rattle.keep_script.specs.Line.{HasLineEnd, ended, lines_of}
-use Rattle.keep_script.specs.State.{State}
+use Rattle.keep_answers.specs.State.{State, kit_of}
+use Rattle.keep_script.specs.Begun.{begun}
 use Rattle.keep_script.specs.Status.{status_at_end}
-use Rattle.keep_script.specs.Text.{bad_line_answer}
+use Rattle.keep_answers.specs.Text.{bad_line_answer}
 use Rattle.keep_script.specs.declared.status.Stop.{Stop}
 use Rattle.keep_script.specs.declared.status.Stop.TheVariants as stop
 use Rattle.keep_script.specs.declared.status.Status.{Status}
@@ -59,7 +62,8 @@ pub record BreaksOff (state : State) (script : List (List ℕ)) (text : List ℕ
   pub split : script ≡ lines ++ others
   pub answer : Answer state 1 lines (text ++ rest) status after
 
--- what is written by a run from this state, over a reader that had the known bytes, by how it ended: a book is opened before its run begins
+-- what is written by a run from this state, over a reader that had the known bytes, by how it ended: a book is opened
+-- before its run begins
 abbrev pub Ends : State → Option (List ℕ) → Option (List ℕ) → List ℕ → Status → State → Type 0
 Ends state known left text Done after = IsAtEnd left × IsAnswer state known text Done after
 Ends state known left text Faulted after = IsAtEnd left × IsAnswer state known text Faulted after
@@ -72,12 +76,24 @@ Ends state known left text NoMemory after =
     IfSome known (λ script. BreaksOff state (lines_of script) text after)
 Ends state known left text (NotOpened error) after = ⊥
 
--- the same of a run that opens this shelf first: where it isn't opened, for another cause than memory, nothing is read or written
-abbrev pub EndsOver : Shelved → State → Option (List ℕ) → Option (List ℕ) → List ℕ → Status → State → Type 0
-EndsOver shelf state known left text (NotOpened error) after =
-    IsNotOpened (bad_entry (map.keys shelf.content)) error × (error ≢ Memory) × Keeps known left × Shows state [] text after
-EndsOver shelf state known left text status after =
-    (bad_entry (map.keys shelf.content) ≡ None) × Ends state known left text status after
+-- nothing is read or written, and the kit stays
+pub record IsIdle (kit : KitData) (known left : Option (List ℕ)) (text : List ℕ) (after : State) : Type 0 where
+  pub unread : Keeps known left
+  pub unwritten : text ≡ []
+  pub kit_stays : kit_of after ≡ kit
+
+-- the same of a run from the ledger that is opened of this shelf, with nothing armed
+abbrev pub EndsFrom : Shelved → SettingsData → KitData → Option (List ℕ) → Option (List ℕ) → List ℕ → Status → State → Type 0
+EndsFrom shelf settings kit known left text status after =
+    (ledger : OnShelf) × IsOpened shelf ledger × Ends (begun settings kit ledger) known left text status after
+
+-- the same of a run that opens this shelf first, which may fail, or find no memory
+abbrev pub EndsOver : Shelved → SettingsData → KitData → Option (List ℕ) → Option (List ℕ) → List ℕ → Status → State → Type 0
+EndsOver shelf settings kit known left text (NotOpened error) after =
+    IsNotOpened shelf error × (error ≢ Memory) × IsIdle kit known left text after
+EndsOver shelf settings kit known left text NoMemory after =
+    IsIdle kit known left text after ⊎ EndsFrom shelf settings kit known left text NoMemory after
+EndsOver shelf settings kit known left text status after = EndsFrom shelf settings kit known left text status after
 
 -- what is written at a bad line, and how the run ends then
 abbrev pub Refuses : Option (List ℕ) → Option (List ℕ) → ℕ → Mistake → Status → Type 0

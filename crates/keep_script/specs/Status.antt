@@ -1,9 +1,9 @@
 -- How a run ends.
 use Rattle.std.specs.Prelude.{◌≡◌, ◌⊎◌, ℕ, Bool, true, false, Result, Ok, Err}
-use Rattle.keep_ledger.specs.declared.open_error.OpenError.{OpenError}
-use Rattle.keep_ledger.specs.declared.open_error.OpenError.TheVariants.{BadEntry, Fault, Memory}
-use Rattle.keep_lines.specs.declared.command.LineError.{LineError}
-use Rattle.keep_lines.specs.declared.command.LineError.TheVariants as line_error
+use Rattle.keep_opening.specs.declared.open_error.OpenError.{OpenError}
+use Rattle.keep_opening.specs.declared.open_error.OpenError.TheVariants.{BadEntry, Fault, Memory}
+use Rattle.keep_answers.specs.declared.halt.Halt.{Halt}
+use Rattle.keep_answers.specs.declared.halt.Halt.TheVariants as halt
 use Rattle.keep_script.specs.declared.status.Status.{Status}
 use Rattle.keep_script.specs.declared.status.Status.TheVariants as ended
 use Rattle.keep_script.specs.declared.status.Stop.{Stop}
@@ -24,10 +24,11 @@ status_unopened Fault = ended.NotOpened Fault
 abbrev pub ReachesEnd : Status → Type 0
 ReachesEnd status = (status ≡ ended.Done) ⊎ (status ≡ ended.Faulted)
 
--- a run stops at a line that isn't parsed
-abbrev pub stop_of : LineError → Stop
-stop_of (line_error.Bad why) = BadLine why
-stop_of line_error.Memory = NoMemory
+-- a run stops at a line that isn't answered to its end
+abbrev pub stop_of : Halt → Stop
+stop_of (halt.BadLine why) = BadLine why
+stop_of halt.WriteFailed = WriteFailed
+stop_of halt.NoMemory = NoMemory
 
 -- the status of a run that stops at the line of this number, and why
 abbrev pub status_at : Stop → ℕ → Status

@@ -1,41 +1,13 @@
 -- What one line of a script gets done, by whether and why it failed.
 use Rattle.std.specs.Prelude.{◌≡◌, ℕ, ◌⊎◌, List, [], ◌∷◌, ◌++◌, Option, IfSome, Bool, true, false, Result, Ok, Err, codes}
 use Rattle.std.specs.Io.KnownBytes.{Consumes, IsAtEnd}
-use Rattle.keep_script.specs.Answer.{Answered, AnswersTo, IsBad, NamesNothing, Shows}
+use Rattle.keep_answers.specs.Answer.{Answered, IsBad, Shows}
+use Rattle.keep_answers.specs.Answering.{BeginsAnswer}
+use Rattle.keep_answers.specs.State.{State}
 use Rattle.keep_script.specs.Input.{LosesPiece}
 use Rattle.keep_script.specs.Line.{HasLineEnd, lines_of}
-use Rattle.keep_script.specs.State.{State}
-use Rattle.keep_lines.specs.declared.command.Command.{Command}
 use Rattle.keep_script.specs.declared.status.Stop.{Stop}
 use Rattle.keep_script.specs.declared.status.Stop.TheVariants.{BadLine, ReadFailed, ScriptTooLong, WriteFailed, NoMemory}
-
--- nothing was done for the command, or the text is a first part of its answer
-abbrev pub BeginsCommand : State → Command → List ℕ → State → Type 0
-BeginsCommand state command text after =
-    Shows state [] text after ⊎ ((rest : List ℕ) × AnswersTo state command (text ++ rest) after)
-
--- what is written for a command, and the state after it
-abbrev pub AnswersCommand : State → Command → List ℕ → Result (Unit {0}) Stop → State → Type 0
-AnswersCommand state command text (Ok _) after = AnswersTo state command text after
-AnswersCommand state command text (Err (BadLine why)) after = NamesNothing state command why × Shows state [] text after
-AnswersCommand state command text (Err ReadFailed) after = ⊥
-AnswersCommand state command text (Err ScriptTooLong) after = ⊥
-AnswersCommand state command text (Err WriteFailed) after = BeginsCommand state command text after
-AnswersCommand state command text (Err NoMemory) after = BeginsCommand state command text after
-
--- nothing was done for the line, or the text is a first part of its answer
-abbrev pub BeginsAnswer : State → List ℕ → List ℕ → State → Type 0
-BeginsAnswer state line text after =
-    Shows state [] text after ⊎ ((rest : List ℕ) × Answered state line (text ++ rest) after)
-
--- what is written for a line, and the state after it
-abbrev pub AnswersLine : State → List ℕ → List ℕ → Result (Unit {0}) Stop → State → Type 0
-AnswersLine state line text (Ok _) after = Answered state line text after
-AnswersLine state line text (Err (BadLine why)) after = IsBad state line why × Shows state [] text after
-AnswersLine state line text (Err ReadFailed) after = ⊥
-AnswersLine state line text (Err ScriptTooLong) after = ⊥
-AnswersLine state line text (Err WriteFailed) after = BeginsAnswer state line text after
-AnswersLine state line text (Err NoMemory) after = BeginsAnswer state line text after
 
 -- known bytes begin with this line
 abbrev pub BeginsWith : Option (List ℕ) → (List ℕ → Type 0) → Type 0
@@ -47,7 +19,8 @@ abbrev pub AnswersLast : State → List ℕ → List ℕ → State → Type 0
 AnswersLast state [] text after = Shows state [] text after
 AnswersLast state (b ∷ line) text after = Answered state (b ∷ line) text after
 
--- what is written for the next line, and the state after it; left and ahead are what is left to read, with what was read ahead, and left' without it
+-- what is written for the next line, and the state after it; left and ahead are what is left to read, with what was read
+-- ahead, and left' without it
 abbrev pub AnswersNext : State → Option (List ℕ) → Option (List ℕ) → Option (List ℕ) → List ℕ
     → Result Bool Stop → State → Type 0
 AnswersNext state left ahead left' text (Ok true) after =

@@ -6,7 +6,7 @@ ghost use Rattle.keep_lines.specs.declared.mistake.Mistake.{Mistake};
 ghost use Rattle.keep_lines.specs.declared.mistake.Mistake.TheVariants.{TooLong};
 ghost use Rattle.keep_script.specs.Line.{HasLineEnd, is_line_end, longest_script};
 
-use crate::output::flush;
+use crate::flushing::flush;
 use crate::status::Stop;
 use keep_lines::Mistake;
 use std::alloc::{AllocError, Global};

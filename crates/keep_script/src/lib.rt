@@ -1,18 +1,11 @@
-//! The run of a script: its lines are read, done in order, and answered.
+//! The run of a script: its lines are read, and answered in order.
 #![tactic(auto)]
 
-mod answering;
-mod arming;
-mod asking;
+mod flushing;
 mod input;
-mod listing;
-mod notes;
-mod output;
-mod raw_file;
-mod reply;
 mod script;
-mod session;
 mod status;
+mod turns;
 
-pub use script::{run, run_on};
+pub use script::{Setup, run, run_on};
 pub use status::Status;

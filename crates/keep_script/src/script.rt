@@ -2,25 +2,33 @@ ghost use Rattle.std.specs.Prelude.{◌≡◌, ◌≢◌, ◌≤◌, ◌<◌, �
 ghost use Rattle.std.specs.Io.KnownBytes.{Keeps};
 ghost use Rattle.keep_book.specs.Armed.{HasSums, hooks_of, ledger_of, on_shelf};
 ghost use Rattle.keep_jobs.specs.Kits.{kit_view};
-ghost use Rattle.keep_jobs.specs.Job.{settings_view};
-ghost use Rattle.keep_script.specs.Known.{Writes, WritesLines};
+ghost use Rattle.keep_answers.specs.Known.{Writes, WritesLines};
+ghost use Rattle.keep_answers.specs.State.{State, kit_of};
+ghost use Rattle.keep_script.specs.Begun.{begun_over, settings_of};
 ghost use Rattle.keep_script.specs.Line.{longest_script};
 ghost use Rattle.keep_script.specs.Run.{Ends, EndsOver};
-ghost use Rattle.keep_script.specs.State.{State, begun, begun_over, kit_of};
 ghost use Rattle.keep_script.specs.Status.{ReachesEnd};
 
-use crate::output::flush;
-use crate::session::Session;
+use crate::flushing::flush;
 use crate::status::Status;
-use keep_backup::Cut;
+use crate::turns::Turns;
 use keep_book::Book;
-use keep_jobs::{Kit, Settings};
+use keep_jobs::Kit;
 use keep_shelf::Shelf;
 use std::alloc::Global;
 use std::io::{Read, Write};
 
-/// Answers the lines of a script in turn, over the live files of a shelf, which has to have nothing else on it. The
-/// shelf is let go at the end.
+/// What a run takes its memory from, and what its jobs go by from the first line to the last.
+#[derive(Clone, Copy)]
+pub struct Setup {
+    pub alloc: Global,
+    /// After how many bytes a backup cuts a file into blobs: 1 to 8,388,608.
+    pub cut: u32,
+    /// The moment for marks and sweeps: whole seconds since 1970-01-01T00:00:00Z.
+    pub now: i64,
+}
+
+/// Answers the lines of a script in turn, over the book that is opened of a shelf. The shelf is let go at the end.
 ///
 /// A line has at most 1,048,576 bytes before its end. The reader is given up after 67,108,864
 /// bytes. Whatever ends the run, the lines before were answered.
@@ -30,22 +38,19 @@ use std::io::{Read, Write};
 /// lines are written already, and the run ends as `NoMemory`.
 ///
 /// Lines name the filters of the kit, and arm its vetoes and watches, which are moved out of it: what is left in the
-/// kit is what the last line left. Files are cut for a backup after every `cut` bytes, 1 to 8,388,608. For marks and
-/// sweeps it is `now`, in whole seconds since 1970-01-01T00:00:00Z, from the first line to the last.
+/// kit is what the last line left.
 pub fn run<S: Shelf, R: Read, W: Write>(
-    alloc: Global,
-    reader: &mut R,
-    writer: &mut W,
+    setup: Setup,
     shelf: S,
     kit: &mut Kit,
-    cut: u32,
-    now: i64,
+    reader: &mut R,
+    writer: &mut W,
 ) -> Status
-    requires some { 0 < cut }
-    requires most { cut ≤ 8_388_608 }
+    requires some { 0 < setup.cut }
+    requires most { setup.cut ≤ 8_388_608 }
     ensures answers { Writes (W.contents writer.old) (W.contents writer.new) (λ text. (after : State)
         × (kit_view kit.new ≡ kit_of after)
-        × EndsOver (S.shelved shelf) (begun cut now (kit_view kit.old) (S.shelved shelf))
+        × EndsOver (S.shelved shelf) (settings_of setup) (kit_view kit.old)
         (R.remaining reader.old) (R.remaining reader.new) text result after) }
     ensures whole { result ≢ Status.WriteFailed → WritesLines (W.contents writer.old) (W.contents writer.new) }
     ensures limit { ReachesEnd result →
@@ -53,12 +58,8 @@ pub fn run<S: Shelf, R: Read, W: Write>(
     ensures past_limit { result ≡ Status.ScriptTooLong →
         IfSome (R.remaining reader.old) (λ script. longest_script ≤ length script) }
 {
-    let settings = Settings {
-        cut: Cut::after(cut),
-        now,
-    };
-    match Book::open(alloc, shelf) {
-        Ok(mut book) => run_on(alloc, settings, kit, &mut book, reader, writer),
+    match Book::open(setup.alloc, shelf) {
+        Ok(mut book) => run_on(setup, &mut book, kit, reader, writer),
         Err(error) => Status::from(error),
     }
 }
@@ -66,18 +67,19 @@ pub fn run<S: Shelf, R: Read, W: Write>(
 /// Answers the lines of a script over this book, which is left as the last line left it, as the kit is. The same holds
 /// of it as of `run`, which opens a book and goes on so.
 pub fn run_on<S: Shelf, R: Read, W: Write>(
-    alloc: Global,
-    settings: Settings,
-    kit: &mut Kit,
+    setup: Setup,
     book: &mut Book<S>,
+    kit: &mut Kit,
     reader: &mut R,
     writer: &mut W,
 ) -> Status
-    requires { HasSums book.old }
+    requires some { 0 < setup.cut }
+    requires most { setup.cut ≤ 8_388_608 }
+    requires sums { HasSums book.old }
     ensures answers { Writes (W.contents writer.old) (W.contents writer.new) (λ text. (after : State)
         × (ledger_of book.new ≡ after.book) × ((on_shelf book.new).shelf.failures ≡ after.failures)
         × (hooks_of book.new ≡ after.armed) × (kit_view kit.new ≡ kit_of after)
-        × Ends (begun_over (settings_view settings) (kit_view kit.old) book.old)
+        × Ends (begun_over (settings_of setup) (kit_view kit.old) book.old)
         (R.remaining reader.old) (R.remaining reader.new) text result after) }
     ensures sums { HasSums book.new }
     ensures whole { result ≢ Status.WriteFailed → WritesLines (W.contents writer.old) (W.contents writer.new) }
@@ -86,10 +88,10 @@ pub fn run_on<S: Shelf, R: Read, W: Write>(
     ensures past_limit { result ≡ Status.ScriptTooLong →
         IfSome (R.remaining reader.old) (λ script. longest_script ≤ length script) }
 {
-    let Ok(mut session) = Session::new(alloc, settings) else {
+    let Ok(mut turns) = Turns::new(setup) else {
         return Status::NoMemory;
     };
-    let status = session.answer_all(kit, book, reader, writer);
+    let status = turns.answer_all(kit, book, reader, writer);
     finish(status, writer)
 }
 

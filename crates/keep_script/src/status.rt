@@ -2,9 +2,10 @@ ghost use Rattle.std.specs.Prelude.{◌≡◌};
 ghost use Rattle.keep_script.specs.Status.{status_at, status_at_end, status_once_flushed};
 ghost use Rattle.keep_script.specs.declared.status.Stop.TheVariants.{NoMemory};
 
+use keep_answers::Halt;
 use keep_ledger::OpenError;
-use keep_lines::{LineError, Mistake};
-use std::alloc::{AllocError, AllocFailed};
+use keep_lines::Mistake;
+use std::alloc::AllocError;
 
 /// How a run ended.
 #[derive(PartialEq, Eq, Drop)]
@@ -90,15 +91,16 @@ impl Stop {
     }
 }
 
-impl From<LineError> for Stop {
+impl From<Halt> for Stop {
     ghost use Rattle.keep_script.specs.Status.{stop_of};
 
-    ghost from_gives = { λ error stop. stop ≡ stop_of error };
+    ghost from_gives = { λ halt stop. stop ≡ stop_of halt };
 
-    fn from(error: LineError) -> Stop {
-        match error {
-            LineError::Bad(why) => Stop::BadLine(why),
-            LineError::Memory => Stop::NoMemory,
+    fn from(halt: Halt) -> Stop {
+        match halt {
+            Halt::BadLine(why) => Stop::BadLine(why),
+            Halt::WriteFailed => Stop::WriteFailed,
+            Halt::NoMemory => Stop::NoMemory,
         }
     }
 }
@@ -107,14 +109,6 @@ impl From<AllocError> for Stop {
     ghost from_gives = { λ _ stop. stop ≡ NoMemory };
 
     fn from(_error: AllocError) -> Stop {
-        Stop::NoMemory
-    }
-}
-
-impl<T: Drop> From<AllocFailed<T>> for Stop {
-    ghost from_gives = { λ _ stop. stop ≡ NoMemory };
-
-    fn from(_error: AllocFailed<T>) -> Stop {
         Stop::NoMemory
     }
 }

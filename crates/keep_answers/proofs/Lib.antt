@@ -1,0 +1,6 @@
+pub mod AnswerLemmas
+pub mod ArmingLemmas
+pub mod KnownLemmas
+pub mod ListLines
+pub mod MeaningLemmas
+pub mod RestoreLemmas

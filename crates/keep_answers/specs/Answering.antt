@@ -1,0 +1,38 @@
+-- What is written for a line, by whether and why it isn't answered to its end.
+use Rattle.std.specs.Prelude.{◌≡◌, ℕ, ◌⊎◌, List, [], ◌++◌, Result, Ok, Err}
+use Rattle.keep_lines.specs.declared.mistake.Mistake.{Mistake}
+use Rattle.keep_answers.specs.Answer.{Answered, AnswersTo, IsBad, Shows}
+use Rattle.keep_answers.specs.Meaning.{MeantData}
+use Rattle.keep_answers.specs.State.{State}
+use Rattle.keep_answers.specs.declared.halt.Halt.{Halt}
+use Rattle.keep_answers.specs.declared.halt.Halt.TheVariants.{BadLine, WriteFailed, NoMemory}
+
+-- nothing was done for what a command means, or the text is a first part of its answer
+abbrev pub BeginsMeant : State → MeantData → List ℕ → State → Type 0
+BeginsMeant state meant text after =
+    Shows state [] text after ⊎ ((rest : List ℕ) × AnswersTo state meant (text ++ rest) after)
+
+-- what is written for what a command means, and the state after it
+abbrev pub AnswersMeant : State → MeantData → List ℕ → Result (Unit {0}) Halt → State → Type 0
+AnswersMeant state meant text (Ok _) after = AnswersTo state meant text after
+AnswersMeant state meant text (Err (BadLine why)) after = ⊥
+AnswersMeant state meant text (Err WriteFailed) after = BeginsMeant state meant text after
+AnswersMeant state meant text (Err NoMemory) after = BeginsMeant state meant text after
+
+-- the same by what is due to be meant: the line is bad, or this is written for what is meant
+abbrev pub AnswersDue : State → Result MeantData Mistake → List ℕ → Result (Unit {0}) Halt → State → Type 0
+AnswersDue state due text (Err (BadLine why)) after = (due ≡ Err why) × Shows state [] text after
+AnswersDue state due text result after =
+    (meant : MeantData) × (due ≡ Ok meant) × AnswersMeant state meant text result after
+
+-- nothing was done for the line, or the text is a first part of its answer
+abbrev pub BeginsAnswer : State → List ℕ → List ℕ → State → Type 0
+BeginsAnswer state line text after =
+    Shows state [] text after ⊎ ((rest : List ℕ) × Answered state line (text ++ rest) after)
+
+-- what is written for a line, and the state after it
+abbrev pub AnswersLine : State → List ℕ → List ℕ → Result (Unit {0}) Halt → State → Type 0
+AnswersLine state line text (Ok _) after = Answered state line text after
+AnswersLine state line text (Err (BadLine why)) after = IsBad state line why × Shows state [] text after
+AnswersLine state line text (Err WriteFailed) after = BeginsAnswer state line text after
+AnswersLine state line text (Err NoMemory) after = BeginsAnswer state line text after

@@ -1,0 +1,9 @@
+pub mod Answer
+pub mod Answering
+pub mod Arming
+pub mod Files
+pub mod Halting
+pub mod Known
+pub mod Meaning
+pub mod State
+pub mod Text

@@ -1,8 +1,0 @@
-use Rattle.std.proofs.Common.{◌≡◌, ◌++◌, drop, map, string_bytes}
-use Rattle.std.specs.List.{filter_map}
-use Rattle.keep_lines.specs.Edits.{set_by}
-use Rattle.keep_lines.proofs.edits.set.Given as goal
-
-abbrev pub invariant-loop-word : goal.invariant-loop-word
-invariant-loop-word l =
-    map string_bytes l.tags.items ++ filter_map set_by (drop l.word-index l.words) ≡ filter_map set_by l.words
