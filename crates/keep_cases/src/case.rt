@@ -71,15 +71,16 @@ impl Case {
     }
 
     /// Runs the case, and prints what comes of it.
-    pub fn run<W: Write>(&self, alloc: Global, writer: &mut W) -> io::Result<()> {
+    pub fn run<W: Write>(&self, rt: &HostRuntime, writer: &mut W) -> io::Result<()> {
         if self.name.is_empty() {
             return Ok(());
         }
+        let alloc = rt.alloc();
         let words: Vec<&str> = self.words.iter().map(|word| word.as_str()).collect(alloc)?;
         let mut said = Vec::new(alloc);
         writeln!(writer, "= {}", self.name)?;
         let mut script = self.script.as_slice();
-        let ending = keepd(alloc, words.as_slice(), &mut script, writer);
+        let ending = keepd(rt, words.as_slice(), &mut script, writer);
         let (code, _) = tell(ending, &mut said);
         write!(writer, "-> {code}")?;
         if said.is_empty() {

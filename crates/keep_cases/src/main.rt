@@ -18,12 +18,12 @@ fn main(rt: HostRuntime) -> io::Result<()> {
     for row in reader.lines(alloc) {
         let row = row?;
         if let Some(name) = row.strip_prefix("= ") {
-            case.run(alloc, &mut writer)?;
+            case.run(&rt, &mut writer)?;
             case.begin(alloc, name)?;
         } else {
             case.add(alloc, row.as_str())?;
         }
     }
-    case.run(alloc, &mut writer)?;
+    case.run(&rt, &mut writer)?;
     writer.flush()
 }

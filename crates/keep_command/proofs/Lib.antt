@@ -1,4 +1,5 @@
 mod BadWordLemmas
+mod EndingLemmas
 mod NumberLemmas
 mod OptionLemmas
 mod StoredLemmas

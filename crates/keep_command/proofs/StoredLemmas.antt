@@ -8,6 +8,7 @@ use Rattle.keep_hooks.specs.declared.measure.Measure.TheVariants.{Events, FilesW
 use Rattle.keep_filters.specs.declared.pick.Pick.{Pick}
 use Rattle.keep_filters.specs.declared.pick.Pick.TheVariants.{Any, Host, Tagged}
 use Rattle.keep_jobs.specs.Kits.{NamedRule}
+use Rattle.keep_shelf.specs.Shelved.{Shelved}
 use Rattle.keep_command.specs.Option.{OptionsData}
 use Rattle.keep_command.specs.Running.{KeepsLines, Runs, RunsWith, stored_filters, stored_vetoes, stored_watches}
 use Rattle.keep_script.specs.declared.status.Status.{Status}
@@ -25,17 +26,17 @@ pub are-watches : (first second : List ℕ) (p q : Measure) → first ≡ codes 
 are-watches first second p q events is_events files is_files = rw (events, is_events, files, is_files) refl
 
 -- a run with just the filters of the kit is one by the options, however it ended
-pub runs-by : {E : Type 0} (r : Result Status E) (options : OptionsData) (filters : List NamedRule) (host tag : String Global) (known left old new : Option (List ℕ))
+pub runs-by : {E : Type 0} (r : Result Status E) (shelf : Shelved) (options : OptionsData) (filters : List NamedRule) (host tag : String Global) (known left old new : Option (List ℕ))
     → string_bytes host ≡ options.host → string_bytes tag ≡ options.tagged → filters ≡ stored_filters host tag
-    → IfOk r (λ status. RunsWith filters options known left old new status × KeepsLines known old new status) → IfOk r (λ status. Runs options known left old new status × KeepsLines known old new status)
-runs-by (Ok status) options filters host tag known left old new of_host of_tag same h = (
+    → IfOk r (λ status. RunsWith shelf filters options known left old new status × KeepsLines known old new status) → IfOk r (λ status. Runs shelf options known left old new status × KeepsLines known old new status)
+runs-by (Ok status) shelf options filters host tag known left old new of_host of_tag same h = (
   record {
     host = host;
     tag = tag;
     of_host = of_host;
     of_tag = of_tag;
-    answers = subst (λ found. RunsWith found options known left old new status) same h.0;
+    answers = subst (λ found. RunsWith shelf found options known left old new status) same h.0;
   },
   h.1,
 )
-runs-by (Err error) options filters host tag known left old new of_host of_tag same h = tt
+runs-by (Err error) shelf options filters host tag known left old new of_host of_tag same h = tt

@@ -1,9 +1,12 @@
 -- How the program tells of its end.
-use Rattle.std.specs.Prelude.{◌≡◌, ℕ, List, [], ◌++◌, Some, None, codes}
+use Rattle.std.specs.Prelude.{◌≡◌, ℕ, List, [], ◌++◌, Some, None, Result, Ok, Err, codes}
 use Rattle.std.specs.Borrow.{Bor}
 use Rattle.std.specs.Fmt.{decimal}
-use Rattle.keep_ledger.specs.OpenError.{open_error_text}
+use Rattle.keep_folder.specs.declared.error.FolderError.{FolderError}
+use Rattle.keep_folder.specs.declared.error.FolderError.TheVariants as unopened
+use Rattle.keep_opening.specs.OpenError.{open_error_text}
 use Rattle.keep_lines.specs.Mistake.{mistake_text}
+use Rattle.keep_script.specs.declared.status.Status.{Status}
 use Rattle.keep_script.specs.declared.status.Status.TheVariants.{Done, Faulted, BadLine, ReadFailed, ScriptTooLong, WriteFailed, NoMemory, NotOpened}
 use Rattle.keep_command.specs.Option.{IsBadWord}
 use Rattle.keep_command.specs.declared.ending.Ending.{Ending}
@@ -22,15 +25,26 @@ code_of (ending.Ran WriteFailed) = 1
 code_of (ending.Ran NoMemory) = 1
 code_of (ending.Ran (NotOpened error)) = 1
 code_of (ending.BadOptions word) = 2
+code_of (ending.NoFolder error) = 1
 
 -- the end where no options are read, and no word is named
 abbrev pub ending_of : BadOptions → Ending
 ending_of Refused = ending.BadOptions None
 ending_of Memory = ending.Ran NoMemory
 
+-- the end after a run, or where it has no memory
+abbrev pub ending_after : {E : Type 0} → Result Status E → Ending
+ending_after (Ok status) = ending.Ran status
+ending_after (Err error) = ending.Ran NoMemory
+
+-- the end where the folder isn't opened
+abbrev pub ending_unopened : FolderError → Ending
+ending_unopened unopened.Memory = ending.Ran NoMemory
+ending_unopened error = ending.NoFolder error
+
 -- how the program is called
 abbrev pub usage : List ℕ
-usage = codes "usage: keepd [--cut N] [--now TIME] [--host H] [--tagged T] [--drops N] < SCRIPT"
+usage = codes "usage: keepd [--cut N] [--now TIME] [--host H] [--tagged T] [--drops N] [--folder DIR] < SCRIPT"
 
 -- the line on standard error
 abbrev pub ending_text : Ending → List ℕ
@@ -46,6 +60,13 @@ ending_text (ending.Ran (NotOpened error)) = codes "keepd: cannot open: " ++ ope
 ending_text (ending.BadOptions None) = codes "keepd: bad options; " ++ usage
 ending_text (ending.BadOptions (Some word)) =
     codes "keepd: bad options: " ++ (word.now ++ (codes "; " ++ usage))
+ending_text (ending.NoFolder unopened.BadConfig) =
+    codes "keepd: cannot open: BadConfig; name a folder with the config of a repository"
+ending_text (ending.NoFolder unopened.Locked) =
+    codes "keepd: cannot open: Locked; wait for the end of the other run on this folder"
+ending_text (ending.NoFolder unopened.Fault) =
+    codes "keepd: cannot open: Fault; see that all files and folders in it can be read"
+ending_text (ending.NoFolder unopened.Memory) = codes "keepd: no memory"
 
 -- what is written on standard error: that line, unless each line of the script was answered and the shelf never failed
 abbrev pub told_text : Ending → List ℕ

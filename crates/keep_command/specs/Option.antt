@@ -1,8 +1,8 @@
 -- The options of the program, as clap takes them from the words behind the program's name.
-use Rattle.std.specs.Prelude.{◌≡◌, ◌<◌, ℕ, ℤ, pos, Bool, true, not, ◌&&◌, IsSome, List, Option, Some, None, if◌then◌else◌, codes, slice_get, take, unwrap_or}
+use Rattle.std.specs.Prelude.{◌≡◌, ◌<◌, ℕ, ℤ, pos, Bool, true, not, ◌&&◌, IsSome, List, [], ◌∷◌, Option, Some, None, if◌then◌else◌, codes, slice_get, take, unwrap_or}
 use Rattle.std.specs.List.{list_any}
 use Rattle.std.specs.Str.{bytes_eq}
-use Rattle.std.specs.Option.{option_map_or}
+use Rattle.std.specs.Option.{option_map, option_map_or}
 use Rattle.std.specs.Str.Parse.{digits_value, without_leading_plus}
 use Rattle.clap.specs.ValueTests.{is_unsigned_in}
 use Rattle.clap.specs.Words.{App, Row, Rule, fault_of, first_of, matches_of, new_app, new_rule, with_rule}
@@ -23,8 +23,8 @@ program = on_top (λ top. record top { no_binary_name = true }) (new_app (codes 
 -- the program's command: its options
 abbrev pub command : App
 command =
-    with_rule (with_rule (with_rule (with_rule (with_rule program (option (codes "cut"))) (option (codes "now")))
-    (option (codes "host"))) (option (codes "tagged"))) (option (codes "drops"))
+    with_rule (with_rule (with_rule (with_rule (with_rule (with_rule program (option (codes "cut"))) (option (codes "now")))
+    (option (codes "host"))) (option (codes "tagged"))) (option (codes "drops"))) (option (codes "folder"))
 
 -- the number that a word writes, if it is one from `least` to `most`: decimal digits, a plus in front or not
 abbrev pub number_in : ℕ → ℕ → List ℕ → Option ℕ
@@ -39,14 +39,21 @@ number_or least most usual word = option_map_or (number_in least most) word (Som
 abbrev pub moment_or_first : Option (List ℕ) → Option ℤ
 moment_or_first word = option_map_or moment_in word (Some (pos 0))
 
+-- the folder that an option names, which has a name, and none where the words don't give it
+abbrev pub folder_in : Option (List ℕ) → Option (Option (List ℕ))
+folder_in None = Some None
+folder_in (Some []) = None
+folder_in (Some (byte ∷ bytes)) = Some (Some (byte ∷ bytes))
+
 -- after how many bytes backups cut files, the moment for marks and sweeps, the host of the filter `host`, the tag of the
--- filter `tagged`, and how many snapshots the veto `few-drops` lets go
+-- filter `tagged`, how many snapshots the veto `few-drops` lets go, and the folder whose files the script is about
 pub record OptionsData : Type 0 where
   pub cut : ℕ
   pub now : ℤ
   pub host : List ℕ
   pub tagged : List ℕ
   pub drops : ℕ
+  pub folder : Option (List ℕ)
 
 -- the same without where the texts lie in memory
 abbrev pub options_view : Options → OptionsData
@@ -56,6 +63,7 @@ options_view options = record {
   host = options.host.now;
   tagged = options.tagged.now;
   drops = options.drops;
+  folder = option_map (λ folder. folder.now) options.folder;
 }
 
 -- what the command's matches say: each option's value, and its default where the words don't give it
@@ -64,12 +72,14 @@ options_in rows = do
   cut ← number_or 1 8388608 1048576 (first_of (codes "cut") rows)
   now ← moment_or_first (first_of (codes "now") rows)
   drops ← number_or 0 1048576 1 (first_of (codes "drops") rows)
+  folder ← folder_in (first_of (codes "folder") rows)
   Some (record {
     cut = cut;
     now = now;
     host = unwrap_or (first_of (codes "host") rows) (codes "web");
     tagged = unwrap_or (first_of (codes "tagged") rows) (codes "keep");
     drops = drops;
+    folder = folder;
   })
 
 -- the words are options, and `--`, which clap takes where no word follows, isn't among them

@@ -4,12 +4,13 @@ ghost use Rattle.keep_command.specs.Ending.{code_of, told_text};
 ghost use Rattle.keep_script.specs.declared.status.Status.TheVariants as the_status;
 
 use crate::options::BadOptions;
+use keep_folder::FolderError;
 use keep_script::Status;
 use std::fmt;
 use std::io::{self, Write};
 
 const USAGE: &str =
-    "usage: keepd [--cut N] [--now TIME] [--host H] [--tagged T] [--drops N] < SCRIPT";
+    "usage: keepd [--cut N] [--now TIME] [--host H] [--tagged T] [--drops N] [--folder DIR] < SCRIPT";
 
 /// Says on standard error why the program ended, unless each line was answered and the shelf never failed. Answers the
 /// exit status, which is the same where that can't be written, and whether it could.
@@ -32,6 +33,8 @@ pub enum Ending<'a> {
     /// The words behind the program's name aren't its options. The bad one is named, but where one
     /// isn't UTF-8 none is.
     BadOptions(Option<&'a str>),
+    /// The folder isn't opened, for this cause. Nothing was read or written.
+    NoFolder(FolderError),
 }
 
 impl Ending<'_> {
@@ -48,6 +51,7 @@ impl Ending<'_> {
             Ending::Ran(Status::ReadFailed | Status::ScriptTooLong) => 1,
             Ending::Ran(Status::WriteFailed | Status::NoMemory) => 1,
             Ending::Ran(Status::Faulted | Status::NotOpened(_)) => 1,
+            Ending::NoFolder(_) => 1,
             Ending::Ran(Status::BadLine(_, _)) | Ending::BadOptions(_) => 2,
         }
     }
@@ -73,6 +77,19 @@ impl From<BadOptions> for Ending<'_> {
     }
 }
 
+impl From<FolderError> for Ending<'_> {
+    ghost use Rattle.keep_command.specs.Ending.{ending_unopened};
+
+    ghost from_gives = { λ error ending. ending ≡ ending_unopened error };
+
+    fn from(error: FolderError) -> Self {
+        match error {
+            FolderError::Memory => Ending::Ran(Status::NoMemory),
+            error => Ending::NoFolder(error),
+        }
+    }
+}
+
 impl fmt::Display for Ending<'_> {
     ghost use Rattle.std.specs.Prelude.{Some};
     ghost use Rattle.keep_command.specs.Ending.{ending_text};
@@ -91,6 +108,22 @@ impl fmt::Display for Ending<'_> {
             Ending::Ran(Status::WriteFailed) => f.write_str("keepd: cannot write the answers"),
             Ending::Ran(Status::NoMemory) => f.write_str("keepd: no memory"),
             Ending::Ran(Status::NotOpened(error)) => write!(f, "keepd: cannot open: {error}"),
+            Ending::NoFolder(FolderError::BadConfig) => {
+                f.write_str(
+                    "keepd: cannot open: BadConfig; name a folder with the config of a repository",
+                )
+            }
+            Ending::NoFolder(FolderError::Locked) => {
+                f.write_str(
+                    "keepd: cannot open: Locked; wait for the end of the other run on this folder",
+                )
+            }
+            Ending::NoFolder(FolderError::Fault) => {
+                f.write_str(
+                    "keepd: cannot open: Fault; see that all files and folders in it can be read",
+                )
+            }
+            Ending::NoFolder(FolderError::Memory) => f.write_str("keepd: no memory"),
             Ending::BadOptions(None) => write!(f, "keepd: bad options; {USAGE}"),
             Ending::BadOptions(Some(word)) => write!(f, "keepd: bad options: {word}; {USAGE}"),
         }

@@ -3,7 +3,7 @@ ghost use Rattle.std.specs.List.{list_any};
 ghost use Rattle.std.specs.Str.{bytes_eq};
 ghost use Rattle.clap.specs.Words.{app_of, found_of, kind_of, rows_of, with_rule};
 ghost use Rattle.keep_command.specs.Option as options;
-ghost use Rattle.keep_command.specs.Reading.{Reads, Says, refusal_of};
+ghost use Rattle.keep_command.specs.Reading.{IsFolderRead, Reads, Says, refusal_of};
 ghost use Rattle.keep_command.specs.declared.options.BadOptions.TheVariants.{Memory, Refused};
 
 use clap::error::ErrorKind;
@@ -25,6 +25,9 @@ pub struct Options<'a> {
     pub tagged: &'a str,
     /// How many snapshots a change may drop that the veto `few-drops` lets pass: 0 to 1,048,576.
     pub drops: u32,
+    /// The folder whose files the script is answered over. Where none is named, there are no files at first, and what
+    /// the script leaves is let go.
+    pub folder: Option<&'a str>,
 }
 
 /// Why no options are read.
@@ -61,7 +64,7 @@ impl From<clap::Error> for BadOptions {
 ///
 /// An option is `--NAME VALUE` or `--NAME=VALUE`, and stands once at most. A value that begins with
 /// `-` has to be joined by `=`. A number is decimal digits, and a plus may stand in front. A time is as RFC 3339
-/// writes it.
+/// writes it. The folder's name isn't empty.
 pub fn read_options<'a>(alloc: Global, words: &'a [&'a str]) -> Result<Options<'a>, BadOptions>
     ensures given { Reads (map (λ word. word.now) words.entry.now) result }
     ensures range { IfOk result (λ options. (1 ≤ options.cut) × (options.cut ≤ 8388608)) }
@@ -111,6 +114,7 @@ fn command<'a>(alloc: Global) -> Result<Command<'a>, AllocError>
     let command = with_option(alloc, command, "host")?;
     let command = with_option(alloc, command, "tagged")?;
     let command = with_option(alloc, command, "drops")?;
+    let command = with_option(alloc, command, "folder")?;
     Ok(command)
 }
 
@@ -134,6 +138,7 @@ fn options_in<'a>(matches: &ArgMatches<'a>) -> Result<Options<'a>, BadOptions>
     let cut = CUTS.read(matches.get_str("cut"))?;
     let now = read_moment(matches.get_str("now"))?;
     let drops = DROPS.read(matches.get_str("drops"))?;
+    let folder = read_folder(matches.get_str("folder"))?;
     let host = matches.get_str("host").unwrap_or("web");
     let tagged = matches.get_str("tagged").unwrap_or("keep");
     Ok(Options {
@@ -142,7 +147,21 @@ fn options_in<'a>(matches: &ArgMatches<'a>) -> Result<Options<'a>, BadOptions>
         host,
         tagged,
         drops,
+        folder,
     })
+}
+
+/// The folder that the word names, where there is a word.
+fn read_folder(word: Option<&str>) -> Result<Option<&str>, BadOptions>
+    ensures { IsFolderRead (options.folder_in (option_map (λ text. text.now) word.entry)) result }
+{
+    let Some(name) = word else {
+        return Ok(None);
+    };
+    if name.is_empty() {
+        return Err(BadOptions::Refused);
+    }
+    Ok(Some(name))
 }
 
 /// The moment that the word writes, or the one that is usual.

@@ -6,7 +6,9 @@ use std::io;
 pub enum FolderError {
     /// There is no `config` in it, or one that can't be read, or that isn't one of a repository.
     BadConfig,
-    /// Something else in it isn't as it has to be or can't be read, or another program has the folder.
+    /// Another program has the folder.
+    Locked,
+    /// Something else in it isn't as it has to be or can't be read.
     Fault,
     /// Memory ran out.
     Memory,

@@ -1,6 +1,7 @@
+use crate::error::FolderError;
 use crate::reading::require_file;
 use std::alloc::Global;
-use std::fs::{File, Files, OpenOptions};
+use std::fs::{File, Files, OpenOptions, TryLockError};
 use std::io;
 use std::io::ErrorKind;
 
@@ -9,11 +10,14 @@ use std::io::ErrorKind;
 pub(crate) fn lock_folder<R: Files<File = File> + Alloc<A = Global>>(
     rt: &R,
     root: &str,
-) -> io::Result<File> {
+) -> Result<File, FolderError> {
     let path = format!(in rt.alloc(); "{root}/lock")?;
     let file = open_lock(rt, path.as_str())?;
-    file.try_lock()?;
-    Ok(file)
+    match file.try_lock() {
+        Ok(()) => Ok(file),
+        Err(TryLockError::WouldBlock) => Err(FolderError::Locked),
+        Err(TryLockError::Error(error)) => Err(FolderError::from(error)),
+    }
 }
 
 /// The file that is locked, which is made where it isn't there, and is never written to. It is opened for writing since

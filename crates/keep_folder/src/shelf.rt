@@ -15,7 +15,8 @@ use std::fs::{File, Files};
 use std::io;
 use std::marker::Model;
 
-/// A shelf in a folder of the file system. What stands on it is in memory too, from where it is read.
+/// A shelf in a folder of the file system. What stands on it is in memory too, from where it is read, and nothing else:
+/// the bytes of each file that is there now, and its key. What was replaced or erased is let go.
 ///
 /// The folder is this shelf's alone as long as it is open: others that open it are refused.
 #[derive(Drop)]
@@ -48,11 +49,10 @@ impl<R: Files<File = File> + Alloc<A = Global> + Clone + Drop> FolderShelf<R> {
         check_config(&rt, root, piece.as_mut_slice())?;
         let lock = lock_folder(&rt, root)?;
         let read = read_keys(&rt, root, piece)?;
-        let memory = read.afresh()?;
         let root = String::from_str(alloc, root)?;
         Ok(FolderShelf {
             folder: Folder::new(rt, root, lock),
-            memory,
+            memory: read.afresh(),
         })
     }
 }

@@ -23,7 +23,7 @@ fn serve<'a>(rt: &HostRuntime, words: &'a [String]) -> Ending<'a> {
     let (Ok(words), Ok(mut writer)) = (words, BufWriter::new(alloc, rt.stdout())) else {
         return Ending::Ran(Status::NoMemory);
     };
-    keepd(alloc, words.as_slice(), &mut rt.stdin(), &mut writer)
+    keepd(rt, words.as_slice(), &mut rt.stdin(), &mut writer)
 }
 
 fn main(rt: HostRuntime) -> ExitCode {

@@ -1,9 +1,15 @@
-use Rattle.std.proofs.Common.{◌-◌, ℕ, Err, arith, subst, take}
+use Rattle.std.proofs.Common.{◌-◌, ◌∙◌, ℕ, List, Bor, Err, ap, arith, subst, take}
+use Rattle.std.proofs.lemmas.List.{length-map, take_all}
 use Rattle.std.proofs.lemmas.Option.{slice_get-get_or}
-use Rattle.keep_command.specs.Option.{options_view}
+use Rattle.keep_command.specs.Option.{options_of, options_view}
 use Rattle.keep_command.specs.Reading.{Reads}
 use Rattle.keep_command.proofs.BadWordLemmas.{texts, bad-word, none-one-fewer, some-beginning}
 use Rattle.keep_command.proofs.options.find_bad_word.Goals as goal
+
+pub loop-count-init : goal.loop-count-init
+loop-count-init c = λ longer all.
+    let counted = length-map c.args.words.now (λ (word : Bor (List ℕ)). word.now) in
+    ap options_of (take_all longer (texts c.args.words.now) (omega (arith, counted, all))) ∙ c.requires
 
 pub loop-count-preserved : goal.loop-count-preserved
 loop-count-preserved c =

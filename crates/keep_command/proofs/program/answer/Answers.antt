@@ -14,4 +14,4 @@ returns-clause-runs g c =
     (ap string_bytes c.new-by_host.ensures.name ∙ c.in_ok-from_str-2.ensures.ok) c.new-by_host.ensures.rule
     (ap string_bytes c.new-by_tag.ensures.name ∙ c.in_ok-from_str-3.ensures.ok) c.new-by_tag.ensures.rule in
     let same : map named_rule c.in_ok-filters.filters.items ≡ stored_filters host tag = ap (λ filters. map named_rule filters) c.in_ok-filters.ensures.items ∙ rows in
-    runs-by c.answer_with.result (options_view c.args.options) (map named_rule c.in_ok-filters.filters.items) host tag _ _ _ _ (search rules) (search rules) same c.answer_with.ensures.runs
+    runs-by c.answer_with.result (g.S.Shelf.shelved c.args.ground.shelf) (options_view c.args.ground.options) (map named_rule c.in_ok-filters.filters.items) host tag _ _ _ _ (search rules) (search rules) same c.answer_with.ensures.runs
