@@ -1,6 +1,7 @@
 //! Reads its input as a document, or as a pack that it hashes too, or backs it up as a file, or forgets as many
 //! snapshots as it has bytes, or reads it as an entry of a journal, which it also writes again, and says how much there
-//! was. So the time that this takes can be measured.
+//! was. Or it makes many changes of a book over many files, whatever the input, and undoes the first. So the time that
+//! this takes, or the memory, can be measured.
 #![tactic(auto)]
 
 mod backup;
@@ -10,6 +11,7 @@ mod forget;
 mod input;
 mod pack;
 mod task;
+mod undo;
 
 use crate::backup::back_up;
 use crate::document::measure;
@@ -18,6 +20,7 @@ use crate::forget::forget;
 use crate::input::read_all;
 use crate::pack::summarize;
 use crate::task::{Task, task_named};
+use crate::undo::{commits, undo_first};
 use anyhow::Result;
 use keep_entries::read_entry;
 use std::env;
@@ -75,6 +78,14 @@ fn tell(rt: &HostRuntime, task: Task) -> Result<()> {
             let same = is_written_so(alloc, &entry, &bytes)?;
             println!(rt; "written so: {same}")?;
         }
+        Task::Commits => {
+            let length = commits(alloc)?;
+            println!(rt; "length {length}")?;
+        }
+        Task::Undo => {
+            let told = undo_first(alloc)?;
+            println!(rt; "told {} at {}", told.number, told.at)?;
+        }
     }
     Ok(())
 }
@@ -82,7 +93,7 @@ fn tell(rt: &HostRuntime, task: Task) -> Result<()> {
 fn main(rt: HostRuntime) -> ExitCode {
     let Ok(Some(task)) = task_asked(&rt) else {
         let _ = eprintln!(rt;
-            "usage: keep_bench document|pack|backup|forget|entry|entry-again < INPUT"
+            "usage: keep_bench document|pack|backup|forget|entry|entry-again|commits|undo < INPUT"
         );
         return ExitCode::from(BAD_OPTIONS);
     };

@@ -9,6 +9,8 @@ pub(crate) enum Task {
     Forget,
     Entry,
     EntryAgain,
+    Commits,
+    Undo,
 }
 
 /// The task that a word of the command line names.
@@ -19,6 +21,8 @@ pub(crate) fn task_named(word: &str) -> Option<Task>
     ensures forget { (result ≡ Some Task.Forget) ↔ (word.now ≡ codes "forget") }
     ensures entry { (result ≡ Some Task.Entry) ↔ (word.now ≡ codes "entry") }
     ensures again { (result ≡ Some Task.EntryAgain) ↔ (word.now ≡ codes "entry-again") }
+    ensures commits { (result ≡ Some Task.Commits) ↔ (word.now ≡ codes "commits") }
+    ensures undo { (result ≡ Some Task.Undo) ↔ (word.now ≡ codes "undo") }
 {
     match word {
         "document" => Some(Task::Document),
@@ -27,6 +31,8 @@ pub(crate) fn task_named(word: &str) -> Option<Task>
         "forget" => Some(Task::Forget),
         "entry" => Some(Task::Entry),
         "entry-again" => Some(Task::EntryAgain),
+        "commits" => Some(Task::Commits),
+        "undo" => Some(Task::Undo),
         _ => None,
     }
 }

@@ -1,4 +1,5 @@
 ghost use Rattle.std.specs.Prelude.{◌≡◌};
+ghost use Rattle.keep_book.specs.Armed.{HasSums};
 ghost use Rattle.keep_hooks.specs.Limits.{refuses};
 ghost use Rattle.keep_hooks.specs.declared.limit.Limit.TheVariants.{FilesWrittenAtMost};
 
@@ -46,57 +47,61 @@ fn is_vetoed(reply: &Result<Told, Refusal>, name: &str) -> bool {
     }
 }
 
-#[test]
-fn the_first_veto_that_refuses_is_named(rt: HostRuntime) -> Result<(), Fail> {
-    let alloc = rt.alloc();
-    let mut book = Book::open(alloc, MemoryShelf::new(alloc))?;
-    let ask: AskOutline = Box::new(alloc, |outline: &Outline| outline.what == What::Empty)?;
-    let keep_all = Veto::new(String::from_str(alloc, "keep all")?, Limit::NoEmpty, ask);
-    let ask: AskOutline = Box::new(alloc, |outline: &Outline| writes_files(outline))?;
-    let one = Veto::new(String::from_str(alloc, "one")?, NO_FILES, ask);
-    let ask: AskOutline = Box::new(alloc, |outline: &Outline| writes_files(outline))?;
-    let another = Veto::new(String::from_str(alloc, "another")?, NO_FILES, ask);
-    assert!(rt; book.add_veto(keep_all).is_ok());
-    assert!(rt; book.add_veto(one).is_ok());
-    assert!(rt; book.add_veto(another).is_ok());
-    assert!(rt; is_vetoed(&book.commit(adding(alloc)?), "one"));
-    assert_eq!(rt; book.undo(1), Err(Refusal::Unknown));
-    Ok(())
+/// Whether the veto is armed.
+fn arms(book: &mut Book<MemoryShelf>, veto: Veto) -> bool
+    requires { HasSums book.old }
+    ensures { HasSums book.new }
+{
+    book.add_veto(veto).is_ok()
 }
 
+/// Whether the veto is handed back as it is, because its name is armed.
+fn hands_back(book: &mut Book<MemoryShelf>, veto: Veto) -> bool
+    requires { HasSums book.old }
+    ensures { HasSums book.new }
+{
+    match book.add_veto(veto) {
+        Err(NotArmed::DoubleName(veto)) => veto.name.as_str() == "one" && veto.rule == NO_FILES,
+        _ => false,
+    }
+}
+
+/// Whether the watch is handed back as it is, because its name is armed.
+fn hands_watch_back(book: &mut Book<MemoryShelf>, watch: Watch) -> bool
+    requires { HasSums book.old }
+    ensures { HasSums book.new }
+{
+    match book.add_watch(watch) {
+        Err(NotArmed::DoubleName(watch)) => watch.name() == "two",
+        _ => false,
+    }
+}
+
+/// The veto that is named is the first of those armed that refuses; one that was handed back isn't asked.
 #[test]
-fn a_veto_of_an_armed_name_is_handed_back_and_not_asked(rt: HostRuntime) -> Result<(), Fail> {
+fn names_are_armed_once_and_the_first_veto_that_refuses_is_named(
+    rt: HostRuntime,
+) -> Result<(), Fail> {
     let alloc = rt.alloc();
-    let mut book = Book::open(alloc, MemoryShelf::new(alloc))?;
     let ask: AskOutline = Box::new(alloc, |outline: &Outline| outline.what == What::Empty)?;
-    let armed = Veto::new(String::from_str(alloc, "one")?, Limit::NoEmpty, ask);
+    let one = Veto::new(String::from_str(alloc, "one")?, Limit::NoEmpty, ask);
+    let ask: AskOutline = Box::new(alloc, |outline: &Outline| writes_files(outline))?;
+    let two = Veto::new(String::from_str(alloc, "two")?, NO_FILES, ask);
+    let ask: AskOutline = Box::new(alloc, |outline: &Outline| writes_files(outline))?;
+    let three = Veto::new(String::from_str(alloc, "three")?, NO_FILES, ask);
     let ask: AskOutline = Box::new(alloc, |outline: &Outline| writes_files(outline))?;
     let double = Veto::new(String::from_str(alloc, "one")?, NO_FILES, ask);
-    assert!(rt; book.add_veto(armed).is_ok());
-    match book.add_veto(double) {
-        Err(NotArmed::DoubleName(veto)) => {
-            assert_eq!(rt; veto.name.as_str(), "one");
-            assert_eq!(rt; veto.rule, NO_FILES);
-        }
-        _ => return Err("a double name".into()),
-    }
-    assert_eq!(rt; book.commit(adding(alloc)?), Ok(Told { number: 1, at: 1 }));
-    Ok(())
-}
-
-#[test]
-fn no_watch_has_the_name_of_a_veto(rt: HostRuntime) -> Result<(), Fail> {
-    let alloc = rt.alloc();
-    let mut book = Book::open(alloc, MemoryShelf::new(alloc))?;
-    let ask: AskOutline = Box::new(alloc, |outline: &Outline| writes_files(outline))?;
-    let veto = Veto::new(String::from_str(alloc, "one")?, NO_FILES, ask);
     let ask: CountOutline = Box::new(alloc, |_: &Outline| 1)?;
-    let watch = Watch::new(String::from_str(alloc, "one")?, Measure::Events, ask);
-    assert!(rt; book.add_veto(veto).is_ok());
-    match book.add_watch(watch) {
-        Err(NotArmed::DoubleName(watch)) => assert_eq!(rt; watch.name(), "one"),
-        _ => return Err("a double name".into()),
-    }
-    assert!(rt; book.is_armed("one") && !book.is_armed("two"));
+    let watch = Watch::new(String::from_str(alloc, "two")?, Measure::Events, ask);
+    let planned = adding(alloc)?;
+    let mut book = Book::open(alloc, MemoryShelf::new(alloc))?;
+    assert!(rt; arms(&mut book, one));
+    assert!(rt; arms(&mut book, two));
+    assert!(rt; arms(&mut book, three));
+    assert!(rt; hands_back(&mut book, double));
+    assert!(rt; hands_watch_back(&mut book, watch));
+    assert!(rt; book.is_armed("two") && !book.is_armed("four"));
+    assert!(rt; is_vetoed(&book.commit(planned), "two"));
+    assert_eq!(rt; book.undo(1), Err(Refusal::Unknown));
     Ok(())
 }

@@ -2,7 +2,7 @@ use crate::readers::{Endless, LineByLine, Slow};
 use crate::writers::{ByLine, Flushed, Narrow};
 use keep_jobs::Kit;
 use keep_lines::Mistake;
-use keep_script::{Status, run};
+use keep_script::{Setup, Status, run};
 use keep_shelf::{MemoryShelf, Shelf};
 use std::alloc::Global;
 use std::io::{Read, Write};
@@ -25,15 +25,12 @@ pub fn end_over<S: Shelf, R: Read, W: Write>(
         vetoes: Vec::new(alloc),
         watches: Vec::new(alloc),
     };
-    run(
+    let setup = Setup {
         alloc,
-        reader,
-        writer,
-        shelf,
-        &mut nothing_stored,
-        1_048_576,
-        1_000,
-    )
+        cut: 1_048_576,
+        now: 1_000,
+    };
+    run(setup, shelf, &mut nothing_stored, reader, writer)
 }
 
 /// A script whose answers to `list` and `history` have several lines.

@@ -1,0 +1,69 @@
+use crate::plan::Plan;
+use keep_shelf::MemoryShelf;
+use std::alloc::Global;
+
+/// Which calls of a case fail.
+#[derive(Clone, Copy)]
+pub(crate) enum Failing {
+    Nothing,
+    Chosen(Plan),
+    /// Each in turn.
+    Each,
+}
+
+/// Which contents of the shelf are opened as books of their own when the script is done, and shown.
+#[derive(Clone, Copy)]
+pub(crate) enum Stops {
+    Nowhere,
+    /// The one at the beginning, and what each call left.
+    AtEachCall,
+    /// The one after the opening, and what each later call left.
+    AfterOpening,
+}
+
+/// A shelf, a script, and which calls fail.
+#[derive(Drop)]
+pub(crate) struct Case {
+    pub alloc: Global,
+    /// It is empty before the first case.
+    pub name: String,
+    /// What stands on the shelf at the beginning.
+    pub shelf: MemoryShelf,
+    pub failing: Failing,
+    pub stops: Stops,
+    /// How many steps come before the first call that is counted. The first step is the opening, the others are lines.
+    pub counted: usize,
+    /// Whether the shelf is to be opened.
+    pub opened: bool,
+    pub lines: Vec<String>,
+}
+
+impl Case {
+    pub fn new(alloc: Global) -> Case {
+        Case {
+            alloc,
+            name: String::new(alloc),
+            shelf: MemoryShelf::new(alloc),
+            failing: Failing::Nothing,
+            stops: Stops::Nowhere,
+            counted: 0,
+            opened: false,
+            lines: Vec::new(alloc),
+        }
+    }
+
+    /// What the calls from here on leave is shown, and what stands there now. Here is before the opening or after it.
+    pub fn stop(&mut self) {
+        self.stops = if self.opened {
+            Stops::AfterOpening
+        } else {
+            Stops::AtEachCall
+        };
+    }
+
+    /// The calls from the next step on fail so.
+    pub fn fail(&mut self, failing: Failing) {
+        self.counted = self.lines.len() + usize::from(self.opened);
+        self.failing = failing;
+    }
+}
