@@ -3,10 +3,12 @@ use crate::writers::Flushed;
 use keep_command::{BadOptions, Ending, keepd};
 use keep_ledger::OpenError;
 use keep_script::Status;
-use std::io::Read;
+use std::alloc::Global;
+use std::process::Abort;
 use std::test::Fail;
 
 /// A writer that gives up, and what is answered and said then.
+#[derive(Clone, Copy)]
 struct Failure<'a> {
     /// How many bytes the writer takes.
     room: usize,
@@ -17,31 +19,35 @@ struct Failure<'a> {
     cause: &'a str,
 }
 
-/// The run of what the reader gives fails so.
-fn expect_failure<R: Read>(rt: &HostRuntime, reader: &mut R, wanted: &Failure<'_>) {
-    let alloc = rt.alloc();
-    let mut writer = Flushed {
-        held: Vec::new(alloc),
-        room: wanted.room,
-        lengths: Vec::new(alloc),
-        flushes: wanted.flushes,
-    };
-    let ending = keepd(rt, &[], reader, &mut writer);
-    assert_eq!(rt; ending.code(), 1, "before {}", wanted.cause);
-    assert!(rt; !ending.is_done());
-    assert!(rt;
-        writer.held.as_slice() == wanted.answers.as_bytes(),
-        "not {}",
-        wanted.answers
-    );
-    let said = format!(in alloc; "{ending}").expect(rt, "memory");
-    assert_eq!(rt; said.as_str(), wanted.cause);
+impl Failure<'_> {
+    fn writer(&self, alloc: Global) -> Flushed {
+        Flushed {
+            held: Vec::new(alloc),
+            room: self.room,
+            lengths: Vec::new(alloc),
+            flushes: self.flushes,
+        }
+    }
+
+    /// The run that had this writer ended so.
+    fn expect(&self, rt: &impl Abort, alloc: Global, ending: &Ending<'_>, writer: &Flushed) {
+        assert_eq!(rt; ending.code(), 1, "before {}", self.cause);
+        assert!(rt; !ending.is_done());
+        assert!(rt;
+            writer.held.as_slice() == self.answers.as_bytes(),
+            "not {}",
+            self.answers
+        );
+        let said = format!(in alloc; "{ending}").expect(rt, "memory");
+        assert_eq!(rt; said.as_str(), self.cause);
+    }
 }
 
 const ANSWER: &str = "files 0 marks 0\n";
 
 #[test]
 fn failures_give_their_status(rt: HostRuntime) {
+    let alloc = rt.alloc();
     let mut broken = Slow {
         bytes: b"count\ncou",
         interrupted: false,
@@ -53,14 +59,18 @@ fn failures_give_their_status(rt: HostRuntime) {
         answers: ANSWER,
         cause: "keepd: cannot read the script",
     };
-    expect_failure(&rt, &mut broken, &unread);
+    let mut writer = unread.writer(alloc);
+    let ending = keepd(&rt, &[], &mut broken, &mut writer);
+    unread.expect(&rt, alloc, &ending, &writer);
     let too_long = Failure {
         room: 0,
         flushes: 5000,
         answers: "",
         cause: "keepd: the script has more than 67,108,863 bytes",
     };
-    expect_failure(&rt, &mut Endless, &too_long);
+    let mut writer = too_long.writer(alloc);
+    let ending = keepd(&rt, &[], &mut Endless, &mut writer);
+    too_long.expect(&rt, alloc, &ending, &writer);
     for (room, flushes, answers) in [(9, 99, ""), (99, 2, ANSWER)] {
         let unwritten = Failure {
             room,
@@ -68,7 +78,9 @@ fn failures_give_their_status(rt: HostRuntime) {
             answers,
             cause: "keepd: cannot write the answers",
         };
-        expect_failure(&rt, &mut b"count\n".as_slice(), &unwritten);
+        let mut writer = unwritten.writer(alloc);
+        let ending = keepd(&rt, &[], &mut b"count\n".as_slice(), &mut writer);
+        unwritten.expect(&rt, alloc, &ending, &writer);
     }
 }
 
