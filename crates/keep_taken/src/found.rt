@@ -114,7 +114,11 @@ impl Found {
     {
         let is_new = self.walked.insert(facet)?;
         if is_new {
-            put_in_force(&mut self.pending, history, touch.mentions_after(history, n, facet))?;
+            put_in_force(
+                &mut self.pending,
+                history,
+                touch.mentions_after(history, n, facet),
+            )?;
         }
         Ok(())
     }
