@@ -1,15 +1,13 @@
 -- The search for what has to be taken back: what was looked at, what is pending, and that this is all.
-use Rattle.std.proofs.Common.{◌≡◌, ℕ, ◌+◌, ◌<◌, ◌≤◌, ◌==◌, nat_lt, Bool, true, false, ◌||◌, not, List, [], ◌∷◌, ◌++◌, reverse, ◌⊎◌, inl, inr, refl, sym, ap, subst, ◌∙◌, arith}
+use Rattle.std.proofs.Common.{◌≡◌, ℕ, ◌+◌, ◌<◌, ◌≤◌, ◌==◌, nat_lt, Bool, true, ◌||◌, not, List, [], ◌∷◌, ◌⊎◌, inl, inr, refl, sym, ap, subst, ◌∙◌, arith}
 use Rattle.std.proofs.lemmas.Bool.{and_from, and_parts, cases_eq, eq-eqb, eqb-false, false≢true, lt-ltb, ltb-true, ne_eqb, not-true, or_cases, or_left, or_right}
-use Rattle.std.proofs.lemmas.List.{reverse-append}
 use Rattle.keep_repo.specs.declared.facet.Facet.{Facet}
-use Rattle.keep_journal.specs.History.{last_change, IsNumbered}
+use Rattle.keep_journal.specs.History.{last_change}
 use Rattle.keep_journal.specs.Journal.{Journal}
-use Rattle.keep_touch.specs.Finding.{in_force}
-use Rattle.keep_taken.specs.Gathering.{is_pending, is_walked, touches_kept, Begins, Covers, Finds, Takes}
+use Rattle.keep_taken.specs.Gathering.{is_pending, is_walked, touches_kept, Begins, Covers, Finds, NothingPends, Takes}
 use Rattle.keep_taken.specs.Taken.{is_one_of, itself, leaning, AreTaken, FallFrom, IsTaken, LeansOn}
 use Rattle.keep_taken.specs.declared.found.Found.{Found}
-use Rattle.keep_taken.proofs.Members.{fall_higher, kept_within, one_cases, one_itself, one_more, taken_is_least, taken_kept}
+use Rattle.keep_taken.proofs.Members.{fall_higher, one_cases, one_itself, one_more, taken_is_least}
 
 -- whether the change was looked at, or is pending
 abbrev pub is_found : List ℕ → Found → ℕ → Bool
@@ -50,10 +48,6 @@ module _ (j : Journal) (n : ℕ) (done : List ℕ) (old mid : Found) (m : ℕ) (
 
   pub first_above : FallFrom m done
   first_above = search.above m takes.was
-
-  -- it is none after the last change
-  pub first_within : IsNumbered j → in_force j n ≡ true → m ≤ last_change j
-  first_within numbered first = kept_within j m numbered (taken_kept j n first m first_taken)
 
   -- those that were pending are greater, and still pending, but for itself
   was_pending : (q : ℕ) → is_pending old q ≡ true → (m ≡ q) ⊎ ((m < q) × (is_pending mid q ≡ true))
@@ -113,7 +107,7 @@ module _ (j : Journal) (n : ℕ) (done : List ℕ) (old mid : Found) (m : ℕ) (
 
 -- ---- the end: nothing is pending
 
-pub search_ends : (j : Journal) (n : ℕ) (done : List ℕ) (found : Found) → IsSearch j n done found → ((m : ℕ) → is_pending found m ≡ false) → AreTaken j n done
+pub search_ends : (j : Journal) (n : ℕ) (done : List ℕ) (found : Found) → IsSearch j n done found → NothingPends found → AreTaken j n done
 search_ends j n done found search none = record {
   down = search.down;
   each = search.each;
@@ -123,14 +117,10 @@ search_ends j n done found search none = record {
     looked_at : (m : ℕ) → is_found done found m ≡ true → is_one_of done m ≡ true
     looked_at m h = elim (or_cases (is_one_of done m) (is_pending found m) h) [
       | inl there ↦ there
-      | inr pending ↦ absurd (false≢true (sym (none m) ∙ pending))
+      | inr pending ↦ absurd (false≢true (sym (none.none m) ∙ pending))
     ]
 
 -- ---- how far it has come
-
--- one more was looked at
-pub looked_more : (numbers more : List ℕ) (m : ℕ) → more ≡ numbers ++ m ∷ [] → reverse more ≡ m ∷ reverse numbers
-looked_more numbers more m longer = ap reverse longer ∙ reverse-append numbers (m ∷ [])
 
 -- above the greatest of what was looked at
 abbrev pub bound_of : List ℕ → ℕ
