@@ -1,5 +1,5 @@
 -- An accepted request is one to which nothing objects, and leaves an open ledger.
-use Rattle.std.proofs.Common.{◌≡◌, ◌+◌, List, Option, None, Some, Result, Ok, Err, inl, inr, refl, subst}
+use Rattle.std.proofs.Common.{◌≡◌, ◌+◌, List, Option, None, Some, Ok, inl, inr, refl, subst}
 use Rattle.std.specs.Option.{option_map, option_or}
 use Rattle.keep_change.specs.declared.outline.Outline.{Outline}
 use Rattle.keep_journal.specs.History.{length_of}

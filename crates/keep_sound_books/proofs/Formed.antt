@@ -1,13 +1,16 @@
 -- A change of which it can't be denied that it is well formed is so.
-use Rattle.std.proofs.Common.{◌≡◌, ℕ, ◌<◌, ◌≤◌, Bool, true, false, List, [], ◌∷◌, map, count_by, inl, inr, refl, arith}
+use Rattle.std.proofs.Common.{◌≡◌, ℕ, ◌≤◌, Bool, true, false, List, [], ◌∷◌, inl, inr, refl, arith}
 use Rattle.std.specs.Bool.{Decides}
 use Rattle.std.specs.List.{AllByRecursion}
+use Rattle.std.specs.Prelude.{slice_index_or}
 use Rattle.std.specs.List.Sorted.{IsStrictlySortedBy}
 use Rattle.std.specs.Str.{bytes_eq}
 use Rattle.std.specs.declared.cmp.Ordering.{Ordering}
 use Rattle.std.specs.declared.cmp.Ordering.TheVariants.{Less, Equal, Greater}
 use Rattle.std.proofs.lemmas.Bool.{cases_lt}
 use Rattle.std.proofs.lemmas.Slice.Eq.{bytes_eq-Decides}
+use Rattle.keep_names.specs.Sha256.{sha256}
+use Rattle.keep_change.specs.NamedBytes.{NamedBytes}
 use Rattle.keep_change.specs.Form.{IsInOrder, IsWellFormed}
 use Rattle.keep_change.specs.declared.change.Change.{Change}
 use Rattle.keep_ledger.specs.Reply.{IsFormed}
@@ -47,6 +50,9 @@ sorted (f ∷ fs) sure = (
 
 -- ---- changes
 
+named_well : (file : NamedBytes) → ¬ ¬ (file.name.id.0 ≡ sha256 file.bytes) → file.name.id.0 ≡ sha256 file.bytes
+named_well file sure = decided (bytes_eq file.name.id.0 (sha256 file.bytes)) (bytes_eq-Decides file.name.id.0 (sha256 file.bytes)) sure
+
 well_formed : (c : Change) → ¬ ¬ IsWellFormed c → IsWellFormed c
 well_formed c sure = record {
   in_order = record {
@@ -60,7 +66,7 @@ well_formed c sure = record {
     unmarked = sorted _ (λ no. sure (λ f. no f.in_order.unmarked));
   };
   once = λ facet. at_most _ 1 (λ no. sure (λ f. no (f.once facet)));
-  named = λ k d within. decided (bytes_eq _ _) (bytes_eq-Decides _ _) (λ no. sure (λ f. no (f.named k d within)));
+  named = λ k d within. named_well (slice_index_or c.adds k d) (λ no. sure (λ f. no (f.named k d within)));
   writes = λ nothing. sure (λ f. f.writes nothing);
 }
 

@@ -1,19 +1,17 @@
 -- Books begin sound, and stay so.
-use Rattle.std.proofs.Common.{◌≡◌, ℕ, ◌+◌, List, [], ◌∷◌, ◌++◌, None, Result, Ok, Err, refl, sym, subst, ap, ◌∙◌, arith}
+use Rattle.std.proofs.Common.{◌≡◌, ◌+◌, ◌≤◌, ◌++◌, length, None, Ok, Err, refl, sym, subst}
 use Rattle.std.proofs.lemmas.List.Elements.{All-nil}
 use Rattle.keep_repo.specs.Repository.{Repository}
 use Rattle.keep_change.specs.Fold.{Numbered, first_break, fold_of}
 use Rattle.keep_change.specs.Form.{IsWellFormed}
 use Rattle.keep_change.specs.Limits.{facet_limit}
 use Rattle.keep_change.specs.Touch.{facets}
-use Rattle.keep_change.specs.declared.change.Planned.{Planned}
 use Rattle.keep_journal.specs.History.{is_in_force, last_change, length_of}
 use Rattle.keep_journal.specs.Kept.{above, kept, later, unfinal, up_to}
 use Rattle.keep_journal.proofs.Kept.{kept_split}
 use Rattle.keep_told.proofs.Legal.{none_numbered}
 use Rattle.keep_ledger.specs.LedgerState.{LedgerState, new_ledger}
 use Rattle.keep_ledger.specs.Made.{with_event}
-use Rattle.keep_ledger.specs.Reply.{Replies}
 use Rattle.keep_ledger.specs.Request.{CanBeMade}
 use Rattle.keep_ledger.specs.declared.request.Request.{Request}
 use Rattle.keep_ledger.specs.declared.request.Request.TheVariants.{Commit, Undo, Redo, Empty}

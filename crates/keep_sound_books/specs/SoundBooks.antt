@@ -55,11 +55,12 @@ BooksStaySound =
     → IsSoundBook all b → KeepsSound all b request → Replies b rules request reply
     → IsSoundBook all (state_after b request reply)
 
--- whichever of its changes that aren't final are made of the opening, in their order: where all can be made, what they make is sound
+-- whichever of its changes that aren't final are made of the opening, in their order: where all can be made, what they
+-- make is sound
 abbrev pub SelectionsOfBooksAreSound : Type 0
 SelectionsOfBooksAreSound =
-    (all : Repository) (b : LedgerState) (chosen : List Numbered) → IsSoundBook all b → IsSelection chosen (unfinal b.events)
-    → first_break chosen b.opening ≡ None → IsSoundState all (fold_of chosen b.opening)
+    (all : Repository) (b : LedgerState) (chosen : List Numbered) → IsSoundBook all b
+    → IsSelection chosen (unfinal b.events) → first_break chosen b.opening ≡ None → IsSoundState all (fold_of chosen b.opening)
 
 -- so is the live repository
 abbrev pub BooksAreSound : Type 0

@@ -4,6 +4,7 @@ ghost use Rattle.keep_sound_books.specs.SoundBooks.{BooksAreSound, BooksBeginSou
 use keep_sound::{
     commits_stay_sound, emptyings_stay_sound, filters_are_selections, selections_are_sound,
 };
+use keep_view::the_known_are_there_or_added;
 
 /// An accepted request leaves a ledger whose events make its live repository of its opening.
 pub fn accepted_requests_leave_open_ledgers()
@@ -15,8 +16,8 @@ pub fn books_begin_sound()
     ensures { BooksBeginSound }
 {}
 
-/// A sound book stays so by any request, accepted or refused. Only a commit's change has to be safe: to undo, to redo and
-/// to empty is always so.
+/// A sound book stays so by any request, accepted or refused. Only a commit's change has to be safe for it: to undo, to
+/// redo and to empty always is.
 pub fn books_stay_sound()
     ensures { BooksStaySound }
 {
@@ -44,4 +45,6 @@ pub fn books_are_sound()
 /// A view knows the snapshots that are known in its book, and no others.
 pub fn views_know_what_books_know()
     ensures { ViewsKnow }
-{}
+{
+    the_known_are_there_or_added();
+}
