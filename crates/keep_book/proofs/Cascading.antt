@@ -1,8 +1,9 @@
 -- A cascade on its shelf, undo by undo.
-use Rattle.std.proofs.Common.{◌≡◌, ◌∙◌, ℕ, ◌+◌, ◌<◌, Bool, true, false, List, [], ◌∷◌, ◌++◌, Option, Some, None, Result, Ok, Err, ◌⊎◌, inl, inr, ap, append-nil, append_assoc, arith, drop, length, map, refl, subst, sym, take}
+use Rattle.std.proofs.Common.{◌≡◌, ◌∙◌, ℕ, ◌+◌, ◌<◌, Bool, true, false, List, [], ◌∷◌, ◌++◌, Option, Some, None, Result, Ok, Err, ◌⊎◌, inl, inr, ap, append-nil, append_assoc, arith, drop, get_or, length, map, refl, subst, sym, take}
 use Rattle.std.specs.Prelude.{◌≢◌, if◌then◌else◌, nat_le, unwrap_or}
 use Rattle.std.specs.List.{AllByRecursion}
 use Rattle.std.proofs.Math.Seq.{drop-append_seam}
+use Rattle.std.proofs.lemmas.List.{drop_more, take-append-drop, take_more}
 use Rattle.keep_change.specs.Fold.{fold_of}
 use Rattle.keep_hooks.specs.Guards.{Rule}
 use Rattle.keep_journal.specs.History.{final_number, is_change, is_in_force, length_of}
@@ -28,7 +29,7 @@ use Rattle.keep_ledger.specs.declared.request.Request.{Request}
 use Rattle.keep_ledger.specs.declared.request.Request.TheVariants.{Undo}
 use Rattle.keep_ledger.proofs.Counted.{faults_counted}
 use Rattle.keep_ledger.proofs.Replying.{undo_answers}
-use Rattle.keep_book.specs.Cascade.{AreUndone, AsksNothing, EachCallSays, EndsAlong, EndsBefore, FaultsNext, SaysSome, StopsBefore, TakesAlong, TakesDown, failures_at, taken_refusal, undone_on, with_undos}
+use Rattle.keep_book.specs.Cascade.{AreUndone, AsksNothing, EachCallSays, EndsAlong, EndsBefore, FaultsNext, SaysSome, StopsBefore, TakesAlong, TakesDown, count_at, failures_at, taken_refusal, undone_on, with_undos}
 use Rattle.keep_book.proofs.Undos.{IsOpenState, accepted_free, accepted_told, nothing_leans, others_left, undone_one_more, with_one_more}
 
 -- ---- the ledger on its shelf after some undos
@@ -127,7 +128,7 @@ pub going_begins : (b : OnShelf) (n : ℕ) → Going b n [] b
 going_begins b n = record { accepted = tt; shelf = refl; grown = record { more = []; is = sym (append-nil b.shelf.calls); all = tt } }
 
 -- what the book says of the ledger, at an undo
-pub record Answers (now : OnShelf) (rules : List Rule) (m : ℕ) (reply : Result Told Refusal) (after : OnShelf) : Type 0 where
+pub record RespondsOn (now : OnShelf) (rules : List Rule) (m : ℕ) (reply : Result Told Refusal) (after : OnShelf) : Type 0 where
   pub replies : reply ≢ Err Fault → Replies now.state rules (Undo m) (heard now.state (Undo m) reply)
   pub ledger : after.state ≡ state_after now.state (Undo m) (heard now.state (Undo m) reply)
   pub ends : Ends now (Undo m) reply after
@@ -242,7 +243,7 @@ module _ (b : OnShelf) (n : ℕ) (is : IsOpenState b.state) (free : taken_refusa
     says content (inr it) =
         record { front = front ++ m ∷ []; left = rest; taken = taken_more; says = subst (λ l. Says l content) state_more it }
 
-    grown_now : (reply : Result Told Refusal) → Answers now rules m reply after → Grown (SaysSome b.state n) b.shelf after.shelf
+    grown_now : (reply : Result Told Refusal) → RespondsOn now rules m reply after → Grown (SaysSome b.state n) b.shelf after.shelf
     grown_now reply answers =
         grown_then (SaysSome b.state n) (IsBeforeOrAfter now.state (Undo m)) b.shelf now.shelf after.shelf says going.grown
         (grew_after now after (Undo m) reply answers.ends) answers.stops
@@ -253,7 +254,7 @@ module _ (b : OnShelf) (n : ℕ) (is : IsOpenState b.state) (free : taken_refusa
         (subst (λ (l : LedgerState). Replies l [] (Undo m) (Ok (told_of l.events (Undo m)))) state_now (accepted_told now.state rules m t replies))
 
     -- it is told: one more is taken back
-    pub one_more : (t : Told) → Answers now rules m (Ok t) after → Going b n (front ++ m ∷ []) after
+    pub one_more : (t : Told) → RespondsOn now rules m (Ok t) after → Going b n (front ++ m ∷ []) after
     one_more t answers = record {
       accepted = accepted_more t (answers.replies (λ e. cc e));
       shelf = answers.ends ∙ ap (λ x. settled (entered (Undo m) (settled x))) going.shelf ∙ sym (on_one_more b front m);
@@ -261,7 +262,7 @@ module _ (b : OnShelf) (n : ℕ) (is : IsOpenState b.state) (free : taken_refusa
     }
 
     -- it is unsettled: it is taken back, and the last
-    pub last_unsettled : (k : ℕ) → Answers now rules m (Err (Unsettled k)) after → IsCascade b n (front ++ m ∷ []) (Some (Unsettled k)) after
+    pub last_unsettled : (k : ℕ) → RespondsOn now rules m (Err (Unsettled k)) after → IsCascade b n (front ++ m ∷ []) (Some (Unsettled k)) after
     last_unsettled k answers =
         let itself : m ≡ k = sym answers.ends.0 in
         let last : front ++ m ∷ [] ≡ front ++ k ∷ [] = ap (λ x. front ++ x ∷ []) itself in
@@ -280,8 +281,12 @@ module _ (b : OnShelf) (n : ℕ) (is : IsOpenState b.state) (free : taken_refusa
           others = others_as b (front ++ m ∷ []) after is accepted ledger;
           ends = inr (record {
             takes = takes;
-            ends = (front, last, subst (λ x. Ends x (Undo k) (Err (Unsettled k)) after) going.shelf
-                (subst (λ x. Ends now (Undo x) (Err (Unsettled k)) after) itself answers.ends));
+            ends = (
+              front,
+              last,
+              subst (λ x. Ends x (Undo k) (Err (Unsettled k)) after) going.shelf
+                  (subst (λ x. Ends now (Undo x) (Err (Unsettled k)) after) itself answers.ends),
+            );
           });
           faults = λ fault. cc fault;
           failures = faults_counted now after (Undo m) (Err (Unsettled k)) answers.ends ∙ ap risen failures_now;
@@ -298,7 +303,7 @@ module _ (b : OnShelf) (n : ℕ) (is : IsOpenState b.state) (free : taken_refusa
         refused_why (is_full (undone_in b.state.events front)) (told_of now.state.events (Undo m)) refusal
         (subst (λ r. RefusesOrTells r (told_of now.state.events (Undo m)) (Err refusal)) early (undo_answers now.state rules m (Err refusal) replies))
 
-    faults_next : (refusal : Refusal) → Answers now rules m (Err refusal) after → FaultsNext b front (Some refusal) after
+    faults_next : (refusal : Refusal) → RespondsOn now rules m (Err refusal) after → FaultsNext b front (Some refusal) after
     faults_next refusal answers fault =
         let same : ◌≡◌ {A = Result Told Refusal} (Err refusal) (Err Fault) = (let it : refusal ≡ Fault = cc fault in ap Err it) in
         by (answers.faults same)
@@ -311,7 +316,7 @@ module _ (b : OnShelf) (n : ℕ) (is : IsOpenState b.state) (free : taken_refusa
             (sym early ∙ accepted_free now.state rules m (told_of now.state.events (Undo m)) replies))
 
     -- it isn't taken back
-    not_taken : (refusal : Refusal) → Answers now rules m (Err refusal) after → after.state ≡ now.state
+    not_taken : (refusal : Refusal) → RespondsOn now rules m (Err refusal) after → after.state ≡ now.state
         → StopsBefore b.state.events front (m ∷ rest) (Some refusal) → EndsBefore b front (m ∷ rest) (Some refusal) after
         → IsCascade b n front (Some refusal) after
     not_taken refusal answers same stops ends =
@@ -329,7 +334,7 @@ module _ (b : OnShelf) (n : ℕ) (is : IsOpenState b.state) (free : taken_refusa
         }
 
     -- it is refused
-    pub next_refused : (refusal : Refusal) → ((k : ℕ) → refusal ≢ Unsettled k) → Answers now rules m (Err refusal) after
+    pub next_refused : (refusal : Refusal) → ((k : ℕ) → refusal ≢ Unsettled k) → RespondsOn now rules m (Err refusal) after
         → IsCascade b n front (Some refusal) after
     next_refused (Unsettled k) other answers = absurd (other k refl)
     next_refused Fault other answers =
@@ -338,3 +343,28 @@ module _ (b : OnShelf) (n : ℕ) (is : IsOpenState b.state) (free : taken_refusa
     next_refused refusal other answers =
         not_taken refusal answers answers.ledger (λ e. cc e, inr (why_plain refusal (answers.replies (λ e. cc e))))
         (m, rest, refl, subst (λ x. Ends x (Undo m) (Err refusal) after) going.shelf answers.ends)
+
+  -- ---- the list, as far as it was gone through
+
+  module _ (all : List ℕ) (taken : AreTaken b.state.events n all) (done : ℕ) (within : done < length all)
+      (now : OnShelf) (going : Going b n (take done all) now) (rules : List Rule) (after : OnShelf) where
+    cut : AreTaken b.state.events n (take done all ++ get_or all done 0 ∷ drop (done + 1) all)
+    cut =
+        subst (AreTaken b.state.events n)
+        (sym (take-append-drop done all) ∙ ap (λ xs. take done all ++ xs) (drop_more all done 0 within)) taken
+
+    more : take (done + 1) all ≡ take done all ++ get_or all done 0 ∷ []
+    more = take_more all done 0 within
+
+    pub goes_on : (t : Told) → RespondsOn now rules (get_or all done 0) (Ok t) after → Going b n (take (done + 1) all) after
+    goes_on t responds =
+        subst (λ ns. Going b n ns after) (sym more)
+        (one_more (take done all) (get_or all done 0) (drop (done + 1) all) cut now going rules after t responds)
+
+    pub stops_there : (refusal : Refusal) → RespondsOn now rules (get_or all done 0) (Err refusal) after
+        → IsCascade b n (take (count_at done refusal) all) (Some refusal) after
+    stops_there (Unsettled k) responds =
+        subst (λ ns. IsCascade b n ns (Some (Unsettled k)) after) (sym more)
+        (last_unsettled (take done all) (get_or all done 0) (drop (done + 1) all) cut now going rules after k responds)
+    stops_there refusal responds =
+        next_refused (take done all) (get_or all done 0) (drop (done + 1) all) cut now going rules after refusal (λ k e. cc e) responds

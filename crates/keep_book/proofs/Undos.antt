@@ -3,7 +3,7 @@ use Rattle.std.proofs.Common.{◌≡◌, ◌∙◌, ℕ, ◌+◌, ◌<◌, Bool,
 use Rattle.std.specs.Prelude.{if◌then◌else◌, nat_le, nat_lt}
 use Rattle.std.specs.Cmp.{first_so, second_so}
 use Rattle.std.proofs.lemmas.Bool.Decides.{nat_tests}
-use Rattle.std.specs.Option.{option_and_then}
+use Rattle.std.specs.Option.{option_or}
 use Rattle.keep_change.specs.Fold.{first_break, first_leaning, fold_of}
 use Rattle.keep_change.specs.declared.change.Change.{Change}
 use Rattle.keep_change.specs.declared.outline.Outline.{Outline}
@@ -119,8 +119,9 @@ kept_where_free j n free = rw (free.in_force, above_final (final_number j) n fre
 -- the refusal of an undo of a change in force on which nothing leans
 room_alone : (j : Journal) (n : ℕ) → IsFree j n → undo_refusal j n None ≡ (if is_full j then Some Full else None)
 room_alone j n free = rw (free.change, free.above, free.in_force) (split (is_full j)) where
-  split : (full : Bool) → cond full (Some Full) None ≡ cond full (Some Full) None
-  split full = refl
+  split : (full : Bool) → option_or (cond full (Some Full) None) None ≡ cond full (Some Full) None
+  split true = refl
+  split false = refl
 
 -- each of those that have to be taken back is one of the journal's
 taken_is_there : (j : Journal) (n : ℕ) → IsNumbered j → IsFree j n → (m : ℕ) → IsTaken j n m → (c : Change) × (change_of j m ≡ Some c)
@@ -155,7 +156,7 @@ nothing_leans b n done next left is none taken undone =
     let first = kept_where_free b.events n free in
     let there = taken_is_there b.events n is.numbered free next (next_taken b.events n done next left taken) in
     let found : change_of now.events next ≡ Some there.0 = ap (λ j. change_of j next) same ∙ change_of-undone b.events done next ∙ there.1 in
-    let in_it : is_kept now.events next ≡ true = ap (λ j. is_kept j next) same ∙ still_kept b.events n done next left taken first in
+    let in_it : is_kept now.events next ≡ true = ap (λ j. is_kept j next) same ∙ still_kept b.events n done next left first taken in
     let alone : first_leaning there.0 (later now.events next) ≡ None =
-    ap (λ j. first_leaning there.0 (later j next)) same ∙ unleaned b.events n done next left taken there.0 there.1 is.numbered in
+    ap (λ j. first_leaning there.0 (later j next)) same ∙ unleaned b.events n done next left there.0 is.numbered taken there.1 in
     free_undo now next there.0 (open_undone b done is undone) found in_it alone ∙ ap (λ j. if is_full j then Some Full else None) same

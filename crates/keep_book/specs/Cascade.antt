@@ -1,5 +1,5 @@
 -- What is taken back with a change, and what that leaves.
-use Rattle.std.specs.Prelude.{◌≡◌, ◌≢◌, ℕ, nat_le, Bool, false, not, if◌then◌else◌, List, [], ◌∷◌, ◌++◌, drop, fold, length, Option, Some, None, Result, Ok, Err, unwrap_or, ◌⊎◌}
+use Rattle.std.specs.Prelude.{◌≡◌, ◌≢◌, ℕ, ◌+◌, nat_le, Bool, false, not, if◌then◌else◌, List, [], ◌∷◌, ◌++◌, drop, fold, length, Option, Some, None, Result, Ok, Err, unwrap_or, ◌⊎◌}
 use Rattle.std.specs.List.{AllByRecursion}
 use Rattle.keep_change.specs.Fold.{fold_of}
 use Rattle.keep_journal.specs.History.{final_number, is_change, is_in_force}
@@ -64,6 +64,11 @@ StopsBefore j numbers left None = left ≡ []
 StopsBefore j numbers left (Some (Unsettled m)) = (front : List ℕ) × (numbers ≡ front ++ m ∷ [])
 StopsBefore j numbers left (Some refusal) =
     (left ≢ []) × ((refusal ≡ Fault) ⊎ (refusal ≡ (if is_full (undone_in j numbers) then Full else Memory)))
+
+-- how many are taken back, where so many were when the next undo was refused: an unsettled one is taken back itself
+abbrev pub count_at : ℕ → Refusal → ℕ
+count_at done (Unsettled m) = done + 1
+count_at done refusal = done
 
 -- of what has to be taken back with change n these are, from the greatest down, and no more
 pub record TakesDown (j : Journal) (n : ℕ) (numbers : List ℕ) (stopped : Option Refusal) : Type 0 where

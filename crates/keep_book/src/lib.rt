@@ -2,7 +2,6 @@
 #![tactic(auto)]
 
 mod book;
-mod cascade;
 mod hooks;
 mod laws;
 mod not_armed;
