@@ -2,6 +2,7 @@
 #![tactic(auto)]
 
 mod book;
+mod cascade;
 mod hooks;
 mod laws;
 mod not_armed;
