@@ -29,7 +29,7 @@ use Rattle.keep_ledger.specs.declared.request.Request.{Request}
 use Rattle.keep_ledger.specs.declared.request.Request.TheVariants.{Undo}
 use Rattle.keep_ledger.proofs.Counted.{faults_counted}
 use Rattle.keep_ledger.proofs.Replying.{undo_answers}
-use Rattle.keep_book.specs.Cascade.{AreUndone, AsksNothing, EachCallSays, EndsAlong, EndsBefore, FaultsNext, SaysSome, StopsBefore, TakesAlong, TakesDown, count_at, failures_at, taken_refusal, undone_on, with_undos}
+use Rattle.keep_book.specs.Cascade.{AreUndone, AsksNothing, EachCallSays, EndsAlong, EndsBefore, FaultsNext, RefusesOrGives, SaysSome, StopsBefore, TakesAlong, TakesDown, count_at, failures_at, taken_refusal, undone_on, with_undos}
 use Rattle.keep_book.proofs.Undos.{IsOpenState, accepted_free, accepted_told, nothing_leans, others_left, undone_one_more, with_one_more}
 
 -- ---- the ledger on its shelf after some undos
@@ -145,6 +145,12 @@ pub record IsCascade (b : OnShelf) (n : ℕ) (numbers : List ℕ) (stopped : Opt
   pub faults : FaultsNext b numbers stopped after
   pub failures : after.shelf.failures ≡ failures_at stopped b.shelf.failures
   pub stops : EachCallSays b n after
+
+-- the same of a list and a reason that are these
+pub as_told : (b : OnShelf) (n : ℕ) (numbers : List ℕ) (stopped : Option Refusal) (told : List ℕ) (said : Option Refusal) (after : OnShelf)
+    → told ≡ numbers → said ≡ stopped → IsCascade b n numbers stopped after → IsCascade b n told said after
+as_told b n numbers stopped told said after is_told is_said cascade =
+    subst (λ ns. IsCascade b n ns said after) (sym is_told) (subst (λ s. IsCascade b n numbers s after) (sym is_said) cascade)
 
 others_as : (b : OnShelf) (numbers : List ℕ) (after : OnShelf) → IsOpenState b.state → AreUndone b.state numbers → after.state ≡ with_undos b.state numbers
     → after.state.live ≡ fold_of (kept_without b.state.events numbers) b.state.opening
@@ -346,25 +352,35 @@ module _ (b : OnShelf) (n : ℕ) (is : IsOpenState b.state) (free : taken_refusa
 
   -- ---- the list, as far as it was gone through
 
-  module _ (all : List ℕ) (taken : AreTaken b.state.events n all) (done : ℕ) (within : done < length all)
+  module _ (all : List ℕ) (taken : AreTaken b.state.events n all) (done m : ℕ) (within : done < length all) (is_m : m ≡ get_or all done m)
       (now : OnShelf) (going : Going b n (take done all) now) (rules : List Rule) (after : OnShelf) where
-    cut : AreTaken b.state.events n (take done all ++ get_or all done 0 ∷ drop (done + 1) all)
+    cut : AreTaken b.state.events n (take done all ++ m ∷ drop (done + 1) all)
     cut =
         subst (AreTaken b.state.events n)
-        (sym (take-append-drop done all) ∙ ap (λ xs. take done all ++ xs) (drop_more all done 0 within)) taken
+        (sym (take-append-drop done all) ∙ ap (λ xs. take done all ++ xs) (drop_more all done m within ∙ ap (λ x. x ∷ drop (done + 1) all) (sym is_m)))
+        taken
 
-    more : take (done + 1) all ≡ take done all ++ get_or all done 0 ∷ []
-    more = take_more all done 0 within
+    more : take (done + 1) all ≡ take done all ++ m ∷ []
+    more = take_more all done m within ∙ ap (λ x. take done all ++ x ∷ []) (sym is_m)
 
-    pub goes_on : (t : Told) → RespondsOn now rules (get_or all done 0) (Ok t) after → Going b n (take (done + 1) all) after
+    pub goes_on : (t : Told) → RespondsOn now rules m (Ok t) after → Going b n (take (done + 1) all) after
     goes_on t responds =
-        subst (λ ns. Going b n ns after) (sym more)
-        (one_more (take done all) (get_or all done 0) (drop (done + 1) all) cut now going rules after t responds)
+        subst (λ ns. Going b n ns after) (sym more) (one_more (take done all) m (drop (done + 1) all) cut now going rules after t responds)
 
-    pub stops_there : (refusal : Refusal) → RespondsOn now rules (get_or all done 0) (Err refusal) after
+    pub stops_there : (refusal : Refusal) → RespondsOn now rules m (Err refusal) after
         → IsCascade b n (take (count_at done refusal) all) (Some refusal) after
     stops_there (Unsettled k) responds =
         subst (λ ns. IsCascade b n ns (Some (Unsettled k)) after) (sym more)
-        (last_unsettled (take done all) (get_or all done 0) (drop (done + 1) all) cut now going rules after k responds)
+        (last_unsettled (take done all) m (drop (done + 1) all) cut now going rules after k responds)
     stops_there refusal responds =
-        next_refused (take done all) (get_or all done 0) (drop (done + 1) all) cut now going rules after refusal (λ k e. cc e) responds
+        next_refused (take done all) m (drop (done + 1) all) cut now going rules after refusal (λ k e. cc e) responds
+
+-- ---- what `taken` answers
+
+pub gives : {A : Type 0} (o : Option Refusal) (good : A → Type 0) (given : A) → RefusesOrGives o good (Ok given) → (o ≡ None) × good given
+gives None good given is = (refl, is)
+gives (Some refusal) good given is = cc is
+
+pub refuses : {A : Type 0} (o : Option Refusal) (good : A → Type 0) (refusal : Refusal) → RefusesOrGives o good (Err refusal) → refusal ≡ unwrap_or o Memory
+refuses None good refusal is = is
+refuses (Some other) good refusal is = cc is
