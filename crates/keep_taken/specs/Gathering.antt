@@ -40,6 +40,10 @@ pub record Takes (m : ℕ) (old new : Found) : Type 0 where
   pub others : (q : ℕ) → is_pending new q ≡ (is_pending old q && not (m == q))
   pub walked : (facet : Facet) → is_walked new facet ≡ is_walked old facet
 
+-- no change is pending
+pub record NothingPends (found : Found) : Type 0 where
+  pub none : (m : ℕ) → is_pending found m ≡ false
+
 -- all changes after n that touch a facet which was walked are pending
 abbrev pub Covers : Journal → ℕ → Found → Type 0
 Covers j n found = (facet : Facet) (m : ℕ) → is_walked found facet ≡ true → touches_after j n facet m ≡ true → is_pending found m ≡ true

@@ -1,10 +1,10 @@
-ghost use Rattle.std.specs.Prelude.{◌≡◌, ℕ, ◌==◌, ◌&&◌, ◌||◌, [], ◌∷◌, true, false, map, IfNone, IfOk, IfSome, OnOk};
+ghost use Rattle.std.specs.Prelude.{◌≡◌, ℕ, ◌==◌, ◌&&◌, ◌||◌, [], ◌∷◌, true, map, IfNone, IfOk, IfSome, OnOk};
 ghost use Rattle.std.specs.BTreeSet.{contains};
 ghost use Rattle.std.specs.List.{list_any};
 ghost use Rattle.std.specs.Ordering.{nat_cmp};
 ghost use Rattle.keep_change.specs.Touch.{written_facets};
 ghost use Rattle.keep_journal.specs.History.{IsNumbered};
-ghost use Rattle.keep_taken.specs.Gathering.{is_pending, Begins, Finds, Takes, Walks};
+ghost use Rattle.keep_taken.specs.Gathering.{Begins, Finds, NothingPends, Takes, Walks};
 ghost use Rattle.keep_touch.specs.Finding.{in_force};
 ghost use Rattle.keep_touch.specs.Mentions.{AreNoted};
 
@@ -41,7 +41,7 @@ impl Found {
     /// The first of those that are to be looked at.
     pub(crate) fn take_first(&mut self) -> Option<u64>
         ensures first { IfSome result (λ m. Takes m self.old self.new) }
-        ensures none { IfNone result ((m : ℕ) → is_pending self.old m ≡ false) }
+        ensures none { IfNone result (NothingPends self.old) }
     {
         self.pending.pop_first()
     }
@@ -114,7 +114,11 @@ impl Found {
     {
         let is_new = self.walked.insert(facet)?;
         if is_new {
-            put_in_force(&mut self.pending, history, touch.mentions_after(history, n, facet))?;
+            put_in_force(
+                &mut self.pending,
+                history,
+                touch.mentions_after(history, n, facet),
+            )?;
         }
         Ok(())
     }

@@ -13,6 +13,7 @@ use std::alloc::{AllocError, Global};
 /// on those in turn.
 ///
 /// It looks at these changes alone, and goes once through the later mentions of each facet that they write.
+#[tactic(auto, using(crate::proofs::Steps::ends))]
 pub fn taken_with(
     alloc: Global,
     history: &History,
