@@ -1,0 +1,4 @@
+pub mod Keeping
+pub mod Open
+pub mod Reached
+pub mod Selected
