@@ -1,5 +1,5 @@
 -- What is reached is what is reached by texts.
-use Rattle.std.proofs.Common.{◌≡◌, inl, inr, ℕ, zero, suc, true, false, List, [], Option, None, Some, Result, Ok, Err, refl, sym, ap, subst, ◌∙◌}
+use Rattle.std.proofs.Common.{◌≡◌, inl, inr, ℕ, zero, suc, true, false, List, Option, None, Some, Result, Ok, Err, refl, sym, ap, subst, ◌∙◌}
 use Rattle.std.specs.Prelude.{IsOkAnd, IsSome, is_some}
 use Rattle.std.specs.FinMap as finite
 use Rattle.std.specs.List.{flat_map}
@@ -16,7 +16,7 @@ use Rattle.keep_tree.specs.Tree.{NodeData}
 use Rattle.keep_tree.specs.declared.tree.TreeError.{TreeError}
 use Rattle.keep_snap.specs.Snap.{SnapData}
 use Rattle.keep_catalog.specs.Chosen.{IsOpenPlace}
-use Rattle.keep_catalog.specs.Files.{file_in, snap_in, snap_read, what_is_read}
+use Rattle.keep_catalog.specs.Files.{snap_in, snap_read, what_is_read}
 use Rattle.keep_catalog.specs.Naming.{blobs_named, named_by, named_of, nodes_read, read_tree_of}
 use Rattle.keep_catalog.specs.Places.{at, bytes_at, chosen, chosen_listing}
 use Rattle.keep_catalog.specs.declared.spot.Spot.{Spot}

@@ -1,5 +1,5 @@
 -- What restic's files say, and that a sound repository is a whole one.
-use Rattle.std.specs.Prelude.{Bool, ℕ, List, Some}
+use Rattle.std.specs.Prelude.{Bool, List, Some}
 use Rattle.std.specs.List.{flat_map}
 use Rattle.std.specs.Option.{option_map}
 use Rattle.keep_names.specs.declared.id.Id.{Id}
@@ -11,10 +11,9 @@ use Rattle.keep_catalog.specs.Files.{snap_read, what_is_read}
 use Rattle.keep_catalog.specs.Naming.{named_of, read_tree_of}
 use Rattle.keep_catalog.specs.Places.{places_listed, places_stored}
 use Rattle.keep_reach.specs.Sound.{IsSound}
-use Rattle.keep_sound.specs.Careful.{IsSafe}
+use Rattle.keep_sound.specs.Careful.{IsSafe, Keeps}
 use Rattle.keep_sound.specs.Met.{AddsPart, HasOneText, IsPartOf}
-use Rattle.keep_sound.specs.Selection.{AreSafe}
-use Rattle.keep_whole.specs.Selected.{AllKeepWhole, KeepsWhole}
+use Rattle.keep_sound.specs.Selection.{AllKeep, AreSafe}
 use Rattle.keep_whole.specs.Whole.{IsWhole, Says}
 
 -- the tree of a snapshot; what the nodes of a tree name; the blobs of an index; the entries of a header
@@ -32,14 +31,14 @@ SoundIsWhole =
     (r all : Repository) → IsPartOf r all → HasOneText all
     → (IsSound r → IsWhole restic r) × (IsWhole restic r → IsSound r)
 
--- so a change that is safe keeps whole
+-- so a change that is safe keeps a whole repository whole
 abbrev pub SafeKeepsWhole : Type 0
 SafeKeepsWhole =
     (all : Repository) (known : Id → Bool) (c : Change) → HasOneText all → AddsPart all c
-    → IsSafe all known c → KeepsWhole restic all known c
+    → IsSafe all known c → Keeps (IsWhole restic) all known c
 
 -- and so do many
 abbrev pub AllSafeKeepWhole : Type 0
 AllSafeKeepWhole =
     (all : Repository) (known : Id → Bool) (changes : List Numbered) → HasOneText all
-    → AreSafe all known changes → AllKeepWhole restic all known changes
+    → AreSafe all known changes → AllKeep (IsWhole restic) all known changes

@@ -57,5 +57,6 @@ Reaches says r (suc levels) a b = (a ≡ b) ⊎ ((c : BlobId) × Names says r a 
 -- each blob that a snapshot reaches is there
 abbrev pub IsWhole : Says → Repository → Type 0
 IsWhole says r =
-    (snapshot root : Id) (bytes : List ℕ) (blob : BlobId) → HasFile r Snapshot snapshot bytes → says.root bytes ≡ Some root
+    (snapshot root : Id) (bytes : List ℕ) (blob : BlobId)
+    → HasFile r Snapshot snapshot bytes → says.root bytes ≡ Some root
     → Reaches says r most_levels (tree_at root) blob → (text : List ℕ) × HasText says r blob text

@@ -1,4 +1,4 @@
-use Rattle.keep_whole.proofs.Selected as lemmas
+use Rattle.keep_whole.proofs.Keeping as lemmas
 use Rattle.keep_whole.proofs.laws.selections_are_whole.Goals as goal
 
 pub returns : goal.returns
