@@ -27,14 +27,14 @@ pub fn books_stay_sound()
     filters_are_selections();
 }
 
-/// Whichever changes of a sound book that aren't final are in force, its snapshots are whole.
+/// Whichever changes of a sound book that aren't final are in force, no snapshot misses a blob.
 pub fn selections_of_books_are_sound()
     ensures { SelectionsOfBooksAreSound }
 {
     selections_are_sound();
 }
 
-/// So they are in the book as it is.
+/// None does in the book as it is.
 pub fn books_are_sound()
     ensures { BooksAreSound }
 {

@@ -1,4 +1,4 @@
-//! The laws by which a book's history keeps its snapshots whole.
+//! The laws by which no snapshot of a book misses a blob, whichever of its changes are undone and made again.
 #![tactic(auto)]
 
 mod laws;
