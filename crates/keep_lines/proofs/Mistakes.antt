@@ -67,7 +67,8 @@ unfolding first_word
 number_first front rest (inl e) = inl (ap (λ f. first_word (f ++ 32 ∷ rest)) e)
 number_first front rest (inr (inl e)) = inr (inl (ap (λ f. first_word (f ++ 32 ∷ rest)) e))
 number_first front rest (inr (inr (inl e))) = inr (inr (inl (ap (λ f. first_word (f ++ 32 ∷ rest)) e)))
-number_first front rest (inr (inr (inr e))) = inr (inr (inr (ap (λ f. first_word (f ++ 32 ∷ rest)) e)))
+number_first front rest (inr (inr (inr (inl e)))) = inr (inr (inr (inl (ap (λ f. first_word (f ++ 32 ∷ rest)) e))))
+number_first front rest (inr (inr (inr (inr e)))) = inr (inr (inr (inr (ap (λ f. first_word (f ++ 32 ∷ rest)) e))))
 
 name_first : (front rest : List ℕ) → AsksName front → AsksName (first_word (front ++ 32 ∷ rest))
 unfolding first_word
@@ -120,7 +121,8 @@ AsksOne-letter : (verb : List ℕ) → AsksOne verb → (get_or verb 1 0 ≢ 100
 AsksOne-letter verb (inl (inl e)) = rw e (λ h. omega (arith, h), λ h. omega (arith, h))
 AsksOne-letter verb (inl (inr (inl e))) = rw e (λ h. omega (arith, h), λ h. omega (arith, h))
 AsksOne-letter verb (inl (inr (inr (inl e)))) = rw e (λ h. omega (arith, h), λ h. omega (arith, h))
-AsksOne-letter verb (inl (inr (inr (inr e)))) = rw e (λ h. omega (arith, h), λ h. omega (arith, h))
+AsksOne-letter verb (inl (inr (inr (inr (inl e))))) = rw e (λ h. omega (arith, h), λ h. omega (arith, h))
+AsksOne-letter verb (inl (inr (inr (inr (inr e))))) = rw e (λ h. omega (arith, h), λ h. omega (arith, h))
 AsksOne-letter verb (inr (inl (inl e))) = rw e (λ h. omega (arith, h), λ h. omega (arith, h))
 AsksOne-letter verb (inr (inl (inr (inl e)))) = rw e (λ h. omega (arith, h), λ h. omega (arith, h))
 AsksOne-letter verb (inr (inl (inr (inr e)))) = rw e (λ h. omega (arith, h), λ h. omega (arith, h))

@@ -17,7 +17,7 @@ use Rattle.keep_lines.specs.BackupLine.{IsFile, file_word}
 use Rattle.keep_lines.specs.Command.{IsCommand, command_text}
 use Rattle.keep_lines.specs.ForgetLine.{IsRule, rule_text}
 use Rattle.keep_lines.specs.RewriteLine.{IsClear, flagged}
-use Rattle.keep_lines.specs.Said.{HasOneCommand, RuleData, TagData, Values, Verb, command_said, file_said, rule_said, tag_said, with, Undo, Redo, Empty, ListFiles, Count, History, Same, Restore, Audit, Totals, Note, Arm, Add, Drop, Backup, Tag, Forget, Rewrite, Repair, Mark, Sweep}
+use Rattle.keep_lines.specs.Said.{HasOneCommand, RuleData, TagData, Values, Verb, command_said, file_said, rule_said, tag_said, with, Undo, Redo, Empty, Cascade, ListFiles, Count, History, Same, Restore, Audit, Totals, Note, Arm, Add, Drop, Backup, Tag, Forget, Rewrite, Repair, Mark, Sweep}
 use Rattle.keep_lines.specs.TagLine.{IsTagWord, tag_word_text}
 use Rattle.keep_lines.specs.Word.{IsTarget, hex_text, target_text}
 use Rattle.keep_lines.specs.WordList.{AreSpaceless}
@@ -42,6 +42,7 @@ abbrev pub text_of : (verb : Verb) → Values verb → List ℕ
 text_of Undo n = codes "undo " ++ decimal n
 text_of Redo n = codes "redo " ++ decimal n
 text_of Empty n = codes "empty " ++ decimal n
+text_of Cascade n = codes "cascade " ++ decimal n
 text_of ListFiles v = codes "list"
 text_of Count v = codes "count"
 text_of History v = codes "history"
@@ -70,6 +71,7 @@ abbrev pub Counts : (verb : Verb) → Values verb → Type 0
 Counts Undo n = n < 2 ^ 64
 Counts Redo n = n < 2 ^ 64
 Counts Empty n = n < 2 ^ 64
+Counts Cascade n = n < 2 ^ 64
 Counts ListFiles v = Unit {0}
 Counts Count v = Unit {0}
 Counts History v = Unit {0}
@@ -97,6 +99,7 @@ verb_in text =
     if begins (codes "undo ") text then Undo
     else (if begins (codes "redo ") text then Redo
     else (if begins (codes "empty ") text then Empty
+    else (if begins (codes "cascade ") text then Cascade
     else (if begins (codes "list") text then ListFiles
     else (if begins (codes "count") text then Count
     else (if begins (codes "history") text then History
@@ -113,13 +116,14 @@ verb_in text =
     else (if begins (codes "forget ") text then Forget
     else (if begins (codes "rewrite ") text then Rewrite
     else (if begins (codes "repair") text then Repair
-    else (if begins (codes "mark") text then Mark else Sweep)))))))))))))))))))
+    else (if begins (codes "mark") text then Mark else Sweep))))))))))))))))))))
 
 verb_read : (verb : Verb) (values : Values verb) → verb_in (text_of verb values) ≡ verb
 unfolding verb_in
 verb_read Undo v = refl
 verb_read Redo v = refl
 verb_read Empty v = refl
+verb_read Cascade v = refl
 verb_read ListFiles v = refl
 verb_read Count v = refl
 verb_read History v = refl
@@ -159,6 +163,7 @@ values_told : (verb : Verb) (x y : Values verb) → Counts verb x → Counts ver
 values_told Undo x y h k e = number_told (codes "undo ") x y h k e
 values_told Redo x y h k e = number_told (codes "redo ") x y h k e
 values_told Empty x y h k e = number_told (codes "empty ") x y h k e
+values_told Cascade x y h k e = number_told (codes "cascade ") x y h k e
 values_told ListFiles x y h k e = refl
 values_told Count x y h k e = refl
 values_told History x y h k e = refl
@@ -244,6 +249,7 @@ printed (the_command.RawFile (raw_file.Drop kind target)) = refl
 printed (the_command.Revision (revision.Undo n)) = refl
 printed (the_command.Revision (revision.Redo n)) = refl
 printed (the_command.Revision (revision.Empty n)) = refl
+printed (the_command.Cascade n) = refl
 printed (the_command.Question question.List) = refl
 printed (the_command.Question question.Count) = refl
 printed (the_command.Question question.History) = refl
@@ -297,6 +303,7 @@ counted (the_command.RawFile (raw_file.Drop kind target)) h = h
 counted (the_command.Revision (revision.Undo n)) h = h
 counted (the_command.Revision (revision.Redo n)) h = h
 counted (the_command.Revision (revision.Empty n)) h = h
+counted (the_command.Cascade n) h = h
 counted (the_command.Question question.List) h = tt
 counted (the_command.Question question.Count) h = tt
 counted (the_command.Question question.History) h = tt

@@ -37,7 +37,8 @@ mistake_text NoHook = codes "no veto or watch of this NAME"
 -- behind these words a number is asked for
 abbrev pub AsksNumber : List ℕ → Type 0
 AsksNumber verb =
-    (verb ≡ codes "undo") ⊎ ((verb ≡ codes "redo") ⊎ ((verb ≡ codes "empty") ⊎ (verb ≡ codes "sweep")))
+    (verb ≡ codes "undo") ⊎ ((verb ≡ codes "redo") ⊎ ((verb ≡ codes "empty")
+    ⊎ ((verb ≡ codes "cascade") ⊎ (verb ≡ codes "sweep"))))
 
 -- behind these, a name
 abbrev pub AsksName : List ℕ → Type 0

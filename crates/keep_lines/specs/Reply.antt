@@ -1,6 +1,7 @@
 -- The texts of replies to what a line asks to be done, each without a line's end.
 use Rattle.std.specs.Prelude.{ℕ, List, ◌++◌, length, codes}
 use Rattle.std.specs.Fmt.{decimal}
+use Rattle.std.specs.List.{flat_map}
 use Rattle.keep_change.specs.declared.change.Change.{Change}
 use Rattle.keep_ledger.specs.declared.reply.Told.{Told}
 use Rattle.keep_lines.specs.declared.reply.Committed.{Committed}
@@ -28,6 +29,14 @@ sizes_text sizes =
 -- a change that was committed: `ok N at K +A -D *S ~C`
 abbrev pub committed_text : Committed → List ℕ
 committed_text committed = told_text committed.told ++ (codes " " ++ sizes_text committed.sizes)
+
+-- a number, with a space before it
+abbrev pub number_word : ℕ → List ℕ
+number_word n = codes " " ++ decimal n
+
+-- changes that were taken back: `taken`, and their numbers in this order
+abbrev pub taken_text : List ℕ → List ℕ
+taken_text numbers = codes "taken" ++ flat_map number_word numbers
 
 -- what was refused, by how the refusal prints: `no WORD`, with its value where it has one
 abbrev pub no_text : List ℕ → List ℕ

@@ -26,6 +26,7 @@ pub data Verb : Type 0 where
   Undo : Verb
   Redo : Verb
   Empty : Verb
+  Cascade : Verb
   ListFiles : Verb
   Count : Verb
   History : Verb
@@ -61,6 +62,7 @@ abbrev pub Values : Verb → Type 0
 Values Undo = ℕ
 Values Redo = ℕ
 Values Empty = ℕ
+Values Cascade = ℕ
 Values ListFiles = Unit {0}
 Values Count = Unit {0}
 Values History = Unit {0}
@@ -139,6 +141,7 @@ abbrev pub command_said : Command → Said
 command_said (the_command.Job asked) = job_said asked
 command_said (the_command.RawFile file) = raw_file_said file
 command_said (the_command.Revision asked) = revision_said asked
+command_said (the_command.Cascade n) = with Cascade n
 command_said (the_command.Question asked) = question_said asked
 command_said (the_command.Note name) = with Note name.now
 command_said (the_command.Arm name) = with Arm name.now

@@ -1,9 +1,9 @@
 ghost use Rattle.std.specs.Prelude.{◌≡◌, Err, IfOk, IfSome, None, Ok, OnOk};
-ghost use Rattle.keep_lines.specs.Command.{Asks, IsCommand, arm_text, command_text, note_text};
+ghost use Rattle.keep_lines.specs.Command.{Asks, IsCommand, arm_text, cascade_text, command_text, note_text};
 ghost use Rattle.keep_lines.specs.Line.{IsPassedOver, IsText};
 ghost use Rattle.keep_lines.specs.Mistake.{IsMistake};
 ghost use Rattle.keep_lines.specs.Prints.{Parses};
-ghost use Rattle.keep_lines.specs.Word.{IsName};
+ghost use Rattle.keep_lines.specs.Word.{IsName, IsNumber};
 ghost use Rattle.keep_lines.specs.declared.command.LineError.TheVariants as the_error;
 ghost use Rattle.keep_lines.specs.declared.mistake.Mistake.{Mistake};
 
@@ -13,7 +13,7 @@ use crate::mistake::{Mistake, mistake_of};
 use crate::question::{Question, parse_question};
 use crate::raw_file::{RawFile, parse_raw_file};
 use crate::revision::{Revision, parse_revision};
-use crate::word::is_name;
+use crate::word::{is_name, parse_number};
 use std::alloc::{AllocError, Global};
 
 /// What a line asks for.
@@ -22,6 +22,8 @@ pub enum Command<'a> {
     Job(JobLine),
     RawFile(RawFile),
     Revision(Revision),
+    /// To take the change of this number back, with all that leans on it.
+    Cascade(u64),
     Question(Question<'a>),
     /// To note the repository under this name.
     Note(&'a str),
@@ -73,6 +75,9 @@ fn parse_command(alloc: Global, text: &str) -> Result<Option<Command<'_>>, Alloc
     if let Some(revision) = parse_revision(text) {
         return Ok(Some(Command::Revision(revision)));
     }
+    if let Some(number) = parse_cascade(text) {
+        return Ok(Some(Command::Cascade(number)));
+    }
     if let Some(question) = parse_question(text) {
         return Ok(Some(Command::Question(question)));
     }
@@ -88,6 +93,18 @@ fn parse_command(alloc: Global, text: &str) -> Result<Option<Command<'_>>, Alloc
     match parse_job(alloc, text)? {
         Some(job) => Ok(Some(Command::Job(job))),
         None => Ok(None),
+    }
+}
+
+/// The number of the change that the line asks to take back with all that leans on it.
+fn parse_cascade(text: &str) -> Option<u64>
+    ensures { Parses IsNumber cascade_text text.now result }
+{
+    let (verb, number) = text.split_once(' ')?;
+    let number = parse_number(number)?;
+    match verb {
+        "cascade" => Some(number),
+        _ => None,
     }
 }
 

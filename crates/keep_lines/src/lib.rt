@@ -30,7 +30,7 @@ pub use mistake::Mistake;
 pub use policies::policy_of;
 pub use question::Question;
 pub use raw_file::RawFile;
-pub use reply::{Accepted, BadLine, Committed, Refused, Sizes};
+pub use reply::{Accepted, BadLine, Committed, Refused, Sizes, TakenNumbers};
 pub use revision::Revision;
 pub use rewrite_line::RewriteLine;
 pub use tag_line::{TagLine, TagWord};

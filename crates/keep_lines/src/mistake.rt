@@ -80,7 +80,7 @@ pub(crate) fn mistake_of(text: &str) -> Mistake
         return Mistake::NoCommand;
     };
     match verb {
-        "undo" | "redo" | "empty" | "sweep" => Mistake::NotNumber,
+        "undo" | "redo" | "empty" | "cascade" | "sweep" => Mistake::NotNumber,
         "note" | "same" | "arm" => Mistake::NotName,
         "restore" => Mistake::NotTarget,
         "backup" => Mistake::NotBackup,

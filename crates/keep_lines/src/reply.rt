@@ -79,6 +79,25 @@ impl fmt::Display for Committed {
     }
 }
 
+/// The answer to changes that were taken back: their numbers, in this order.
+#[derive(Clone, Copy)]
+pub struct TakenNumbers<'a>(pub &'a [u64]);
+
+impl fmt::Display for TakenNumbers<'_> {
+    ghost use Rattle.std.specs.Prelude.{Some};
+    ghost use Rattle.keep_lines.specs.Reply.{taken_text};
+
+    ghost output = { λ taken. Some (taken_text taken.0.now) };
+
+    fn fmt<W: fmt::Write>(&self, f: &mut fmt::Formatter<W>) -> fmt::Result {
+        f.write_str("taken")?;
+        for number in self.0 {
+            write!(f, " {number}")?;
+        }
+        Ok(())
+    }
+}
+
 /// The answer to what was refused, for this reason.
 #[derive(Clone, Copy)]
 pub struct Refused<E>(pub E);

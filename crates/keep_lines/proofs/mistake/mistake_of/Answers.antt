@@ -8,7 +8,7 @@ use Rattle.keep_lines.specs.Mistake.{AsksBackup, AsksForget, AsksName, AsksNumbe
 use Rattle.keep_lines.specs.RewriteLine.{IsRewrite, rewrite_text}
 use Rattle.keep_lines.specs.TagLine.{IsTag, tag_text}
 use Rattle.keep_lines.specs.Word.{IsName, IsNumber, IsTarget, target_text}
-use Rattle.keep_lines.specs.declared.command.Command.TheVariants.{Arm, Job, Note, Question, Revision}
+use Rattle.keep_lines.specs.declared.command.Command.TheVariants.{Arm, Cascade, Job, Note, Question, Revision}
 use Rattle.keep_lines.specs.declared.question.Question.TheVariants.{Restore, Same}
 use Rattle.keep_lines.specs.declared.revision.Revision.TheVariants.{Empty, Redo, Undo}
 use Rattle.keep_lines.proofs.mistake.mistake_of.Goals as goal
@@ -38,8 +38,15 @@ pub returns-in-undo-4 : goal.returns-in-undo-4
 returns-in-undo-4 c =
     let text = c.args.text.now in
     let cut = cut_first text c.split_once.result _ c.split_once.ensures.cases c.in-Some.is in
+    let split : text ≡ codes "cascade" ++ 32 ∷ c.in-Some.rest.now = cut ∙ ap (λ (v : List ℕ). v ++ 32 ∷ c.in-Some.rest.now) c.in-undo.is-cascade in
+    ends_in_no AsksNumber IsNumber decimal (λ n. Cascade n) (codes "cascade") text c.in-Some.rest.now (inr (inr (inr (inl refl)))) c.requires split (λ value is. is) (λ value. refl)
+
+pub returns-in-undo-5 : goal.returns-in-undo-5
+returns-in-undo-5 c =
+    let text = c.args.text.now in
+    let cut = cut_first text c.split_once.result _ c.split_once.ensures.cases c.in-Some.is in
     let split : text ≡ codes "sweep" ++ 32 ∷ c.in-Some.rest.now = cut ∙ ap (λ (v : List ℕ). v ++ 32 ∷ c.in-Some.rest.now) c.in-undo.is-sweep in
-    ends_in_no AsksNumber IsNumber decimal (λ n. Job (Sweep (Some n))) (codes "sweep") text c.in-Some.rest.now (inr (inr (inr refl))) c.requires split (λ value is. is) (λ value. refl)
+    ends_in_no AsksNumber IsNumber decimal (λ n. Job (Sweep (Some n))) (codes "sweep") text c.in-Some.rest.now (inr (inr (inr (inr refl)))) c.requires split (λ value is. is) (λ value. refl)
 
 pub returns-in-note : goal.returns-in-note
 returns-in-note c =
