@@ -1,0 +1,83 @@
+-- Planned histories lose nothing.
+use Rattle.std.proofs.Common.{◌≡◌, ◌≢◌, ℕ, List, [], ◌∷◌, Result, Ok, Err, sym, subst}
+use Rattle.keep_repo.specs.Repository.{Repository}
+use Rattle.keep_reach.specs.Sound.{IsSound}
+use Rattle.keep_told.specs.Laws.{ToldIsOpen}
+use Rattle.keep_reading.specs.Reads.{OneReading}
+use Rattle.keep_ledger.specs.Ends.{heard}
+use Rattle.keep_ledger.specs.LedgerState.{LedgerState}
+use Rattle.keep_ledger.specs.Made.{with_event}
+use Rattle.keep_ledger.specs.Reply.{Replies, state_after, told_of}
+use Rattle.keep_ledger.specs.declared.reply.Refusal.{Refusal}
+use Rattle.keep_ledger.specs.declared.reply.Refusal.TheVariants.{Malformed, Unknown, Final, NotInForce, InForce, Full, Stale, Vetoed, Unmet, LeanedOn, Blocked, Memory, Fault, Unsettled}
+use Rattle.keep_ledger.specs.declared.reply.Told.{Told}
+use Rattle.keep_ledger.specs.declared.request.Request.TheVariants.{Undo}
+use Rattle.keep_book.specs.Cascade.{AreUndone, with_undos}
+use Rattle.keep_read.specs.Losses.{SoundLosesNoBlob}
+use Rattle.keep_sound_books.specs.SoundBooks.{SelectionsOfBooksAreSound}
+use Rattle.keep_planned_books.specs.History.{BeginsSound, IsPlannedHistory, accepted, begun, opened, read_again}
+use Rattle.keep_planned_books.specs.Losing.{AnswersLoseNothing, BooksLoseNothing, CascadesLoseNothing, LosesNothing, OpeningsLoseNothing, SelectionsLoseNothing}
+use Rattle.keep_planned_books.proofs.Keeping.{Keep, Laws, keep_first, keep_next}
+use Rattle.keep_planned_books.proofs.Opening.{opened_is, read_sound}
+
+module _ (laws : Laws) (audits : SoundLosesNoBlob) (stays : ToldIsOpen) where
+  loses_nothing : (r : Repository) → IsSound r → LosesNothing r
+  loses_nothing r sound = record { sound = sound; audit = audits r sound }
+
+  keeps : (all opening : Repository) → BeginsSound all opening → (books : List LedgerState) → IsPlannedHistory all opening books → Keep all books
+  keeps all opening begins _ begun = keep_first laws all opening begins
+  keeps all opening begins _ (accepted book earlier vetoes request told history planned replies) =
+      keep_next laws all opening begins book earlier (keeps all opening begins (book ∷ earlier) history) vetoes request told planned replies
+  keeps all opening begins _ (opened book earlier history) = (read_sound stays all book (keeps all opening begins (book ∷ earlier) history).0, tt)
+
+  pub selections_lose_nothing : SelectionsOfBooksAreSound → SelectionsLoseNothing
+  selections_lose_nothing selections all opening book earlier chosen begins history selected unbroken =
+      loses_nothing _ (selections all book chosen (keeps all opening begins (book ∷ earlier) history).0 selected unbroken).sound
+
+  pub books_lose_nothing : BooksLoseNothing
+  books_lose_nothing all opening book earlier begins history =
+      loses_nothing book.live (laws.sound all book (keeps all opening begins (book ∷ earlier) history).0).sound
+
+  pub openings_lose_nothing : OneReading → OpeningsLoseNothing
+  openings_lose_nothing one all opening book earlier shelf read begins history says is =
+      let same : read_again book ≡ read.state = sym (opened_is one all book (keeps all opening begins (book ∷ earlier) history).0 shelf read says is) in (
+        subst (λ (b : LedgerState). IsPlannedHistory all opening (b ∷ [])) same (opened book earlier history),
+        subst (λ (b : LedgerState). LosesNothing b.live) same (books_lose_nothing all opening book earlier begins history),
+      )
+
+  pub answers_lose_nothing : AnswersLoseNothing
+  answers_lose_nothing all opening book earlier vetoes request reply begins history planned replies = by_reply reply replies where
+    next : (told : Told) → Replies book vetoes request (Ok told) → LosesNothing (with_event book request).live
+    next told made = books_lose_nothing all opening (with_event book request) (book ∷ earlier) begins (accepted book earlier vetoes request told history planned made)
+
+    same : LosesNothing book.live
+    same = books_lose_nothing all opening book earlier begins history
+
+    by_reply : (reply : Result Told Refusal) → (reply ≢ Err Fault → Replies book vetoes request (heard book request reply)) → LosesNothing (state_after book request (heard book request reply)).live
+    by_reply (Ok told) made = next told (made (λ e. cc e))
+    by_reply (Err (Unsettled n)) made = next (told_of book.events request) (made (λ e. cc e))
+    by_reply (Err Malformed) made = same
+    by_reply (Err Unknown) made = same
+    by_reply (Err Final) made = same
+    by_reply (Err NotInForce) made = same
+    by_reply (Err InForce) made = same
+    by_reply (Err Full) made = same
+    by_reply (Err (Stale length)) made = same
+    by_reply (Err (Vetoed name)) made = same
+    by_reply (Err (Unmet facet)) made = same
+    by_reply (Err (LeanedOn n)) made = same
+    by_reply (Err (Blocked n)) made = same
+    by_reply (Err Memory) made = same
+    by_reply (Err Fault) made = same
+
+  -- each undo that is accepted goes on with the history
+  undone : (all opening : Repository) (numbers : List ℕ) (book : LedgerState) (earlier : List LedgerState) → IsPlannedHistory all opening (book ∷ earlier) → AreUndone book numbers
+      → (between : List LedgerState) × IsPlannedHistory all opening (with_undos book numbers ∷ between)
+  undone all opening [] book earlier history steps = (earlier, history)
+  undone all opening (m ∷ ms) book earlier history steps =
+      undone all opening ms (with_event book (Undo m)) (book ∷ earlier) (accepted book earlier [] (Undo m) (told_of book.events (Undo m)) history tt steps.0) steps.1
+
+  pub cascades_lose_nothing : CascadesLoseNothing
+  cascades_lose_nothing all opening book earlier numbers begins history steps =
+      let after = undone all opening numbers book earlier history steps in
+      (after, books_lose_nothing all opening (with_undos book numbers) after.0 begins after.1)

@@ -1,0 +1,5 @@
+pub mod Histories
+pub mod JobSafe
+pub mod Keeping
+pub mod Opening
+pub mod Said

@@ -1,0 +1,6 @@
+//! Laws alone, without code: no history whose changes are planned loses a blob.
+#![tactic(auto)]
+
+mod laws;
+
+pub use laws::{jobs_are_said_in_texts, planned_histories_lose_nothing};
