@@ -1,0 +1,6 @@
+pub mod Accepting
+pub mod Crossing
+pub mod Fitting
+pub mod Following
+pub mod Formed
+pub mod Histories
