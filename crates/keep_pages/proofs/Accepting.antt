@@ -1,5 +1,5 @@
 -- What an answer that tells says of its request.
-use Rattle.std.proofs.Common.{◌≡◌, ℕ, ◌<◌, List, Option, Some, None, Ok, refl, inl, inr}
+use Rattle.std.proofs.Common.{◌≡◌, List, Option, Some, None, Ok, refl, inl, inr}
 use Rattle.std.specs.Option.{option_map, option_or}
 use Rattle.keep_change.specs.declared.outline.Outline.{Outline}
 use Rattle.keep_hooks.specs.Guards.{Rule, first_refusing}

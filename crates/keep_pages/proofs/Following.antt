@@ -1,5 +1,5 @@
 -- A sheet can follow each event that is accepted.
-use Rattle.std.proofs.Common.{◌≡◌, ◌∙◌, ℕ, ◌+◌, ◌<◌, ◌^◌, List, [], ◌∷◌, ap, arith, subst, sym}
+use Rattle.std.proofs.Common.{◌∙◌, ◌+◌, ◌<◌, List, [], ◌∷◌, ap, arith, subst, sym}
 use Rattle.keep_repo.specs.Repository.{Repository}
 use Rattle.keep_journal.specs.History.{final_number, length_of}
 use Rattle.keep_journal.specs.Journal.{posted}
@@ -19,7 +19,6 @@ use Rattle.keep_ledger.proofs.Replying.{can_empty}
 use Rattle.keep_ledger.proofs.Undoing.{can_undo}
 use Rattle.keep_pages.specs.Following.{Follows, IsFormedEvent}
 use Rattle.keep_pages.specs.Histories.{state_of, state_with, IsAccepted, IsLegal}
-use Rattle.keep_pages.specs.Sheet.{SheetState}
 use Rattle.keep_pages.proofs.Accepting.{accepts}
 use Rattle.keep_pages.proofs.Histories.{with_event-is}
 

@@ -1,5 +1,5 @@
 -- Whether a change is well formed can be tested, so it is where it isn't not.
-use Rattle.std.proofs.Common.{◌≡◌, ◌∙◌, ℕ, ◌<◌, ◌≤◌, Bool, true, false, List, [], ◌∷◌, inl, inr, refl, sym, arith}
+use Rattle.std.proofs.Common.{◌≡◌, ◌∙◌, ℕ, ◌≤◌, Bool, true, false, List, [], ◌∷◌, inl, inr, refl, sym, arith}
 use Rattle.std.specs.List.{All, AllByRecursion}
 use Rattle.std.specs.List.Sorted.{IsStrictlySortedBy}
 use Rattle.std.specs.Str.{bytes_eq}
@@ -7,6 +7,7 @@ use Rattle.std.specs.declared.cmp.Ordering.{Ordering}
 use Rattle.std.specs.declared.cmp.Ordering.TheVariants.{Less, Equal, Greater}
 use Rattle.std.proofs.lemmas.Bool.{cases_lt}
 use Rattle.std.proofs.lemmas.Slice.Eq.{bytes_eq-Decides}
+use Rattle.keep_names.specs.Sha256.{sha256}
 use Rattle.keep_change.specs.Form.{IsWellFormed}
 use Rattle.keep_change.specs.declared.change.Change.{Change}
 use Rattle.keep_ledger.specs.Reply.{IsFormed}
@@ -15,11 +16,11 @@ use Rattle.keep_ledger.specs.declared.request.Request.TheVariants.{Commit, Undo,
 
 module _ {A : Type 0} (P : A → Type 0) (settle : (x : A) → ¬ (¬ P x) → P x) where
   all : (xs : List A) → ¬ (¬ All P xs) → All P xs
-  all xs doubt k d within = settle _ (λ no. doubt (λ yes. no (yes k d within)))
+  all xs doubt k d within = settle _ (λ no. doubt (λ is. no (is k d within)))
 
   each : (xs : List A) → ¬ (¬ AllByRecursion P xs) → AllByRecursion P xs
   each [] doubt = tt
-  each (x ∷ xs) doubt = (settle x (λ no. doubt (λ yes. no yes.0)), each xs (λ no. doubt (λ yes. no yes.1)))
+  each (x ∷ xs) doubt = (settle x (λ no. doubt (λ is. no is.0)), each xs (λ no. doubt (λ is. no is.1)))
 
 at_most : (m n : ℕ) → ¬ (¬ (m ≤ n)) → m ≤ n
 at_most m n doubt = elim (cases_lt n m) [ inl above ↦ absurd (doubt (λ within. omega arith)) | inr within ↦ within ]
@@ -39,8 +40,8 @@ sorted : {K : Type 0} (cmp : K → K → Ordering) (ks : List K) → ¬ (¬ IsSt
 unfolding IsStrictlySortedBy
 sorted cmp [] doubt = tt
 sorted cmp (k ∷ ks) doubt = (
-  each (λ l. cmp k l ≡ Less) (λ l. below (cmp k l)) ks (λ no. doubt (λ yes. no yes.0)),
-  sorted cmp ks (λ no. doubt (λ yes. no yes.1)),
+  each (λ l. cmp k l ≡ Less) (λ l. below (cmp k l)) ks (λ no. doubt (λ is. no is.0)),
+  sorted cmp ks (λ no. doubt (λ is. no is.1)),
 )
 
 -- a change that isn't not well formed is well formed
@@ -57,7 +58,7 @@ well_formed c doubt = record {
     unmarked = sorted _ _ (λ no. doubt (λ is. no is.in_order.unmarked));
   };
   once = λ q. at_most _ _ (λ no. doubt (λ is. no (is.once q)));
-  named = all _ (λ f. same_bytes _ _) c.adds (λ no. doubt (λ is. no is.named));
+  named = all (λ f. f.name.id.0 ≡ sha256 f.bytes) (λ f. same_bytes f.name.id.0 (sha256 f.bytes)) c.adds (λ no. doubt (λ is. no is.named));
   writes = λ none. doubt (λ is. is.writes none);
 }
 

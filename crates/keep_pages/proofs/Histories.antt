@@ -1,5 +1,5 @@
 -- Lists of accepted events, and one more at their end.
-use Rattle.std.proofs.Common.{◌≡◌, ◌∙◌, ◌+◌, List, [], ◌∷◌, ◌++◌, length, refl, arith}
+use Rattle.std.proofs.Common.{◌≡◌, ◌+◌, List, [], ◌∷◌, ◌++◌, length, refl, arith}
 use Rattle.std.proofs.lemmas.List.Sums.{fold_push}
 use Rattle.keep_journal.specs.History.{length_of}
 use Rattle.keep_journal.specs.declared.event.Event.{Event}

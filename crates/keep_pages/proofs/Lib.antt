@@ -1,6 +1,7 @@
 pub mod Accepting
 pub mod Crossing
-pub mod Fitting
+pub mod Ending
 pub mod Following
 pub mod Formed
 pub mod Histories
+pub mod Turns

@@ -1,5 +1,5 @@
 -- A copy of a repository under its history, as a value.
-use Rattle.std.specs.Prelude.{ℕ, ◌+◌}
+use Rattle.std.specs.Prelude.{◌+◌}
 use Rattle.keep_repo.specs.Repository.{Repository}
 use Rattle.keep_journal.specs.History.{length_of}
 use Rattle.keep_journal.specs.Journal.{Journal, posted}

@@ -1,17 +1,17 @@
 ghost use Rattle.std.specs.Prelude.{◌≡◌, ◌↔◌, IfOk, IsTrue, OnErr, OnOk};
 ghost use Rattle.keep_repo.specs.Repository.{Repository};
-ghost use Rattle.keep_journal.specs.Opening.{IsOpen};
+ghost use Rattle.keep_journal.specs.History.{length_of};
+ghost use Rattle.keep_journal.specs.Opening.{AreWellFormed, IsOpen};
 ghost use Rattle.keep_view.specs.Shown.{shown_of};
 ghost use Rattle.keep_pages.specs.Following.{CanFollow, IsFormedEvent};
-ghost use Rattle.keep_pages.specs.Sheet.{IsLaid, followed, sheet_of};
+ghost use Rattle.keep_pages.specs.Sheet.{IsLaid, followed};
 
 use crate::events::copy_event;
 use crate::fitting::fits;
 use crate::turning::{can_turn, turn};
 use keep_catalog::LiveRepo;
 use keep_journal::{Entry, Event, History, Posting};
-use keep_ledger::Ledger;
-use keep_shelf::Shelf;
+use keep_repo::Repo;
 use keep_view::View;
 use std::alloc::{AllocError, Global};
 use std::marker::Model;
@@ -41,17 +41,25 @@ impl Model for Sheet {
 }
 
 impl Sheet {
-    /// The sheet of what the ledger says now. Each pack, index and snapshot is read.
-    pub fn of<S: Shelf>(alloc: Global, ledger: &Ledger<S>) -> Result<Sheet, AllocError>
-        ensures { IfOk result (λ sheet. sheet ≡ sheet_of ledger.now.state) }
+    /// The sheet of this history, whose events left this repository. Each pack, index and snapshot is read.
+    pub fn of(alloc: Global, history: &History, live: &Repo) -> Result<Sheet, AllocError>
+        requires { AreWellFormed history.now.journal }
+        ensures { IfOk result (λ sheet. sheet ≡ record { events = history.now.journal; live = live.now }) }
     {
-        let repo = ledger.repo()?;
-        let history = ledger.history().copy(alloc)?;
+        let history = history.copy(alloc)?;
+        let repo = live.copy()?;
         Ok(Sheet {
             alloc,
             live: LiveRepo::new(alloc, repo),
             history,
         })
+    }
+
+    /// The number of the last event, 0 where there is none.
+    pub fn length(&self) -> u64
+        ensures { result ≡ length_of self.now.events }
+    {
+        self.history.length()
     }
 
     /// The repository under its history, as planners and readers are shown it. It takes no memory.

@@ -61,8 +61,7 @@ fn turn_again(live: &mut LiveRepo, history: &History, n: u64, turn: Turn) -> Res
     let Some(change) = history.change(n) else {
         return Ok(());
     };
-    match turn {
-        Turn::Make => live.apply(change),
-        Turn::TakeBack => live.unapply(change),
-    }
+    live.begin(turn, change)?;
+    live.complete(turn, change);
+    Ok(())
 }
