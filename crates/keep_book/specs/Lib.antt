@@ -1,2 +1,3 @@
 pub mod Armed
+pub mod Cascade
 pub mod Names

@@ -14,8 +14,9 @@ use std::alloc::{AllocError, Global};
 /// is armed twice.
 #[derive(Drop)]
 pub struct Book<S: Shelf> {
-    ledger: Ledger<S>,
-    hooks: Hooks,
+    pub(crate) alloc: Global,
+    pub(crate) ledger: Ledger<S>,
+    pub(crate) hooks: Hooks,
 }
 
 // What changes a book requires of it what holds of every book that was opened and changed by calls alone.
@@ -44,6 +45,7 @@ impl<S: Shelf> Book<S> {
     {
         let ledger = Ledger::open(alloc, shelf)?;
         Ok(Book {
+            alloc,
             ledger,
             hooks: Hooks {
                 vetoes: Vec::new(alloc),

@@ -2,8 +2,13 @@
 #![tactic(auto)]
 
 mod book;
+mod cascade;
 mod hooks;
+mod laws;
 mod not_armed;
+mod taken_back;
 
 pub use book::Book;
+pub use laws::nothing_leans_on_the_next;
 pub use not_armed::NotArmed;
+pub use taken_back::TakenBack;

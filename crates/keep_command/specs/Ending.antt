@@ -5,6 +5,9 @@ use Rattle.std.specs.Fmt.{decimal}
 use Rattle.keep_folder.specs.declared.error.FolderError.{FolderError}
 use Rattle.keep_folder.specs.declared.error.FolderError.TheVariants as unopened
 use Rattle.keep_opening.specs.OpenError.{open_error_text}
+use Rattle.keep_opening.specs.declared.open_error.OpenError.{OpenError}
+use Rattle.keep_opening.specs.declared.open_error.OpenError.TheVariants as unread
+use Rattle.keep_opening.specs.declared.open_error.OpenError.TheVariants.{BadEntry}
 use Rattle.keep_lines.specs.Mistake.{mistake_text}
 use Rattle.keep_script.specs.declared.status.Status.{Status}
 use Rattle.keep_script.specs.declared.status.Status.TheVariants.{Done, Faulted, BadLine, ReadFailed, ScriptTooLong, WriteFailed, NoMemory, NotOpened}
@@ -46,6 +49,12 @@ ending_unopened error = ending.NoFolder error
 abbrev pub usage : List ℕ
 usage = codes "usage: keepd [--cut N] [--now TIME] [--host H] [--tagged T] [--drops N] [--folder DIR] < SCRIPT"
 
+-- what to do where a shelf isn't opened for this cause
+abbrev pub advice_on : OpenError → List ℕ
+advice_on (BadEntry number) = codes "put journal, trash and files back from one copy"
+advice_on unread.Fault = codes "make room, and see that all in it can be read and written"
+advice_on unread.Memory = codes "run it with more memory"
+
 -- the line on standard error
 abbrev pub ending_text : Ending → List ℕ
 ending_text (ending.Ran Done) = codes "keepd: done"
@@ -56,7 +65,8 @@ ending_text (ending.Ran ReadFailed) = codes "keepd: cannot read the script"
 ending_text (ending.Ran ScriptTooLong) = codes "keepd: the script has more than 67,108,863 bytes"
 ending_text (ending.Ran WriteFailed) = codes "keepd: cannot write the answers"
 ending_text (ending.Ran NoMemory) = codes "keepd: no memory"
-ending_text (ending.Ran (NotOpened error)) = codes "keepd: cannot open: " ++ open_error_text error
+ending_text (ending.Ran (NotOpened error)) =
+    codes "keepd: cannot open: " ++ (open_error_text error ++ (codes "; " ++ advice_on error))
 ending_text (ending.BadOptions None) = codes "keepd: bad options; " ++ usage
 ending_text (ending.BadOptions (Some word)) =
     codes "keepd: bad options: " ++ (word.now ++ (codes "; " ++ usage))

@@ -1,10 +1,11 @@
 ghost use Rattle.std.specs.Prelude.{◌≡◌, ◌↔◌, IsTrue, OnOk};
 ghost use Rattle.std.specs.Io.KnownBytes.{Appends};
-ghost use Rattle.keep_command.specs.Ending.{code_of, told_text};
+ghost use Rattle.keep_command.specs.Ending.{advice_on, code_of, told_text};
 ghost use Rattle.keep_script.specs.declared.status.Status.TheVariants as the_status;
 
 use crate::options::BadOptions;
 use keep_folder::FolderError;
+use keep_opening::OpenError;
 use keep_script::Status;
 use std::fmt;
 use std::io::{self, Write};
@@ -107,7 +108,9 @@ impl fmt::Display for Ending<'_> {
             }
             Ending::Ran(Status::WriteFailed) => f.write_str("keepd: cannot write the answers"),
             Ending::Ran(Status::NoMemory) => f.write_str("keepd: no memory"),
-            Ending::Ran(Status::NotOpened(error)) => write!(f, "keepd: cannot open: {error}"),
+            Ending::Ran(Status::NotOpened(error)) => {
+                write!(f, "keepd: cannot open: {error}; {}", advice_on(error))
+            }
             Ending::NoFolder(FolderError::BadConfig) => {
                 f.write_str(
                     "keepd: cannot open: BadConfig; name a folder with the config of a repository",
@@ -127,5 +130,16 @@ impl fmt::Display for Ending<'_> {
             Ending::BadOptions(None) => write!(f, "keepd: bad options; {USAGE}"),
             Ending::BadOptions(Some(word)) => write!(f, "keepd: bad options: {word}; {USAGE}"),
         }
+    }
+}
+
+/// What to do where a shelf isn't opened for this cause.
+fn advice_on(error: &OpenError) -> &'static str
+    ensures { result.now ≡ advice_on error.now }
+{
+    match error {
+        OpenError::BadEntry(_) => "put journal, trash and files back from one copy",
+        OpenError::Fault => "make room, and see that all in it can be read and written",
+        OpenError::Memory => "run it with more memory",
     }
 }

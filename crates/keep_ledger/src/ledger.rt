@@ -244,8 +244,8 @@ impl<S: Shelf> Ledger<S> {
         }
     }
 
-    /// The notes of the events.
-    fn touch(&self) -> &Touch
+    /// For each facet the changes that touch it, of all that were committed.
+    pub fn touch(&self) -> &Touch
         ensures { AreNoted result.now self.now.state.events }
     {
         &self.touch

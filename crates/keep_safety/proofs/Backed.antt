@@ -7,7 +7,6 @@ use Rattle.std.proofs.lemmas.List.Folds.{list_any-append}
 use Rattle.std.proofs.lemmas.Str.{IsUtf8-string_bytes}
 use Rattle.std.specs.Global.{Global, Vec}
 use Rattle.std.specs.List.{AllByRecursion, list_any}
-use Rattle.std.specs.String.{string_bytes}
 use Rattle.serde_json.specs.Written.{compact_text}
 use Rattle.keep_names.specs.Laws.{DigestsAreIds}
 use Rattle.keep_names.specs.declared.blob.BlobId.{BlobId}
@@ -32,17 +31,17 @@ use Rattle.keep_plan.specs.declared.plan_error.PlanError.{PlanError}
 use Rattle.keep_plan.specs.declared.plan_error.PlanError.TheVariants.{BadTime, Full, SnapshotThere, TooDeep}
 use Rattle.keep_plan.specs.declared.stored.Stored.{Stored}
 use Rattle.keep_sound.specs.Careful.{GivesPlace, IsSafe}
-use Rattle.keep_sound.specs.Met.{AddsPart, IsIn}
+use Rattle.keep_sound.specs.Met.{AddsPart, IsIn, IsPartOf}
 use Rattle.keep_sound.specs.Plans.{BacksUp}
-use Rattle.keep_backup.specs.Backup.{FactsData, backup_change, backup_of, change_of, facts_view, planned, planned_of, snapshot_file, snapshot_of, stored_files_of}
+use Rattle.keep_backup.specs.Backup.{FactsData, backup_change, backup_of, change_of, planned, planned_of, snapshot_file, snapshot_of, stored_files_of}
 use Rattle.keep_backup.specs.Blobs.{BlobData, is_full}
 use Rattle.keep_backup.specs.Files.{given_view}
 use Rattle.keep_backup.specs.Folders.{root_folder}
 use Rattle.keep_backup.specs.Paths.{FileData, files_in_order, is_too_deep, path_of}
-use Rattle.keep_safety.specs.SafeBackup.{BackupIsSafe, IsMet, Takes, texts_of}
+use Rattle.keep_safety.specs.SafeBackup.{AreTexts, BackupIsSafe, BackupsAreTexts, HaveTextPaths, MeetsBackup, Takes, texts_of}
 use Rattle.keep_backup.specs.Stored.{built, index_file, pack_file, packs_built, stored_of}
 use Rattle.keep_backup.specs.Walk.{blobs_of, id_of, root_tree, walk_refusal}
-use Rattle.keep_backup.specs.declared.snapshot.BackupFacts.{BackupFacts}
+use Rattle.keep_safety.proofs.Texts.{all_strings}
 use Rattle.keep_safety.proofs.Closed.{root_there, texts_some, walk_closed}
 use Rattle.keep_backup.proofs.Committed.{adds_so, built_so}
 use Rattle.keep_safety.proofs.Entries.{index_name, pack_name}
@@ -107,19 +106,15 @@ module _ (r : Repository) (facts : FactsData) (cut : ℕ) (files : List FileData
 
 -- ---- the snapshot
 
-each_text : (texts : List (String Global)) → AllByRecursion IsUtf8 (map string_bytes texts)
-each_text [] = tt
-each_text (t ∷ ts) = (IsUtf8-string_bytes t, each_text ts)
-
 -- a document can hold the snapshot
-snapshot_stands : DigestsAreIds → (facts : BackupFacts) (tree : BlobData) → IsSome (time_in (facts_view facts).time) → IsSnap (snapshot_of (facts_view facts) (id_of tree))
-snapshot_stands digests facts tree timed = record {
+snapshot_stands : DigestsAreIds → (facts : FactsData) → AreTexts facts → (tree : BlobData) → IsSome (time_in facts.time) → IsSnap (snapshot_of facts (id_of tree))
+snapshot_stands digests facts texts tree timed = record {
   timed = timed;
-  time = IsUtf8-string_bytes facts.time;
+  time = texts.time;
   tree = digests tree.1;
-  paths = All-from_recursion IsUtf8 (map string_bytes facts.paths.items) (each_text facts.paths.items);
-  hostname = IsUtf8-string_bytes facts.host;
-  username = IsUtf8-string_bytes facts.user;
+  paths = texts.paths;
+  hostname = texts.host;
+  username = texts.user;
   tags = All-from_recursion IsUtf8 [] tt;
   original = tt;
   dir = tt;
@@ -151,14 +146,14 @@ index_apart root packs kind snap read =
     let is : Index ≡ Snapshot = sym (ap (λ (n : FileName). n.kind) (index_name packs)) ∙ kind in
     cc is
 
-module _ (known : KnownOfBackups) (facts : BackupFacts) (tree : BlobData) (timed : IsSome (time_in (facts_view facts).time)) where
+module _ (known : KnownOfBackups) (facts : FactsData) (texts : AreTexts facts) (tree : BlobData) (timed : IsSome (time_in facts.time)) where
   -- and the backup's snapshot is read back with its root
-  snapshot_root : HasRoot (id_of tree) (snapshot_file (facts_view facts) (id_of tree))
+  snapshot_root : HasRoot (id_of tree) (snapshot_file facts (id_of tree))
   snapshot_root kind snap read =
-      let said : SnapData = snapshot_of (facts_view facts) (id_of tree) in
-      let back : snap_of (snapshot_file (facts_view facts) (id_of tree)).bytes ≡ Ok said =
-      ap snap_of (snapshot_bytes (facts_view facts) (id_of tree))
-      ∙ reads_snapshot (compact_text (snap_data said)) said (known.snapshots said (snapshot_stands known.digests facts tree timed)) in
+      let said : SnapData = snapshot_of facts (id_of tree) in
+      let back : snap_of (snapshot_file facts (id_of tree)).bytes ≡ Ok said =
+      ap snap_of (snapshot_bytes facts (id_of tree))
+      ∙ reads_snapshot (compact_text (snap_data said)) said (known.snapshots said (snapshot_stands known.digests facts texts tree timed)) in
       let both : Ok snap ≡ Ok said = sym read ∙ back in
       let same : snap ≡ said = cc both in
       ap (λ (s : SnapData). s.tree) same
@@ -177,51 +172,68 @@ takes_all stored snapshot = record {
   unmarked = λ pack has. has;
 }
 
-module _ (r all : Repository) (facts : BackupFacts) (cut : ℕ) (files : List FileData) where
+module _ (r all : Repository) (facts : FactsData) (cut : ℕ) (files : List FileData) where
   -- what it adds is met
-  adds_met : IsMet all r (facts_view facts) cut files → AddsPart all (whole r (facts_view facts) cut files)
+  adds_met : MeetsBackup all r facts cut files → AddsPart all (whole r facts cut files)
   adds_met met =
-      All-push (IsIn all) (stored_of r (walked cut files)).adds (snapshot_file (facts_view facts) (root_of cut files))
+      All-push (IsIn all) (stored_of r (walked cut files)).adds (snapshot_file facts (root_of cut files))
       (All-from_recursion (IsIn all) (stored_of r (walked cut files)).adds (adds_so r (IsIn all) (walked cut files) (recursion_from_All (IsIn all) (built r (walked cut files)) met.built)))
       met.snapshot
 
-  module _ (known : KnownOfBackups) (timed : IsSome (time_in (facts_view facts).time)) where
+  module _ (known : KnownOfBackups) (texts : AreTexts facts) (timed : IsSome (time_in facts.time)) where
     -- its snapshot has the root of the walk
-    adds_rooted : All (HasRoot (root_of cut files)) ((stored_of r (walked cut files)).adds ++ snapshot_file (facts_view facts) (root_of cut files) ∷ [])
+    adds_rooted : All (HasRoot (root_of cut files)) ((stored_of r (walked cut files)).adds ++ snapshot_file facts (root_of cut files) ∷ [])
     adds_rooted =
         let root : Id = root_of cut files in
-        All-push (HasRoot root) (stored_of r (walked cut files)).adds (snapshot_file (facts_view facts) root)
+        All-push (HasRoot root) (stored_of r (walked cut files)).adds (snapshot_file facts root)
         (All-from_recursion (HasRoot root) (stored_of r (walked cut files)).adds
         (adds_so r (HasRoot root) (walked cut files) (built_so (HasRoot root) (pack_apart root) (index_apart root) (packs_built r (walked cut files)))))
-        (snapshot_root known facts (root_tree cut (root_folder files)) timed)
+        (snapshot_root known facts texts (root_tree cut (root_folder files)) timed)
 
-    module _ (given : List (String Global × Vec ℕ)) (files_are : files_in_order (map given_view given) ≡ Ok files)
-        (short : list_any is_full (walked cut files) ≡ false) (met : IsMet all r (facts_view facts) cut files) where
+    module _ (given : List (List ℕ × List ℕ)) (paths : HaveTextPaths given) (files_are : files_in_order given ≡ Ok files)
+        (short : list_any is_full (walked cut files) ≡ false) (part : IsPartOf r all) (met : MeetsBackup all r facts cut files) where
       -- each blob of the walk is given
-      blob_given : (name : BlobId) → IsSome (texts_of (walked cut files) name) → GivesPlace all (whole r (facts_view facts) cut files) name
+      blob_given : (name : BlobId) → IsSome (texts_of (walked cut files) name) → GivesPlace all (whole r facts cut files) name
       blob_given name has =
-          known.storing r all (walked cut files) (whole r (facts_view facts) cut files) met.part short met.built
-          (takes_all (stored_of r (walked cut files)) (snapshot_file (facts_view facts) (root_of cut files)))
+          known.storing r all (walked cut files) (whole r facts cut files) part short met.built
+          (takes_all (stored_of r (walked cut files)) (snapshot_file facts (root_of cut files)))
           name (named_any name (walked cut files) ∙ sym (texts_some name (walked cut files)) ∙ has)
 
-      backs_up : BacksUp all (whole r (facts_view facts) cut files) (texts_of (walked cut files)) (root_of cut files)
+      backs_up : BacksUp all (whole r facts cut files) (texts_of (walked cut files)) (root_of cut files)
       backs_up = record {
         no_marks = refl;
         no_drops = refl;
         snapshots = adds_rooted;
         top = root_there known.blobs known.trees cut (root_folder files);
-        closed = walk_closed known.blobs known.trees cut (root_folder files) (root_trees known.digests cut files (ordered_good given files files_are));
+        closed = walk_closed known.blobs known.trees cut (root_folder files) (root_trees known.digests cut files (ordered_good given files paths files_are));
         given = blob_given;
       }
 
 pub backup_safe : KnownOfBackups → BackupIsSafe
-backup_safe known r all snapshots facts cut given files c files_are is met =
-    let plan : IsPlanned r (facts_view facts) cut files c = is_planned r (facts_view facts) cut files c (map given_view given) files_are is in
-    let change : Change = whole r (facts_view facts) cut files in
-    let made : backup_change r (facts_view facts) cut (map given_view given) ≡ Ok change = is ∙ ap Ok plan.change in
+backup_safe known r all snapshots facts cut given files c files_are is texts paths met meets =
+    let plan : IsPlanned r facts cut files c = is_planned r facts cut files c given files_are is in
+    let change : Change = whole r facts cut files in
+    let made : backup_change r facts cut given ≡ Ok change = is ∙ ap Ok plan.change in
     let safe : IsSafe all snapshots change =
     known.backing_up all snapshots change (texts_of (walked cut files)) (root_of cut files) met.one_text
-    (known.well_formed r (facts_view facts) cut (map given_view given) change made).once
-    (adds_met r all facts cut files met) met.texts
-    (backs_up r all facts cut files known plan.timed given files_are plan.short met) in
+    (known.well_formed r facts cut given change made).once
+    (adds_met r all facts cut files meets) meets.texts
+    (backs_up r all facts cut files known texts plan.timed given paths files_are plan.short met.part meets) in
     subst (IsSafe all snapshots) (sym plan.change) safe
+
+-- what is asked for in texts
+
+all_paths : (given : List (String Global × Vec ℕ)) → AllByRecursion (λ (g : List ℕ × List ℕ). IsUtf8 g.0) (map given_view given)
+all_paths [] = tt
+all_paths (g ∷ gs) = (IsUtf8-string_bytes g.0, all_paths gs)
+
+pub backups_are_texts : BackupsAreTexts
+backups_are_texts facts given = (
+  record {
+    host = IsUtf8-string_bytes facts.host;
+    user = IsUtf8-string_bytes facts.user;
+    paths = all_strings facts.paths.items;
+    time = IsUtf8-string_bytes facts.time;
+  },
+  All-from_recursion (λ (g : List ℕ × List ℕ). IsUtf8 g.0) (map given_view given) (all_paths given),
+)

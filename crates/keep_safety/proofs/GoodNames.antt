@@ -1,19 +1,19 @@
 -- The names of paths that are given as texts are texts, and nodes can have them.
-use Rattle.std.proofs.Common.{◌≡◌, ℕ, ◌+◌, ◌<◌, Bool, true, false, ◌&&◌, cond, List, [], ◌∷◌, ◌++◌, length, map, drop, get_or, filter_map, Option, None, Some, option_map, Ok, Err, String, IsUtf8, refl, sym, ap, subst, ◌∙◌, append_assoc, append-nil, arith}
+use Rattle.std.proofs.Common.{◌≡◌, ℕ, ◌+◌, ◌<◌, Bool, true, false, ◌&&◌, cond, List, [], ◌∷◌, ◌++◌, length, map, drop, get_or, filter_map, Option, None, Some, option_map, Ok, Err, IsUtf8, refl, sym, ap, subst, ◌∙◌, append_assoc, append-nil, arith}
 use Rattle.std.proofs.lemmas.Bool.Decides.{nat_tests}
 use Rattle.std.proofs.lemmas.List.{drop_at, length-append, take_at}
-use Rattle.std.proofs.lemmas.Str.{IsCharBoundary-after_ascii, IsCharBoundary-before_ascii, IsUtf8-drop, IsUtf8-string_bytes, IsUtf8-take}
-use Rattle.std.specs.Global.{Global, Vec}
+use Rattle.std.proofs.lemmas.List.Elements.{recursion_from_All}
+use Rattle.std.proofs.lemmas.Str.{IsCharBoundary-after_ascii, IsCharBoundary-before_ascii, IsUtf8-drop, IsUtf8-take}
 use Rattle.std.specs.List.{AllByRecursion, list_all, onto_first, slice_split, cons_option}
 use Rattle.std.specs.Option.{option_and_then}
 use Rattle.std.specs.Str.{bytes_eq}
 use Rattle.keep_tree.specs.Names.{is_name}
 use Rattle.keep_docs.specs.Lists.{each}
 use Rattle.keep_plan.specs.declared.plan_error.PlanError.TheVariants.{SamePathTwice}
-use Rattle.keep_backup.specs.Files.{given_view}
 use Rattle.keep_backup.specs.Folders.{first_name, first_names, seen_from}
 use Rattle.keep_backup.specs.Paths.{FileData, Path, any_clash, by_path, components_of, files_in_order, given_file, is_slash, names_between, path_of, without_clash}
 use Rattle.keep_backup.proofs.Groups.{by_path_so, in_order_so}
+use Rattle.keep_safety.specs.SafeBackup.{HaveTextPaths}
 
 -- a text that a node can have as its name
 pub record IsGood (name : List ℕ) : Type 0 where
@@ -134,23 +134,19 @@ files_good (g ∷ gs) files utf is = cases (files_good gs) (given_file g) refl (
       let same : file ∷ fs ≡ files = cc h in
       subst HaveGoodNames same (file_good g file utf.0 some, later fs utf.1 rest_is)
 
-all_texts : (given : List (String Global × Vec ℕ)) → AllByRecursion (λ (g : List ℕ × List ℕ). IsUtf8 g.0) (map given_view given)
-all_texts [] = tt
-all_texts (g ∷ gs) = (IsUtf8-string_bytes g.0, all_texts gs)
-
 -- the files of a backup have good names
-pub ordered_good : (given : List (String Global × Vec ℕ)) (files : List FileData) → files_in_order (map given_view given) ≡ Ok files → HaveGoodNames files
+pub ordered_good : (given : List (List ℕ × List ℕ)) (files : List FileData) → HaveTextPaths given → files_in_order given ≡ Ok files → HaveGoodNames files
 unfolding files_in_order
-ordered_good given files is = cases (each given_file (map given_view given)) refl is where
+ordered_good given files texts is = cases (each given_file given) refl is where
   clashes : (fs : List FileData) → HaveGoodNames fs → (b : Bool) → cond b (Err SamePathTwice) (Ok (by_path fs)) ≡ Ok files → HaveGoodNames files
   clashes fs good true h = cc h
   clashes fs good false h =
       let same : by_path fs ≡ files = cc h in
       subst HaveGoodNames same (by_path_so HasGoodNames fs good)
 
-  cases : (o : Option (List FileData)) → each given_file (map given_view given) ≡ o → without_clash o ≡ Ok files → HaveGoodNames files
+  cases : (o : Option (List FileData)) → each given_file given ≡ o → without_clash o ≡ Ok files → HaveGoodNames files
   cases None none h = cc h
-  cases (Some fs) some h = clashes fs (files_good (map given_view given) fs (all_texts given) some) (any_clash (map path_of fs)) h
+  cases (Some fs) some h = clashes fs (files_good given fs (recursion_from_All (λ (g : List ℕ × List ℕ). IsUtf8 g.0) given texts) some) (any_clash (map path_of fs)) h
 
 -- ---- files as they are seen from a folder
 

@@ -3,6 +3,7 @@ pub mod Backed
 pub mod Closed
 pub mod CutPacks
 pub mod Entries
+pub mod Fitting
 pub mod ForgetSafe
 pub mod Given
 pub mod GoodNames

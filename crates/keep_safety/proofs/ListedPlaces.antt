@@ -3,9 +3,7 @@ use Rattle.std.proofs.Common.{◌≡◌, ℕ, Bool, true, false, ◌&&◌, ◌||
 use Rattle.std.proofs.lemmas.List.Folds.{list_any-append}
 use Rattle.std.specs.Cmp.{tied_itself}
 use Rattle.std.specs.List.{AllByRecursion, flat_map, list_any}
-use Rattle.std.specs.Option.{option_and_then}
 use Rattle.std.specs.Ordering.{is_eq}
-use Rattle.std.specs.Result.{result_ok}
 use Rattle.keep_names.specs.Laws.{TellsApart}
 use Rattle.keep_names.specs.Orders.{id_cmp}
 use Rattle.keep_names.specs.declared.blob.Blob.{Blob}
@@ -13,7 +11,7 @@ use Rattle.keep_names.specs.declared.file_name.Kind.TheVariants.{Index}
 use Rattle.keep_names.specs.declared.id.Id.{Id}
 use Rattle.keep_repo.specs.Repository.{Repository}
 use Rattle.keep_index.specs.Index.{Fits, PackData}
-use Rattle.keep_index.specs.Joining.{blobs_of, entry_cmp, ids_of, left_without, lists_entry, lists_pack, same_entry, same_id}
+use Rattle.keep_index.specs.Joining.{blobs_of, entry_cmp, left_without, lists_entry, lists_pack, same_entry, same_id}
 use Rattle.keep_index.specs.Reading as index_reading
 use Rattle.keep_index.specs.declared.index_error.IndexError.{IndexError}
 use Rattle.keep_catalog.specs.Files.{file_in, ids_in, index_in, index_of, indexes_in, readable, what_is_read}

@@ -1,5 +1,5 @@
 -- A mark that is planned is safe.
-use Rattle.std.proofs.Common.{◌≡◌, ◌≢◌, ◌⊎◌, ◌↔◌, inl, inr, ℕ, ℤ, Bool, true, false, not, ◌&&◌, ◌||◌, List, [], ◌∷◌, map, Option, None, Some, Ok, refl, sym, ap, subst, ◌∙◌}
+use Rattle.std.proofs.Common.{◌≡◌, ◌⊎◌, ◌↔◌, inl, inr, ℤ, Bool, true, false, not, ◌&&◌, List, [], ◌∷◌, map, Option, None, Some, Ok, refl, sym, ap, subst, ◌∙◌}
 use Rattle.std.specs.FinMap.{get}
 use Rattle.std.specs.FinSet as set
 use Rattle.std.specs.List.{list_any}
@@ -9,7 +9,7 @@ use Rattle.std.proofs.lemmas.Bool.{or_left, or_right}
 use Rattle.keep_names.proofs.Orders.{id_total}
 use Rattle.keep_names.specs.FileName.{named}
 use Rattle.keep_names.specs.Laws.{TellsApart}
-use Rattle.keep_names.specs.Orders.{blob_cmp, id_cmp, name_cmp}
+use Rattle.keep_names.specs.Orders.{blob_cmp, id_cmp}
 use Rattle.keep_names.specs.declared.blob.BlobId.{BlobId}
 use Rattle.keep_names.specs.declared.file_name.Kind.TheVariants.{Snapshot}
 use Rattle.keep_names.specs.declared.id.Id.{Id}
@@ -21,9 +21,9 @@ use Rattle.keep_change.specs.NamedBytes.{NamedBytes}
 use Rattle.keep_change.specs.declared.change.Change.{Change}
 use Rattle.keep_catalog.proofs.Ordered.{in_order-same}
 use Rattle.keep_catalog.specs.Orders.{blob_eq}
-use Rattle.keep_catalog.specs.Places.{chosen_listing, reuse_of}
+use Rattle.keep_catalog.specs.Places.{chosen_listing}
 use Rattle.keep_reach.specs.Reach.{HasBlob}
-use Rattle.keep_reach.specs.Snapshots.{IsUsed, Owes, broken_in}
+use Rattle.keep_reach.specs.Snapshots.{IsUsed, Owes}
 use Rattle.keep_reach.specs.Used.{used_in}
 use Rattle.keep_catalog.specs.declared.spot.Spot.{Spot}
 use Rattle.keep_plan.proofs.Settled.{filled_there}
@@ -32,7 +32,8 @@ use Rattle.keep_sound.specs.Careful.{IsSafe}
 use Rattle.keep_sound.specs.Met.{HasOneText, IsPartOf}
 use Rattle.keep_sound.specs.Plans.{MarkingIsSafe, MarksIn, Records, RecordsReuse}
 use Rattle.keep_sound.specs.Standing.{file_facet}
-use Rattle.keep_upkeep.specs.Mark.{gone_snapshots, mark_change, needed_in, not_there, unneeded_packs}
+use Rattle.keep_safety.specs.SafeMark.{MarkIsStrict}
+use Rattle.keep_upkeep.specs.Mark.{gone_snapshots, mark_change, not_there, unneeded_packs}
 use Rattle.keep_upkeep.proofs.MarkAsked.{gone_among}
 use Rattle.keep_upkeep.proofs.MarkLists.{named_among}
 use Rattle.keep_upkeep.proofs.MarkMade.{mark_of, mark_so}
@@ -100,3 +101,6 @@ module _ (apart : TellsApart blob_cmp) (listed : UsedAreListed) (recorded : Uses
   mark_safe well law all c is one part =
       mark_so r known moment (λ d. mark_change r known moment ≡ Ok d → IsSafe all (set.contains known) d)
       (λ whole some now. law r all (set.contains known) planned one (well planned now).once part whole marks_in) c is is
+
+pub mark_strict : MarkIsStrict
+mark_strict r known moment c is = mark_so r known moment (λ d. d.strict ≡ true) (λ whole some. refl) c is

@@ -1,8 +1,8 @@
 -- What a new index lists, where its file is met.
-use Rattle.std.proofs.Common.{◌≡◌, ℕ, Bool, true, false, ◌||◌, List, [], ◌∷◌, All, Option, None, Some, option_map, Result, Ok, is_some, refl, sym, ap, subst, ◌∙◌}
+use Rattle.std.proofs.Common.{◌≡◌, ℕ, true, false, ◌||◌, List, [], ◌∷◌, All, Option, None, Some, option_map, Result, Ok, is_some, refl, sym, ap, ◌∙◌}
 use Rattle.std.proofs.lemmas.List.Elements.{recursion_from_All}
 use Rattle.std.specs.FinMap as finite
-use Rattle.std.specs.List.{flat_map, list_any}
+use Rattle.std.specs.List.{flat_map}
 use Rattle.std.specs.Ordering.{eq_by_cmp}
 use Rattle.keep_names.specs.FileName.{named}
 use Rattle.keep_names.specs.Laws.{TellsApart}
@@ -18,7 +18,6 @@ use Rattle.keep_index.specs.Writing.{index_text}
 use Rattle.keep_index.specs.declared.index_error.IndexError.{IndexError}
 use Rattle.keep_change.specs.Filling.{leaves_filled}
 use Rattle.keep_change.specs.NamedBytes.{NamedBytes, file_of}
-use Rattle.keep_change.specs.declared.change.Change.{Change}
 use Rattle.keep_change.specs.declared.change.PackMark.{PackMark}
 use Rattle.keep_catalog.specs.Files.{file_in, index_of, what_is_read}
 use Rattle.keep_catalog.specs.Places.{is_among, listed_in, listed_of}

@@ -1,5 +1,5 @@
 -- What a repair lists anew.
-use Rattle.std.proofs.Common.{◌≡◌, ℕ, Bool, true, false, ◌&&◌, ◌||◌, List, [], ◌∷◌, map, Option, None, Some, option_map, Result, Ok, Err, is_ok, is_some, refl, sym, ap, subst, ◌∙◌}
+use Rattle.std.proofs.Common.{◌≡◌, ℕ, Bool, true, false, ◌&&◌, List, map, Option, None, Some, option_map, Result, Ok, Err, is_ok, is_some, refl, sym, ap, subst, ◌∙◌}
 use Rattle.std.specs.List.{flat_map, list_any}
 use Rattle.std.specs.Option.{option_map_or}
 use Rattle.keep_names.specs.Laws.{TellsApart}

@@ -1,8 +1,8 @@
 -- A repair is safe.
-use Rattle.std.proofs.Common.{◌≡◌, ◌≢◌, ℕ, ◌⊎◌, inl, inr, Bool, true, false, ◌&&◌, ◌||◌, not, List, [], ◌∷◌, map, filter, All, Option, None, Some, option_map, Result, Ok, Err, is_some, refl, sym, ap, subst, ◌∙◌}
+use Rattle.std.proofs.Common.{◌≡◌, ℕ, ◌⊎◌, inl, inr, Bool, true, false, ◌&&◌, not, List, [], map, Option, None, Some, option_map, Result, Ok, Err, is_some, refl, sym, ap, ◌∙◌}
 use Rattle.std.proofs.lemmas.List.Elements.{All-from_recursion, recursion_from_All}
 use Rattle.std.specs.FinMap.{get}
-use Rattle.std.specs.List.{AllByRecursion, flat_map, list_any}
+use Rattle.std.specs.List.{flat_map, list_any}
 use Rattle.std.specs.Option.{option_map_or}
 use Rattle.std.specs.Ordering.{eq_by_cmp}
 use Rattle.keep_names.proofs.Orders.{name_total}
@@ -34,9 +34,10 @@ use Rattle.keep_sound.specs.Careful.{IsSafe}
 use Rattle.keep_sound.specs.Met.{AddsPart, IsIn, IsPartOf}
 use Rattle.keep_sound.specs.Plans.{ReindexingIsSafe, Reindexes}
 use Rattle.keep_sound.specs.Standing.{file_facet}
-use Rattle.keep_upkeep.specs.Reindexing.{files_there, other_indexes}
-use Rattle.keep_upkeep.specs.Repair.{absent_among, absent_listed, absent_packs, is_idle, other_files, other_listings, packs_there, repair_change, repairing, whole_files}
-use Rattle.keep_safety.specs.SafeReindexing.{IsMet, RepairIsSafe, RepairsListPlaces}
+use Rattle.keep_upkeep.specs.Reindexing.{other_indexes}
+use Rattle.keep_upkeep.specs.Repair.{absent_among, absent_listed, absent_packs, is_idle, other_files, other_listings, packs_there, repairing, whole_files}
+use Rattle.keep_safety.specs.Met.{IsMet}
+use Rattle.keep_safety.specs.SafeReindexing.{HeadersFitAnIndex, MeetsRepair, RepairIsSafe, RepairsListPlaces}
 use Rattle.keep_safety.proofs.AnyOf.{any_filter_map, any_filtered, any_flat, any_then}
 use Rattle.keep_upkeep.proofs.EachSo.{any_at, any_mapped, each_mapped, each_so, so_at}
 use Rattle.keep_upkeep.proofs.FilesThere.{IsThere}
@@ -122,13 +123,14 @@ pub record KnownOfRepairs : Type 0 where
   pub ids : TellsApart id_cmp
   pub names_order : NamesAreOrdered
   pub places : RepairsListPlaces
+  pub fits : HeadersFitAnIndex
   pub written : WrittenReadBack
   pub settling : WhatIsSettledCanBeMade
   pub settles : BuiltAreSettled
   pub sorted : SortedListsAreWellFormed
   pub safe : ReindexingIsSafe
 
-module _ (known : KnownOfRepairs) (r all : Repository) (fits : Fits (packs_there r)) (met : IsMet all r (whole_files r)) where
+module _ (known : KnownOfRepairs) (r all : Repository) (met : IsMet all r) (fits : Fits (packs_there r)) (meets : MeetsRepair all r) where
   abbrev made : Change
   made = repairing r
 
@@ -136,7 +138,7 @@ module _ (known : KnownOfRepairs) (r all : Repository) (fits : Fits (packs_there
   others = other_indexes (whole_files r) (ids_in r Index)
 
   adds_met : AddsPart all made
-  adds_met = All-from_recursion (IsIn all) made.adds (adds_so r (IsIn all) (whole_files r) (recursion_from_All (IsIn all) (whole_files r) met.built))
+  adds_met = All-from_recursion (IsIn all) made.adds (adds_so r (IsIn all) (whole_files r) (recursion_from_All (IsIn all) (whole_files r) meets))
 
   dropped_there : (name : FileName) → has_name (file_names (other_files r)) name ≡ true → is_some (get r.files name) ≡ true
   dropped_there name has =
@@ -163,7 +165,7 @@ module _ (known : KnownOfRepairs) (r all : Repository) (fits : Fits (packs_there
       ⊎ ((finds_filled made (Mark p.spot.pack) ≡ true)
       ⊎ ((other : Id) × (leaves_filled made (file_facet Index other) ≡ true) × (is_among (listed_in all other) p ≡ true)))
   relisted index empty p listed stored true there =
-      inr (inr (listed_left known.written known.settles known.names r all (packs_there r) (other_files r) [] (absent_packs r) p fits met.built
+      inr (inr (listed_left known.written known.settles known.names r all (packs_there r) (other_files r) [] (absent_packs r) p fits meets
       (known.places r p ∙ same_stored r all met.part p there ∙ stored)))
   relisted index empty p listed stored false absent =
       inl (absence_asked known.ids known.names r p absent (whole_files r) index (dropped_other (named Index index) empty) (file_is r index (dropped_there (named Index index) empty)) listed)
@@ -184,4 +186,5 @@ module _ (known : KnownOfRepairs) (r all : Repository) (fits : Fits (packs_there
       (repaired_well_formed known.names_order known.names known.settling r known.sorted some).once adds_met reindexes
 
 pub repair_safe : KnownOfRepairs → RepairIsSafe
-repair_safe known r all snapshots c is fits met = repair_so r (λ d. IsSafe all snapshots d) (made_safe known r all fits met snapshots) c is
+repair_safe known r all snapshots c is met files meets =
+    repair_so r (λ d. IsSafe all snapshots d) (made_safe known r all met (known.fits r files) meets snapshots) c is

@@ -1,5 +1,5 @@
 -- A rewrite that is planned is safe.
-use Rattle.std.proofs.Common.{◌≡◌, ◌⊎◌, inl, inr, ℕ, Bool, true, false, ◌||◌, cond, not, List, [], ◌∷◌, ◌++◌, map, IsSome, Option, None, Some, Ok, option_map, is_some, refl, sym, ap, subst, ◌∙◌}
+use Rattle.std.proofs.Common.{◌≡◌, ◌⊎◌, inl, inr, ℕ, Bool, true, false, ◌||◌, cond, not, List, [], ◌∷◌, ◌++◌, map, IsSome, Option, None, Some, Ok, option_map, refl, sym, ap, subst, ◌∙◌}
 use Rattle.std.proofs.lemmas.Bool.{or_left, or_right}
 use Rattle.std.proofs.lemmas.List.Elements.{All-from_recursion, recursion_from_All}
 use Rattle.std.proofs.lemmas.List.Folds.{list_any-append}
@@ -17,7 +17,6 @@ use Rattle.keep_names.specs.Orders.{name_cmp}
 use Rattle.keep_names.specs.declared.file_name.FileName.{FileName}
 use Rattle.keep_names.specs.declared.file_name.Kind.TheVariants.{Snapshot}
 use Rattle.keep_names.specs.declared.id.Id.{Id}
-use Rattle.keep_repo.specs.Facet.{Stored as StoredFile}
 use Rattle.keep_repo.specs.Repository.{Repository}
 use Rattle.keep_snap.proofs.Inverse.{IsSnap-snap_of}
 use Rattle.keep_snap.proofs.Relabelled.{IsSnap-retreed}
@@ -42,7 +41,7 @@ use Rattle.keep_plan.proofs.Made.{added_so}
 use Rattle.keep_sound.proofs.Covering.{file_of_name}
 use Rattle.keep_sound.specs.Careful.{IsSafe}
 use Rattle.keep_sound.specs.Forms.{AreOf}
-use Rattle.keep_sound.specs.Met.{IsIn, IsPartOf}
+use Rattle.keep_sound.specs.Met.{AddsPart, IsIn, IsPartOf}
 use Rattle.keep_sound.specs.Retreeing.{Retrees, RetreesOne, Rewrites, RewritingIsSafe}
 use Rattle.keep_backup.specs.Blobs.{BlobData, blob_id_of}
 use Rattle.keep_safety.specs.SafeBackup.{StoringGives, Takes}
@@ -50,7 +49,8 @@ use Rattle.keep_backup.specs.Stored.{stored_of}
 use Rattle.keep_rewrite.specs.Finishing.{HasBlobData}
 use Rattle.keep_rewrite.specs.Leaving.{finished, tree_left}
 use Rattle.keep_rewrite.specs.Rewriting.{Retreed, finished_for, new_file, new_files, old_file, old_files, old_names, retreed_file}
-use Rattle.keep_safety.specs.SafeRewrite.{IsMet, IsOneText, RewriteIsSafe}
+use Rattle.keep_safety.specs.Met.{AreFiles, IsMet}
+use Rattle.keep_safety.specs.SafeRewrite.{IsOneText, MeetsRewrite, RewriteIsSafe}
 use Rattle.keep_rewrite.specs.Walking.{AreReached}
 use Rattle.keep_rewrite.proofs.Carried.{snap_so}
 use Rattle.keep_rewrite.proofs.Finished.{in_first, in_second}
@@ -150,10 +150,6 @@ retreed_says : (forget : Bool) (snap : SnapData) (new : Retreed) → IsSnap (ret
 unfolding retreed_file
 retreed_says forget snap new h = snap_of-compact_text (retreed snap new.0 new.1 (not forget)) h
 
-is_there_so : (o : Option (List ℕ)) → IsSome o → is_some (option_map (λ x. StoredFile x) o) ≡ true
-is_there_so None h = cc h
-is_there_so (Some x) h = refl
-
 -- ---- the change
 
 module _ (laws : Laws) (r all : Repository) (rule : Pick) (patterns : List PatternData) (forget : Bool) where
@@ -250,11 +246,17 @@ module _ (laws : Laws) (r all : Repository) (rule : Pick) (patterns : List Patte
     cases rest None is = rest
     cases rest (Some f) is = (new_of k rewritten.0 needed.0 f is, rest)
 
-  module _ (met : IsMet all r rule patterns d) (due : IsDue r rule patterns forget) where
+  module _ (met : IsMet all r) (files : AreFiles r) (added : AddsPart all d) (meets : MeetsRewrite all r rule patterns) (due : IsDue r rule patterns forget) where
+    its_digest : (name : Id) → IsSome (get r.files (named Snapshot name)) → IsDigest name
+    its_digest name = cases (get r.files (named Snapshot name)) refl where
+      cases : (o : Option (List ℕ)) → get r.files (named Snapshot name) ≡ o → IsSome o → IsDigest name
+      cases None is h = cc h
+      cases (Some bytes) is h = (files (named Snapshot name) bytes is).digest
+
     fine : AreFine laws.on_trees r all met.part met.one_text d patterns (trees r rule patterns forget)
     fine b among = record {
-      given = laws.storing r all (trees r rule patterns forget) d met.part due.short met.built takes (blob_id_of b) (by_name (trees r rule patterns forget) b among);
-      met = each_among (IsOneText all) (trees r rule patterns forget) (recursion_from_All (IsOneText all) (trees r rule patterns forget) met.trees) b among;
+      given = laws.storing r all (trees r rule patterns forget) d met.part due.short meets.built takes (blob_id_of b) (by_name (trees r rule patterns forget) b among);
+      met = each_among (IsOneText all) (trees r rule patterns forget) (recursion_from_All (IsOneText all) (trees r rule patterns forget) meets.trees) b among;
     }
 
     retrees_one : (snapshot : Id) (f : NamedBytes) → f.name ≡ named Snapshot snapshot → IsIn all f → IsNew f → RetreesOne all d snapshot
@@ -262,7 +264,7 @@ module _ (laws : Laws) (r all : Repository) (rule : Pick) (patterns : List Patte
         let new = n.new in
         let snap = n.rewritten.snap in
         let old_snap : IsSnap snap = snap_so IsSnap-snap_of r new.0 snap n.rewritten.said in
-        let old_id : IsDigest new.0 = met.names (named Snapshot new.0) (is_there_so (get r.files (named Snapshot new.0)) (snap_there r new.0 snap n.rewritten.said)) in
+        let old_id : IsDigest new.0 = its_digest new.0 (snap_there r new.0 snap n.rewritten.said) in
         let new_id : IsDigest new.1 = subst IsDigest (sym n.rewritten.left) (left_ids r patterns most_levels [] snap.tree old_snap.tree) in
         let whole : IsSnap (retreed snap new.0 new.1 (not forget)) = IsSnap-retreed snap new.0 new.1 (not forget) old_snap old_id new_id in
         let says : reading.snap_of f.bytes ≡ Ok (retreed snap new.0 new.1 (not forget)) =
@@ -288,7 +290,7 @@ module _ (laws : Laws) (r all : Repository) (rule : Pick) (patterns : List Patte
     each_added : AllByRecursion IsAdded d.adds
     each_added =
         let rewritten = each_rewritten due.reached in
-        both d.adds (recursion_from_All (IsIn all) d.adds met.adds)
+        both d.adds (recursion_from_All (IsIn all) d.adds added)
         (all_append (λ (f : NamedBytes). IsBefore f.name ⊎ IsNew f) (stored_of r (trees r rule patterns forget)).adds (news r rule patterns forget)
         (all_by (λ (f : NamedBytes). IsBefore f.name) (λ (f : NamedBytes). IsBefore f.name ⊎ IsNew f) (λ f h. inl h) (stored_of r (trees r rule patterns forget)).adds (adds_before r (trees r rule patterns forget)))
         (all_by IsNew (λ (f : NamedBytes). IsBefore f.name ⊎ IsNew f) (λ f h. inr h) (news r rule patterns forget)
@@ -313,11 +315,11 @@ module _ (laws : Laws) (r all : Repository) (rule : Pick) (patterns : List Patte
     rewrites = record { no_marks = refl; drops = drops_snapshots forget; trees = each_retrees }
 
 pub rewrite_safe : Laws → RewriteIsSafe
-rewrite_safe laws r all known rule patterns forget c is met =
+rewrite_safe laws r all known rule patterns forget c is met files added meets =
     change_so r rule patterns forget (λ e. e ≡ c → IsSafe all known e) so c is refl
   where
     so : IsDue r rule patterns forget → made r rule patterns forget ≡ c → IsSafe all known (made r rule patterns forget)
     so due same =
-        let here : IsMet all r rule patterns (made r rule patterns forget) = subst (λ (e : Change). IsMet all r rule patterns e) (sym same) met in
+        let here : AddsPart all (made r rule patterns forget) = subst (λ (e : Change). AddsPart all e) (sym same) added in
         let formed = well_formed r rule patterns forget (made r rule patterns forget) (is ∙ ap (λ e. Ok e) (sym same)) in
-        laws.rewriting all known (made r rule patterns forget) here.one_text formed.once here.adds (rewrites laws r all rule patterns forget here due)
+        laws.rewriting all known (made r rule patterns forget) met.one_text formed.once here (rewrites laws r all rule patterns forget met files here meets due)

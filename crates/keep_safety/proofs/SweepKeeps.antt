@@ -1,5 +1,5 @@
 -- What a sweep lists anew, and that it is safe.
-use Rattle.std.proofs.Common.{◌≡◌, ◌≢◌, ℕ, ℤ, ◌⊎◌, inl, inr, Bool, true, false, ◌&&◌, ◌||◌, not, List, [], ◌∷◌, ◌++◌, map, All, Some, Ok, is_some, refl, sym, ap, subst, ◌∙◌}
+use Rattle.std.proofs.Common.{◌≡◌, ◌≢◌, ℕ, ℤ, ◌⊎◌, inl, inr, Bool, true, false, ◌&&◌, ◌||◌, not, List, [], Ok, is_some, refl, sym, ap, subst, ◌∙◌}
 use Rattle.std.proofs.lemmas.List.Elements.{All-from_recursion, recursion_from_All}
 use Rattle.std.specs.FinMap.{get}
 use Rattle.std.specs.List.{AllByRecursion, flat_map, list_any}
@@ -21,17 +21,16 @@ use Rattle.keep_change.specs.Lists.{SortedListsAreWellFormed, file_names, marked
 use Rattle.keep_change.specs.NamedBytes.{NamedBytes}
 use Rattle.keep_change.specs.declared.change.Change.{Change}
 use Rattle.keep_catalog.specs.Files.{indexes_in}
-use Rattle.keep_catalog.specs.Places.{is_among, is_stored, listed_in, listed_of}
+use Rattle.keep_catalog.specs.Places.{is_among, listed_in, listed_of}
 use Rattle.keep_catalog.specs.declared.spot.PackedBlob.{PackedBlob}
-use Rattle.keep_plan.specs.Settling.{settled}
 use Rattle.keep_sound.specs.Careful.{IsSafe}
-use Rattle.keep_sound.specs.Met.{AddsPart, IsIn}
+use Rattle.keep_sound.specs.Met.{AddsPart, HasOneText, IsIn, IsPartOf}
 use Rattle.keep_sound.specs.Plans.{ReindexingIsSafe, Reindexes}
 use Rattle.keep_sound.specs.Standing.{file_facet}
 use Rattle.keep_upkeep.specs.Reindexing.{files_there, other_indexes}
-use Rattle.keep_safety.specs.SafeReindexing.{IsMet, SweepIsSafe, SweepsKeepPacks, SweepsKeepPlaces}
-use Rattle.keep_upkeep.specs.Sweep.{left_files, left_of, listing, lists_gone, names_of, packs_left, sweep_change, sweeping, swept_files, waited_marks}
-use Rattle.keep_upkeep.proofs.EachSo.{any_at, each_always, each_among, each_kept, each_mapped, each_so, so_at}
+use Rattle.keep_safety.specs.SafeReindexing.{MeetsSweep, SweepIsSafe, SweepsKeepPacks, SweepsKeepPlaces}
+use Rattle.keep_upkeep.specs.Sweep.{left_files, left_of, listing, lists_gone, names_of, packs_left, sweeping, swept_files, waited_marks}
+use Rattle.keep_upkeep.proofs.EachSo.{any_at, each_among, each_kept, each_mapped, each_so, so_at}
 use Rattle.keep_upkeep.proofs.FilesThere.{IsThere, each_there}
 use Rattle.keep_safety.proofs.ListedPlaces.{IsRead, WhatIsLeft, any_left, any_places, each_read, entry_of, fits_as, in_packs, left_entry, left_pack}
 use Rattle.keep_safety.proofs.NewIndex.{BuiltAreSettled, WrittenReadBack, listed_left, same_listed}
@@ -138,9 +137,9 @@ module _ (known : KnownOfSweeps) (r all : Repository) (now : ℤ) (wait : ℕ) w
       (each_so (IsRead r) (λ index. Fits (left_without (has_pack gone) index.1)) (λ index is. known.left_fits (has_pack gone) index.1 (fits_as known.read r index is)) (listing r gone)
       (each_kept (IsRead r) (lists_gone (has_pack gone)) (indexes_in r) (each_read r))))
 
-  module _ (met : IsMet all r (left_files r gone)) where
+  module _ (one : HasOneText all) (part : IsPartOf r all) (meets : MeetsSweep all r now wait) where
     adds_met : AddsPart all made
-    adds_met = All-from_recursion (IsIn all) made.adds (adds_so r (IsIn all) (left_files r gone) (recursion_from_All (IsIn all) (left_files r gone) met.built))
+    adds_met = All-from_recursion (IsIn all) made.adds (adds_so r (IsIn all) (left_files r gone) (recursion_from_All (IsIn all) (left_files r gone) meets))
 
     drop_of : (name : FileName) → has_name (file_names (swept_files r gone)) name ≡ true → IsDropped r gone name
     drop_of name has = so_at name_cmp known.names (IsDropped r gone) (file_names (swept_files r gone)) (all_dropped known.ids r gone) name has
@@ -153,7 +152,7 @@ module _ (known : KnownOfSweeps) (r all : Repository) (now : ℤ) (wait : ℕ) w
         → is_among (flat_map listed_of (packs_left r gone)) p ≡ true
     relisted index empty p listed stays =
         let drop : IsDropped r gone (named Index index) = drop_of (named Index index) empty in
-        let here : is_among (listed_in r index) p ≡ true = ap (λ places. is_among places p) (sym (same_listed r all met.part index drop.there)) ∙ listed in
+        let here : is_among (listed_in r index) p ≡ true = ap (λ places. is_among places p) (sym (same_listed r all part index drop.there)) ∙ listed in
         known.places r gone p
         ∙ ap (λ b. not b && list_any (λ i. is_among (listed_in r i) p) (names_of (listing r gone))) stays
         ∙ any_at id_cmp known.ids (λ i. is_among (listed_in r i) p) index here (names_of (listing r gone)) (drop.index index refl)
@@ -171,14 +170,14 @@ module _ (known : KnownOfSweeps) (r all : Repository) (now : ℤ) (wait : ℕ) w
           ⊎ ((other : Id) × (leaves_filled made (file_facet Index other) ≡ true) × (is_among (listed_in all other) p ≡ true)))
       cases index empty p listed true has = inr (inl (marked_too p.spot.pack has))
       cases index empty p listed false stays =
-          inr (inr (listed_left known.written known.settles known.names r all (packs_left r gone) (swept_files r gone) (waited_marks r now wait) [] p left_fit met.built (relisted index empty p listed stays)))
+          inr (inr (listed_left known.written known.settles known.names r all (packs_left r gone) (swept_files r gone) (waited_marks r now wait) [] p left_fit meets (relisted index empty p listed stays)))
 
     made_safe : (snapshots : Id → Bool) → waited_marks r now wait ≢ [] → IsSafe all snapshots made
     made_safe snapshots some =
-        known.safe all snapshots made met.one_text
+        known.safe all snapshots made one
         (swept_well_formed known.names_order known.kinds_order known.names known.settling r now wait known.sorted some).once
         adds_met reindexes
 
 pub sweep_safe : KnownOfSweeps → SweepIsSafe
-sweep_safe known r all snapshots now wait c is met =
-    sweep_so r now wait (λ d. IsSafe all snapshots d) (made_safe known r all now wait met snapshots) c is
+sweep_safe known r all snapshots now wait c is met meets =
+    sweep_so r now wait (λ d. IsSafe all snapshots d) (made_safe known r all now wait met.one_text met.part meets snapshots) c is

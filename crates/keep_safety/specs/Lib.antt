@@ -1,5 +1,6 @@
 pub mod Cut
 pub mod Kept
+pub mod Met
 pub mod SafeBackup
 pub mod SafeLabels
 pub mod SafeMark

@@ -1,5 +1,5 @@
 -- What a change gives that stores blobs, and that the change of a backup keeps every sound repository sound.
-use Rattle.std.specs.Prelude.{◌≡◌, Bool, true, false, ℕ, List, map, All, Ok, String}
+use Rattle.std.specs.Prelude.{◌≡◌, Bool, true, false, ℕ, List, map, All, IsUtf8, Ok, String}
 use Rattle.std.specs.Global.{Global, Vec}
 use Rattle.std.specs.List.{find, list_any}
 use Rattle.std.specs.Option.{option_map}
@@ -13,7 +13,7 @@ use Rattle.keep_change.specs.declared.change.Change.{Change}
 use Rattle.keep_catalog.specs.Orders.{blob_eq}
 use Rattle.keep_plan.specs.declared.stored.Stored.{Stored}
 use Rattle.keep_sound.specs.Careful.{GivesPlace, IsSafe}
-use Rattle.keep_sound.specs.Met.{HasOneText, IsIn, IsPartOf}
+use Rattle.keep_sound.specs.Met.{IsIn, IsPartOf}
 use Rattle.keep_sound.specs.Plans.{AreMet, Texts}
 use Rattle.keep_backup.specs.Backup.{FactsData, backup_change, facts_view, snapshot_file}
 use Rattle.keep_backup.specs.Blobs.{BlobData, blob_id_of, is_full}
@@ -23,6 +23,7 @@ use Rattle.keep_backup.specs.Paths.{FileData, files_in_order}
 use Rattle.keep_backup.specs.Stored.{built, stored_of}
 use Rattle.keep_backup.specs.Walk.{blobs_of, id_of, root_tree}
 use Rattle.keep_backup.specs.declared.snapshot.BackupFacts.{BackupFacts}
+use Rattle.keep_safety.specs.Met.{IsMet}
 
 -- ---- storing
 
@@ -48,12 +49,20 @@ StoringGives =
 abbrev pub texts_of : List BlobData → Texts
 texts_of blobs name = option_map (λ (b : BlobData). b.1) (find (λ b. blob_eq name (blob_id_of b)) blobs)
 
--- Among all files and blobs that are ever met, no name and no id stands for two texts: those of the repository,
--- the files that the backup builds, also those that the repository has already, its snapshot, and the blobs of
--- the walk.
-pub record IsMet (all r : Repository) (facts : FactsData) (cut : ℕ) (files : List FileData) : Type 0 where
-  pub one_text : HasOneText all
-  pub part : IsPartOf r all
+-- who backs up what, and when, is said in texts
+pub record AreTexts (facts : FactsData) : Type 0 where
+  pub host : IsUtf8 facts.host
+  pub user : IsUtf8 facts.user
+  pub paths : All IsUtf8 facts.paths
+  pub time : IsUtf8 facts.time
+
+-- the path of each file that is given is a text
+abbrev pub HaveTextPaths : List (List ℕ × List ℕ) → Type 0
+HaveTextPaths given = All (λ file. IsUtf8 file.0) given
+
+-- What a backup builds is met: its files, also those that the repository has already, its snapshot, and the blobs
+-- of its walk.
+pub record MeetsBackup (all r : Repository) (facts : FactsData) (cut : ℕ) (files : List FileData) : Type 0 where
   pub built : All (IsIn all) (built r (blobs_of cut (root_folder files)))
   pub snapshot : IsIn all (snapshot_file facts (id_of (root_tree cut (root_folder files))))
   pub texts : AreMet all (texts_of (blobs_of cut (root_folder files)))
@@ -61,8 +70,14 @@ pub record IsMet (all r : Repository) (facts : FactsData) (cut : ℕ) (files : L
 -- the change of a backup is safe, whatever snapshots are known
 abbrev pub BackupIsSafe : Type 0
 BackupIsSafe =
-    (r all : Repository) (known : Id → Bool) (facts : BackupFacts) (cut : ℕ) (given : List (String Global × Vec ℕ))
+    (r all : Repository) (known : Id → Bool) (facts : FactsData) (cut : ℕ) (given : List (List ℕ × List ℕ))
     (files : List FileData) (c : Change)
-    → files_in_order (map given_view given) ≡ Ok files
-    → backup_change r (facts_view facts) cut (map given_view given) ≡ Ok c
-    → IsMet all r (facts_view facts) cut files → IsSafe all known c
+    → files_in_order given ≡ Ok files → backup_change r facts cut given ≡ Ok c
+    → AreTexts facts → HaveTextPaths given
+    → IsMet all r → MeetsBackup all r facts cut files → IsSafe all known c
+
+-- what a backup is asked for is said in texts
+abbrev pub BackupsAreTexts : Type 0
+BackupsAreTexts =
+    (facts : BackupFacts) (given : List (String Global × Vec ℕ))
+    → AreTexts (facts_view facts) × HaveTextPaths (map given_view given)

@@ -8,22 +8,15 @@ use Rattle.keep_index.specs.Index.{Fits}
 use Rattle.keep_index.specs.Joining.{lists_pack}
 use Rattle.keep_change.specs.Filling.{has_pack}
 use Rattle.keep_change.specs.Lists.{marked_packs}
-use Rattle.keep_change.specs.NamedBytes.{NamedBytes}
 use Rattle.keep_change.specs.declared.change.Change.{Change}
 use Rattle.keep_catalog.specs.Files.{header_in}
 use Rattle.keep_catalog.specs.Places.{is_among, is_stored, listed_in, listed_of}
 use Rattle.keep_catalog.specs.declared.spot.PackedBlob.{PackedBlob}
 use Rattle.keep_sound.specs.Careful.{IsSafe}
-use Rattle.keep_sound.specs.Met.{HasOneText, IsIn, IsPartOf}
+use Rattle.keep_sound.specs.Met.{IsIn}
 use Rattle.keep_upkeep.specs.Repair.{packs_there, repair_change, whole_files}
 use Rattle.keep_upkeep.specs.Sweep.{left_files, listing, names_of, packs_left, sweep_change, waited_marks}
-
--- Among all files that are ever met, no name and no id stands for two texts: those of the repository, and the new
--- index, also where the repository has it already.
-pub record IsMet (all r : Repository) (files : List NamedBytes) : Type 0 where
-  pub one_text : HasOneText all
-  pub part : IsPartOf r all
-  pub built : All (IsIn all) files
+use Rattle.keep_safety.specs.Met.{AreFiles, IsMet}
 
 -- ---- sweeps
 
@@ -41,11 +34,15 @@ SweepsKeepPacks =
     → lists_pack (packs_left r packs) pack
     ≡ (not (has_pack packs pack) && list_any (λ index. lists_pack index.1 pack) (listing r packs))
 
+-- the new index is met, also where the repository has it already
+abbrev pub MeetsSweep : Repository → Repository → ℤ → ℕ → Type 0
+MeetsSweep all r now wait = All (IsIn all) (left_files r (marked_packs (waited_marks r now wait)))
+
 -- the change of a sweep is safe, whatever snapshots are known
 abbrev pub SweepIsSafe : Type 0
 SweepIsSafe =
-    (r all : Repository) (known : Id → Bool) (now : ℤ) (wait : ℕ) (c : Change) → sweep_change r now wait ≡ Ok c
-    → IsMet all r (left_files r (marked_packs (waited_marks r now wait))) → IsSafe all known c
+    (r all : Repository) (known : Id → Bool) (now : ℤ) (wait : ℕ) (c : Change)
+    → sweep_change r now wait ≡ Ok c → IsMet all r → MeetsSweep all r now wait → IsSafe all known c
 
 -- ---- repairs
 
@@ -61,9 +58,16 @@ RepairsListPlaces = (r : Repository) (p : PackedBlob) → is_among (flat_map lis
 abbrev pub RepairsListPacks : Type 0
 RepairsListPacks = (r : Repository) (pack : Id) → lists_pack (packs_there r) pack ≡ can_be_read r pack
 
--- The change of a repair is safe, whatever snapshots are known, if its index can be written: its ids have 32 bytes,
--- and its numbers fit.
+-- And it can be written, whatever files there are: its ids have 32 bytes, and its numbers fit.
+abbrev pub HeadersFitAnIndex : Type 0
+HeadersFitAnIndex = (r : Repository) → AreFiles r → Fits (packs_there r)
+
+-- the new index is met, also where the repository has it already
+abbrev pub MeetsRepair : Repository → Repository → Type 0
+MeetsRepair all r = All (IsIn all) (whole_files r)
+
+-- the change of a repair is safe, whatever snapshots are known
 abbrev pub RepairIsSafe : Type 0
 RepairIsSafe =
-    (r all : Repository) (known : Id → Bool) (c : Change) → repair_change r ≡ Ok c → Fits (packs_there r)
-    → IsMet all r (whole_files r) → IsSafe all known c
+    (r all : Repository) (known : Id → Bool) (c : Change)
+    → repair_change r ≡ Ok c → IsMet all r → AreFiles r → MeetsRepair all r → IsSafe all known c

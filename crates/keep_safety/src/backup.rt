@@ -4,7 +4,7 @@ ghost use Rattle.keep_change.specs.Change.{is_met};
 ghost use Rattle.keep_change.specs.Form.{IsWellFormed};
 ghost use Rattle.keep_change.specs.declared.change.Change as the_change;
 ghost use Rattle.keep_backup.specs.Backup.{FactsData, backup_change};
-ghost use Rattle.keep_safety.specs.SafeBackup.{BackupIsSafe};
+ghost use Rattle.keep_safety.specs.SafeBackup.{BackupIsSafe, BackupsAreTexts};
 
 use crate::storing::what_is_stored_is_given;
 use keep_names::{digests_are_ids, orders_tell_apart};
@@ -22,9 +22,11 @@ pub fn a_planned_backup_can_be_made()
 {}
 
 /// The change that a backup plans keeps every sound repository sound, whenever it is made: all that the new
-/// snapshot reaches can be read after it, and nothing that an older one reaches is lost.
+/// snapshot reaches can be read after it, and nothing that an older one reaches is lost. What a backup is asked for
+/// in texts is such.
 pub fn a_planned_backup_is_safe()
-    ensures { BackupIsSafe }
+    ensures safe { BackupIsSafe }
+    ensures texts { BackupsAreTexts }
 {
     digests_are_ids();
     orders_tell_apart();

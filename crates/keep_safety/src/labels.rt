@@ -1,4 +1,4 @@
-ghost use Rattle.keep_safety.specs.SafeLabels.{ForgetIsSafe, TaggingIsSafe};
+ghost use Rattle.keep_safety.specs.SafeLabels.{EditsAreTexts, ForgetIsSafe, TaggingIsSafe};
 
 use keep_change::sorted_lists_are_well_formed;
 use keep_names::orders_tell_apart;
@@ -17,9 +17,10 @@ pub fn a_planned_forget_is_safe()
 }
 
 /// The change that an edit of tags plans keeps every sound repository sound, whenever it is made: a new snapshot
-/// reaches what the old one did.
+/// reaches what the old one did. An edit that is asked for in texts is such.
 pub fn a_planned_tagging_is_safe()
-    ensures { TaggingIsSafe }
+    ensures safe { TaggingIsSafe }
+    ensures texts { EditsAreTexts }
 {
     orders_tell_apart();
     snapshots_read_back();

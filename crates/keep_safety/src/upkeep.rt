@@ -1,9 +1,10 @@
-ghost use Rattle.keep_safety.specs.SafeMark.{MarkIsSafe};
-ghost use Rattle.keep_safety.specs.SafeReindexing.{RepairIsSafe, RepairsListPacks, RepairsListPlaces, SweepIsSafe, SweepsKeepPacks, SweepsKeepPlaces};
+ghost use Rattle.keep_safety.specs.SafeMark.{MarkIsSafe, MarkIsStrict};
+ghost use Rattle.keep_safety.specs.SafeReindexing.{HeadersFitAnIndex, RepairIsSafe, RepairsListPacks, RepairsListPlaces, SweepIsSafe, SweepsKeepPacks, SweepsKeepPlaces};
 
 use keep_change::sorted_lists_are_well_formed;
 use keep_index::{what_is_joined_is_listed, what_is_left_is_listed, written_indexes_read_back};
 use keep_names::{names_are_ordered, orders_tell_apart};
+use keep_pack::headers_are_read;
 use keep_plan::{each_built_file_is_settled, each_use_is_recorded, what_is_settled_can_be_made};
 use keep_reach::used_blobs_are_listed_once;
 use keep_sound::{marking_is_safe, reindexing_is_safe};
@@ -36,12 +37,14 @@ pub fn a_planned_sweep_is_safe()
     reindexing_is_safe();
 }
 
-/// What the headers have which can be read is listed, and nothing else.
+/// What the headers have which can be read is listed, and nothing else; and the index of it can be written.
 pub fn what_a_repair_lists()
     ensures places { RepairsListPlaces }
     ensures packs { RepairsListPacks }
+    ensures fits { HeadersFitAnIndex }
 {
     orders_tell_apart();
+    headers_are_read();
 }
 
 /// The change that a repair plans keeps every sound repository sound, whenever it is made: what the dropped indexes
@@ -60,9 +63,10 @@ pub fn a_planned_repair_is_safe()
 }
 
 /// The change that a mark plans keeps every sound repository sound whose snapshots were known when it was planned:
-/// all that they reach stays in packs without marks.
+/// all that they reach stays in packs without marks. And it may be committed only where no event came since.
 pub fn a_planned_mark_is_safe()
-    ensures { MarkIsSafe }
+    ensures safe { MarkIsSafe }
+    ensures strict { MarkIsStrict }
 {
     orders_tell_apart();
     used_blobs_are_listed_once();

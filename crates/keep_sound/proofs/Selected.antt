@@ -10,9 +10,9 @@ use Rattle.keep_change.specs.Fold.{Numbered, first_break, fold_of}
 use Rattle.keep_change.specs.Form.{HasNoFacetTwice}
 use Rattle.keep_change.specs.Result.{result_of}
 use Rattle.keep_reach.specs.Sound.{IsSound}
-use Rattle.keep_sound.specs.Careful.{AreKnown, IsSafe}
+use Rattle.keep_sound.specs.Careful.{AreKnown, IsSafe, Keeps}
 use Rattle.keep_sound.specs.Met.{AddsPart, IsPartOf}
-use Rattle.keep_sound.specs.Selection.{AreSafe, CommitsStaySound, EmptyingsStaySound, FiltersAreSelections, IsSelection, IsSoundHistory, SelectionsAreSound, has_snapshot, known_by, known_in, nothing, passed, taken, with_added}
+use Rattle.keep_sound.specs.Selection.{AllKeep, AreSafe, CommitsStaySound, EmptyingsStaySound, FiltersAreSelections, IsSelection, SelectionsAreSound, has_snapshot, known_by, known_in, nothing, passed, taken, with_added}
 use Rattle.keep_sound.specs.Standing.{file_facet}
 use Rattle.keep_sound.proofs.Keeping.{part_after}
 
@@ -31,11 +31,11 @@ or_right : (a b : Bool) → b ≡ true → (a || b) ≡ true
 or_right true b _ = refl
 or_right false b h = h
 
--- the state that was reached, its files all met, and its snapshots all known
-record IsReached (all : Repository) (known : Id → Bool) (state : Repository) : Type 0 where
-  part : IsPartOf state all
-  are_known : AreKnown known state
-  sound : IsSound state
+-- the repository that was reached is so, its files are all met, and its snapshots all known
+pub record IsReached (IsSo : Repository → Type 0) (all : Repository) (known : Id → Bool) (r : Repository) : Type 0 where
+  pub part : IsPartOf r all
+  pub are_known : AreKnown known r
+  pub so : IsSo r
 
 unbroken : (n : Numbered) (ms : List Numbered) (r : Repository) → first_break (n ∷ ms) r ≡ None → (is_met (held r) n.change ≡ true) × (first_break ms (result_of n.change r) ≡ None)
 unbroken n ms r none = cases (is_met (held r) n.change) refl none where
@@ -43,42 +43,43 @@ unbroken n ms r none = cases (is_met (held r) n.change) refl none where
   cases true met rest = (met, rest)
   cases false _ broken = cc broken
 
-module _ (follow : FacetsFollow) (come : FilesComeFrom) (all : Repository) where
-  -- a safe change that is met leads on
-  made : (known : Id → Bool) (n : Numbered) (r : Repository) → HasNoFacetTwice n.change → AddsPart all n.change → IsSafe all known n.change → is_met (held r) n.change ≡ true → IsReached all known r → IsReached all (with_added known n) (result_of n.change r)
-  made known n r once adds safe met reached = record {
+module _ (follow : FacetsFollow) (come : FilesComeFrom) (IsSo : Repository → Type 0) (all : Repository) where
+  -- a change that is met leads on
+  made : (known : Id → Bool) (n : Numbered) (r : Repository) → HasNoFacetTwice n.change → AddsPart all n.change → Keeps IsSo all known n.change → is_met (held r) n.change ≡ true → IsReached IsSo all known r → IsReached IsSo all (with_added known n) (result_of n.change r)
+  made known n r once adds keeps met reached = record {
     part = part_after come all n.change r adds reached.part;
     are_known = λ snapshot there. cases snapshot there (is_filled r (file_facet Snapshot snapshot)) refl;
-    sound = safe r reached.part reached.are_known met reached.sound;
+    so = keeps r reached.part reached.are_known met reached.so;
   } where
     cases : (snapshot : Id) → is_filled (result_of n.change r) (file_facet Snapshot snapshot) ≡ true → (b : Bool) → is_filled r (file_facet Snapshot snapshot) ≡ b → with_added known n snapshot ≡ true
     cases snapshot there true old = or_left (known snapshot) (fills n.change (file_facet Snapshot snapshot)) (reached.are_known snapshot old)
     cases snapshot there false new = or_right (known snapshot) (fills n.change (file_facet Snapshot snapshot)) ((follow n.change r once met).new (file_facet Snapshot snapshot) new there)
 
   -- one that is passed over adds to what is known
-  passed_over : (known : Id → Bool) (n : Numbered) (r : Repository) → IsReached all known r → IsReached all (with_added known n) r
+  passed_over : (known : Id → Bool) (n : Numbered) (r : Repository) → IsReached IsSo all known r → IsReached IsSo all (with_added known n) r
   passed_over known n r reached = record {
     part = reached.part;
     are_known = λ snapshot there. or_left (known snapshot) (fills n.change (file_facet Snapshot snapshot)) (reached.are_known snapshot there);
-    sound = reached.sound;
+    so = reached.so;
   }
 
-  selected : (known : Id → Bool) (ns ms : List Numbered) (r : Repository) → IsReached all known r → AreSafe all known ns → IsSelection ms ns → first_break ms r ≡ None → IsReached all (known_by known ns) (fold_of ms r)
-  selected known _ _ r reached safe nothing none = reached
-  selected known _ _ r reached safe (taken n ms ns later) none =
+  selected : (known : Id → Bool) (ns ms : List Numbered) (r : Repository) → IsReached IsSo all known r → AllKeep IsSo all known ns → IsSelection ms ns → first_break ms r ≡ None → IsReached IsSo all (known_by known ns) (fold_of ms r)
+  selected known _ _ r reached keep nothing none = reached
+  selected known _ _ r reached keep (taken n ms ns later) none =
       let due = unbroken n ms r none in
-      selected (with_added known n) ns ms (result_of n.change r) (made known n r safe.0 safe.1 safe.2 due.0 reached) safe.3 later due.1
-  selected known _ _ r reached safe (passed n ms ns later) none =
-      selected (with_added known n) ns ms r (passed_over known n r reached) safe.3 later none
+      selected (with_added known n) ns ms (result_of n.change r) (made known n r keep.0 keep.1 keep.2 due.0 reached) keep.3 later due.1
+  selected known _ _ r reached keep (passed n ms ns later) none =
+      selected (with_added known n) ns ms r (passed_over known n r reached) keep.3 later none
 
-  from_opening : (opening : Repository) (kept ms : List Numbered) → IsSoundHistory all opening kept → IsSelection ms kept → first_break ms opening ≡ None → IsReached all (known_in opening kept) (fold_of ms opening)
-  from_opening opening kept ms history chosen none =
-      selected (has_snapshot opening) kept ms opening (record { part = history.part; are_known = λ snapshot there. there; sound = history.sound }) history.safe chosen none
+  -- what is so of an opening is so of what a selection makes of it
+  pub from_opening : (opening : Repository) (kept ms : List Numbered) → IsPartOf opening all → IsSo opening → AllKeep IsSo all (has_snapshot opening) kept → IsSelection ms kept → first_break ms opening ≡ None → IsReached IsSo all (known_in opening kept) (fold_of ms opening)
+  from_opening opening kept ms part so keep chosen none =
+      selected (has_snapshot opening) kept ms opening (record { part = part; are_known = λ snapshot there. there; so = so }) keep chosen none
 
 pub selections_are_sound : FacetsFollow → FilesComeFrom → SelectionsAreSound
 selections_are_sound follow come all opening kept ms history chosen none =
-    let reached = from_opening follow come all opening kept ms history chosen none in
-    record { sound = reached.sound; part = reached.part }
+    let reached = from_opening follow come IsSound all opening kept ms history.part history.sound history.safe chosen none in
+    record { sound = reached.so; part = reached.part }
 
 -- ---- commits and emptyings
 
@@ -117,10 +118,10 @@ less_known all known fewer (n ∷ ns) more safe = (
 
 pub emptyings_stay_sound : FacetsFollow → FilesComeFrom → EmptyingsStaySound
 emptyings_stay_sound follow come all opening final rest ms history chosen none =
-    let front : IsSoundHistory all opening final = record { part = history.part; sound = history.sound; safe = front_safe all (has_snapshot opening) final rest history.safe } in
-    let reached = from_opening follow come all opening final ms front chosen none in
+    let front : AreSafe all (has_snapshot opening) final = front_safe all (has_snapshot opening) final rest history.safe in
+    let reached = from_opening follow come IsSound all opening final ms history.part history.sound front chosen none in
     record {
       part = reached.part;
-      sound = reached.sound;
+      sound = reached.so;
       safe = less_known all (known_in opening final) (has_snapshot (fold_of ms opening)) rest reached.are_known (rest_safe all (has_snapshot opening) final rest history.safe);
     }

@@ -22,12 +22,16 @@ use Rattle.keep_sound.specs.Standing.{IsSoundIn, Supports, file_facet}
 abbrev pub AreKnown : (Id → Bool) → Repository → Type 0
 AreKnown known r = (snapshot : Id) → is_filled r (file_facet Snapshot snapshot) ≡ true → known snapshot ≡ true
 
--- The change is safe: a sound repository that meets it, and whose files are all met and whose snapshots are all
--- known, is sound after it.
-abbrev pub IsSafe : Repository → (Id → Bool) → Change → Type 0
-IsSafe all known c =
+-- The change keeps what is so of a repository, wherever it is met, if all files of the repository are met, and all its
+-- snapshots are known.
+abbrev pub Keeps : (Repository → Type 0) → Repository → (Id → Bool) → Change → Type 0
+Keeps IsSo all known c =
     (r : Repository) → IsPartOf r all → AreKnown known r → is_met (held r) c ≡ true
-    → IsSound r → IsSound (result_of c r)
+    → IsSo r → IsSo (result_of c r)
+
+-- it is safe: it keeps a sound repository sound
+abbrev pub IsSafe : Repository → (Id → Bool) → Change → Type 0
+IsSafe all known c = Keeps IsSound all known c
 
 -- ---- what a change says of a blob
 

@@ -7,7 +7,7 @@ use Rattle.keep_change.specs.Filling.{fills}
 use Rattle.keep_change.specs.Fold.{Numbered, first_break, fold_of}
 use Rattle.keep_change.specs.Form.{HasNoFacetTwice}
 use Rattle.keep_reach.specs.Sound.{IsSound}
-use Rattle.keep_sound.specs.Careful.{IsSafe}
+use Rattle.keep_sound.specs.Careful.{IsSafe, Keeps}
 use Rattle.keep_sound.specs.Met.{AddsPart, IsPartOf}
 use Rattle.keep_sound.specs.Standing.{file_facet}
 
@@ -33,11 +33,16 @@ has_snapshot r snapshot = is_filled r (file_facet Snapshot snapshot)
 abbrev pub known_in : Repository → List Numbered → Id → Bool
 known_in opening kept = known_by (has_snapshot opening) kept
 
--- each change has no facet twice, adds files that are met, and is safe where the snapshots before it are known
+-- each change has no facet twice, adds files that are met, and keeps what is so where the snapshots before it are known
+abbrev pub AllKeep : (Repository → Type 0) → Repository → (Id → Bool) → List Numbered → Type 0
+AllKeep IsSo all known [] = Unit {0}
+AllKeep IsSo all known (n ∷ ns) =
+    HasNoFacetTwice n.change × AddsPart all n.change × Keeps IsSo all known n.change
+    × AllKeep IsSo all (with_added known n) ns
+
+-- each is safe there
 abbrev pub AreSafe : Repository → (Id → Bool) → List Numbered → Type 0
-AreSafe all known [] = Unit {0}
-AreSafe all known (n ∷ ns) =
-    HasNoFacetTwice n.change × AddsPart all n.change × IsSafe all known n.change × AreSafe all (with_added known n) ns
+AreSafe all known ns = AllKeep IsSound all known ns
 
 -- the opening is sound and its files are met, and each change that isn't final is safe
 pub record IsSoundHistory (all opening : Repository) (kept : List Numbered) : Type 0 where

@@ -14,7 +14,7 @@ use Rattle.keep_journal.specs.History.{change_of, committed, final_number, is_in
 use Rattle.keep_journal.specs.Journal.{Journal}
 use Rattle.keep_journal.specs.Kept.{earlier, is_kept, kept_change, later}
 use Rattle.keep_journal.proofs.Commits.{is_some-change_of}
-use Rattle.keep_journal.proofs.Kept.{kept_later, later_none}
+use Rattle.keep_journal.proofs.Kept.{above-past, kept_later, later_none}
 use Rattle.keep_touch.specs.Finding.{first_among, first_toucher, first_writer, in_force, last_writer, sooner}
 use Rattle.keep_touch.specs.Mentions.{mention_of, mentions, AreNoted}
 use Rattle.keep_touch.specs.declared.mention.Mention.{Mention}
@@ -103,6 +103,14 @@ later_mentions touch j q n noted numbered =
     ∙ ap (filter (λ m. nat_lt n m.number && in_force j m.number)) (noted q)
     ∙ filter_mentions (λ m. nat_lt n m && in_force j m) (λ m. is_kept j m && nat_lt n m) q (committed j)
     (all_weaker (λ m same. and_comm (nat_lt n m.number) (in_force j m.number) ∙ ap (λ b. b && nat_lt n m.number) same) (committed j) (all_there j numbered))
+
+-- and none is after the last change
+pub none_after : (touch : Touch) (j : Journal) (q : Facet) (n : ℕ) → AreNoted touch j → IsNumbered j → last_change j ≤ n
+    → filter (λ m. nat_lt n m.number) (mentions touch q) ≡ []
+none_after touch j q n noted numbered end =
+    ap (filter (λ m. nat_lt n m.number)) (noted q)
+    ∙ filter_mentions (nat_lt n) (nat_lt n) q (committed j) (all_weaker (λ m same. refl) (committed j) (all_there j numbered))
+    ∙ ap (filter_map (mention_of q)) (above-past j n numbered end)
 
 below_top : (f a b : Bool) → ((a && b) && (f && a)) ≡ ((f && a) && b)
 below_top true true true = refl

@@ -1,4 +1,4 @@
-ghost use Rattle.std.specs.Prelude.{◌≡◌, ◌&&◌, map, reverse};
+ghost use Rattle.std.specs.Prelude.{◌≡◌, ◌&&◌, filter, map, nat_lt, reverse};
 ghost use Rattle.std.specs.List.{find};
 ghost use Rattle.std.specs.Option.{option_map};
 ghost use Rattle.keep_change.specs.Change.{Holding};
@@ -58,6 +58,19 @@ impl Touch {
             return None;
         }
         last_writing(below(above(self.list(facet), last_final), n), history)
+    }
+
+    /// The mentions of the facet by the changes after n, be they in force or not, in the order of their numbers.
+    ///
+    /// It takes a search. Where n is the last change it takes none.
+    pub fn mentions_after(&self, history: &History, n: u64, facet: Facet) -> &[Mention]
+        requires { AreNoted self.now history.now.journal }
+        ensures { result.now ≡ filter (λ m. nat_lt n m.number) (mentions self.now facet) }
+    {
+        if history.last_change() <= n {
+            return &[];
+        }
+        above(self.list(facet), n)
     }
 
     fn first_of<M: Member>(&self, history: &History, n: u64, members: &[M]) -> Option<u64>

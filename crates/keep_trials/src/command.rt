@@ -108,7 +108,7 @@ fn shelves_that_fail_give_their_status(rt: HostRuntime) -> Result<(), Fail> {
         (Status::Faulted, "keepd: the shelf failed"),
         (
             Status::NotOpened(OpenError::BadEntry(3)),
-            "keepd: cannot open: BadEntry 3",
+            "keepd: cannot open: BadEntry 3; put journal, trash and files back from one copy",
         ),
     ] {
         let ending = Ending::Ran(status);

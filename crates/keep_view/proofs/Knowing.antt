@@ -24,6 +24,7 @@ use Rattle.keep_repo.specs.declared.facet.Facet.{Facet}
 use Rattle.keep_repo.specs.declared.facet.Facet.TheVariants.{File, Mark}
 use Rattle.keep_repo.proofs.Orders.{facet_eq_same}
 use Rattle.keep_change.specs.Change.{Holding, added, asked, dropped, is_as_asked, is_as_written, is_met, is_ready, holds_same}
+use Rattle.keep_change.specs.Filling.{fills}
 use Rattle.keep_change.specs.Fold.{Numbered, first_break, fold_of}
 use Rattle.keep_change.specs.Form.{HasNoFacetTwice}
 use Rattle.keep_change.specs.Law.{HaveNoFacetTwice}
@@ -45,6 +46,7 @@ use Rattle.keep_journal.specs.Opening.{IsOpen}
 use Rattle.keep_journal.proofs.Later.{no_facet_twice}
 use Rattle.keep_repo.specs.Kinds.{ids_among}
 use Rattle.keep_catalog.specs.Files.{ids_in}
+use Rattle.keep_view.specs.Laws.{KnownAreThereOrAdded}
 use Rattle.keep_view.specs.Shown.{added_by, known_of}
 use Rattle.keep_view.specs.Telling.{has_snapshot, snapshot_file}
 use Rattle.keep_view.proofs.Told.{adds_it, told_above}
@@ -188,12 +190,12 @@ snapshot_among r id =
     some_stored None = refl
     some_stored (Some bytes) = refl
 
+by_name : (id : Id) (files : List NamedBytes) → list_any (eq_by_cmp name_cmp (named Snapshot id)) (file_names files) ≡ has_snapshot files id
+by_name id [] = refl
+by_name id (f ∷ files) = ap (λ b. facet_eq (snapshot_file id) (File f.name) || b) (by_name id files)
+
 added_among : (id : Id) (files : List NamedBytes) → list_any (eq_by_cmp id_cmp id) (ids_among Snapshot (file_names files)) ≡ has_snapshot files id
-added_among id files = among_named id (file_names files) ∙ by_file files
-  where
-    by_file : (files : List NamedBytes) → list_any (eq_by_cmp name_cmp (named Snapshot id)) (file_names files) ≡ has_snapshot files id
-    by_file [] = refl
-    by_file (f ∷ files) = ap (λ b. facet_eq (snapshot_file id) (File f.name) || b) (by_file files)
+added_among id files = among_named id (file_names files) ∙ by_name id files
 
 -- ---- what is known
 
@@ -235,6 +237,15 @@ contains-known_of opening ns id =
     set.contains-from_list id_total (ids_in opening Snapshot ++ flat_map added_by ns) id
     ∙ list_any-append (eq_by_cmp id_cmp id) (ids_in opening Snapshot) (flat_map added_by ns)
     ∙ ap₂ ◌||◌ (snapshot_among opening id) (all_added id ns)
+
+-- it is what the opening has, and what one of the changes fills
+pub known_are_there_or_added : KnownAreThereOrAdded
+known_are_there_or_added opening ns id =
+    contains-known_of opening ns id ∙ ap (λ b. is_filled opening (snapshot_file id) || b) (filled ns)
+  where
+    filled : (ns : List Numbered) → list_any (λ n. has_snapshot n.change.adds id) ns ≡ list_any (λ n. fills n.change (snapshot_file id)) ns
+    filled [] = refl
+    filled (n ∷ ns) = ap₂ ◌||◌ (sym (by_name id n.change.adds)) (filled ns)
 
 -- a set of ids that has just those that are known is the set that is known
 pub known_set : (opening : Repository) (ns : List Numbered) (known : BTreeSet Id) → ((id : Id) → contains id_cmp known id ≡ known_in opening ns id)

@@ -7,6 +7,7 @@ returns c = repair_safe (record {
   ids = c.orders_tell_apart.ensures.ids;
   names_order = c.names_are_ordered.ensures.names;
   places = c.what_a_repair_lists.ensures.places;
+  fits = c.what_a_repair_lists.ensures.fits;
   written = c.written_indexes_read_back.ensures.written;
   settling = c.what_is_settled_can_be_made.ensures;
   settles = c.each_built_file_is_settled.ensures;

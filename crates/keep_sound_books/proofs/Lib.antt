@@ -1,0 +1,5 @@
+pub mod Accepted
+pub mod Formed
+pub mod Growing
+pub mod Knowing
+pub mod Sound

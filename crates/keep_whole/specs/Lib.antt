@@ -1,0 +1,3 @@
+pub mod Restic
+pub mod Selected
+pub mod Whole
