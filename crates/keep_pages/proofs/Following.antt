@@ -18,15 +18,11 @@ use Rattle.keep_ledger.proofs.Redoing.{can_redo}
 use Rattle.keep_ledger.proofs.Replying.{can_empty}
 use Rattle.keep_ledger.proofs.Undoing.{can_undo}
 use Rattle.keep_pages.specs.Following.{Follows, IsFormedEvent}
-use Rattle.keep_pages.specs.Histories.{state_of, state_with, IsAccepted, IsLegal}
+use Rattle.keep_pages.specs.Histories.{state_of, state_with, IsAccepted, IsLegal, IsOpenLedger}
 use Rattle.keep_pages.proofs.Accepting.{accepts}
 use Rattle.keep_pages.proofs.Histories.{with_event-is}
 
--- a ledger's events make its live repository of its opening
-abbrev pub IsOpenAt : LedgerState → Type 0
-IsOpenAt b = IsOpen b.opening b.events b.live
-
-module _ (b : LedgerState) (is : IsOpen b.opening b.events b.live) where
+module _ (b : LedgerState) (is : IsOpenLedger b) where
   formed_event : (request : Request) → CanBeMade b request → IsFormedEvent (event_of b request)
   formed_event (Commit p) can = can.begins.formed
   formed_event (Undo n) can = tt
@@ -39,7 +35,7 @@ module _ (b : LedgerState) (is : IsOpen b.opening b.events b.live) where
   unfinal (Redo n) can = (can_redo b.events n can.begins.free).above
   unfinal (Empty n) can = (can_empty b.events n can.begins.free).above
 
-  open_with : (request : Request) → CanBeMade b request → IsOpenAt (with_event b request)
+  pub open_with : (request : Request) → CanBeMade b request → IsOpenLedger (with_event b request)
   open_with request can =
       let then = made b is request can in
       subst (IsOpen (opening_after b request) (posted b.events (length_of b.events + 1) (event_of b request))) then.state then
@@ -60,17 +56,17 @@ module _ (b : LedgerState) (is : IsOpen b.opening b.events b.live) where
       }
 
 -- the event of an accepted request can be followed
-pub follows : (rules : List Rule) (b : LedgerState) (e : Event) → IsOpenAt b → IsAccepted rules b e → Follows b e
+pub follows : (rules : List Rule) (b : LedgerState) (e : Event) → IsOpenLedger b → IsAccepted rules b e → Follows b e
 follows rules b e is accepted =
     subst (Follows b) (sym accepted.event) (follows_request b is accepted.request (accepts rules b accepted.request _ accepted.reply))
 
 -- and leaves a ledger whose events make its live repository of its opening
-pub open_after : (rules : List Rule) (b : LedgerState) (e : Event) → IsOpenAt b → IsAccepted rules b e → IsOpenAt (state_with b e)
+pub open_after : (rules : List Rule) (b : LedgerState) (e : Event) → IsOpenLedger b → IsAccepted rules b e → IsOpenLedger (state_with b e)
 open_after rules b e is accepted =
     let made_by = with_event-is b accepted.request ∙ ap (state_with b) (sym accepted.event) in
-    subst IsOpenAt made_by (open_with b is accepted.request (accepts rules b accepted.request _ accepted.reply))
+    subst IsOpenLedger made_by (open_with b is accepted.request (accepts rules b accepted.request _ accepted.reply))
 
 -- so does a list of them
-pub open_at : (rules : List Rule) (b : LedgerState) (es : List Event) → IsOpenAt b → IsLegal rules b es → IsOpenAt (state_of b es)
+pub open_at : (rules : List Rule) (b : LedgerState) (es : List Event) → IsOpenLedger b → IsLegal rules b es → IsOpenLedger (state_of b es)
 open_at rules b [] is legal = is
 open_at rules b (e ∷ es) is legal = open_at rules (state_with b e) es (open_after rules b e is legal.0) legal.1

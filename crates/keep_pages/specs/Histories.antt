@@ -42,7 +42,11 @@ shown_at b es = let s = state_of b es in shown_of s.opening s.events s.live
 
 -- ---- which events were accepted
 
--- the ledger tells of the event: some request makes it, to which neither the ledger nor these rules object
+-- the ledger's events are legal, and those changes that can still be undone make its live repository of its opening
+abbrev pub IsOpenLedger : LedgerState → Type 0
+IsOpenLedger b = IsOpen b.opening b.events b.live
+
+-- the event is in: it is that of some request which is told of it, so neither the ledger nor these rules object. Moves that are left due make no difference
 pub record IsAccepted (rules : List Rule) (b : LedgerState) (e : Event) : Type 0 where
   pub request : Request
   pub reply : Replies b rules request (Ok (told_of b.events request))
@@ -53,7 +57,7 @@ abbrev pub IsLegal : List Rule → LedgerState → List Event → Type 0
 IsLegal rules b [] = Unit {0}
 IsLegal rules b (e ∷ es) = IsAccepted rules b e × IsLegal rules (state_with b e) es
 
--- the events are legal, from a ledger on whose own events make its live repository of its opening
+-- the events are legal from an open ledger on
 pub record IsHistory (rules : List Rule) (b : LedgerState) (es : List Event) : Type 0 where
-  pub begins : IsOpen b.opening b.events b.live
+  pub begins : IsOpenLedger b
   pub legal : IsLegal rules b es

@@ -1,14 +1,15 @@
 -- What holds of the events that are accepted, one after another.
-use Rattle.std.specs.Prelude.{◌≡◌, ◌+◌, List, [], ◌∷◌, ◌++◌, length}
+use Rattle.std.specs.Prelude.{◌≡◌, ◌+◌, List, [], ◌∷◌, ◌++◌, length, Ok}
 use Rattle.keep_journal.specs.History.{length_of}
-use Rattle.keep_journal.specs.Opening.{IsOpen}
 use Rattle.keep_journal.specs.declared.event.Event.{Event}
 use Rattle.keep_hooks.specs.Guards.{Rule}
 use Rattle.keep_ledger.specs.LedgerState.{LedgerState}
 use Rattle.keep_ledger.specs.Made.{event_of, with_event}
+use Rattle.keep_ledger.specs.Reply.{Replies}
+use Rattle.keep_ledger.specs.declared.reply.Told.{Told}
 use Rattle.keep_ledger.specs.declared.request.Request.{Request}
 use Rattle.keep_pages.specs.Following.{Follows}
-use Rattle.keep_pages.specs.Histories.{length_at, state_of, state_with, IsAccepted, IsHistory, IsLegal}
+use Rattle.keep_pages.specs.Histories.{length_at, state_of, state_with, IsAccepted, IsHistory, IsLegal, IsOpenLedger}
 
 -- an accepted request leaves just what its event leaves
 abbrev pub EventsTellAll : Type 0
@@ -17,13 +18,18 @@ EventsTellAll = (b : LedgerState) (request : Request) → with_event b request �
 -- each accepted event can be followed
 abbrev pub AcceptedIsFollowed : Type 0
 AcceptedIsFollowed =
-    (rules : List Rule) (b : LedgerState) (e : Event) → IsOpen b.opening b.events b.live → IsAccepted rules b e → Follows b e
+    (rules : List Rule) (b : LedgerState) (e : Event) → IsOpenLedger b → IsAccepted rules b e → Follows b e
 
--- after a history the events make the live repository of the opening
+-- an open ledger is one still with the event of an accepted request
+abbrev pub AcceptedStayOpen : Type 0
+AcceptedStayOpen =
+    (b : LedgerState) (rules : List Rule) (request : Request) (told : Told)
+    → IsOpenLedger b → Replies b rules request (Ok told) → IsOpenLedger (with_event b request)
+
+-- and after a history
 abbrev pub HistoriesStayOpen : Type 0
 HistoriesStayOpen =
-    (rules : List Rule) (b : LedgerState) (es : List Event) → IsHistory rules b es
-    → let s = state_of b es in IsOpen s.opening s.events s.live
+    (rules : List Rule) (b : LedgerState) (es : List Event) → IsHistory rules b es → IsOpenLedger (state_of b es)
 
 -- a history grows by an event that is accepted after it
 abbrev pub HistoriesGrow : Type 0

@@ -1,4 +1,4 @@
-ghost use Rattle.keep_pages.specs.Laws.{AcceptedIsFollowed, EventsAreCounted, EventsTellAll, HistoriesGrow, HistoriesStayOpen};
+ghost use Rattle.keep_pages.specs.Laws.{AcceptedIsFollowed, AcceptedStayOpen, EventsAreCounted, EventsTellAll, HistoriesGrow, HistoriesStayOpen};
 
 use crate::sheet::Sheet;
 
@@ -8,8 +8,13 @@ pub fn accepted_events_are_followed()
     ensures followed { AcceptedIsFollowed }
 {}
 
-/// A list of events that were accepted one after another stays one with the next accepted event, and what it leaves is
-/// a ledger whose events make its live repository of its opening.
+/// An accepted request leaves a ledger whose events make its live repository of its opening.
+pub fn accepted_requests_leave_open_ledgers()
+    ensures { AcceptedStayOpen }
+{}
+
+/// A list of events that were accepted one after another stays one with the next accepted event, and leaves such a
+/// ledger too. Each event has the next number.
 pub fn histories_grow()
     ensures grows { HistoriesGrow }
     ensures stays { HistoriesStayOpen }

@@ -11,5 +11,8 @@ mod turning;
 
 pub use events::copy_event;
 pub use last::last_event;
-pub use laws::{accepted_events_are_followed, histories_grow, sheets_cross_threads};
+pub use laws::{
+    accepted_events_are_followed, accepted_requests_leave_open_ledgers, histories_grow,
+    sheets_cross_threads,
+};
 pub use sheet::Sheet;
