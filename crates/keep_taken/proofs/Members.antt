@@ -75,11 +75,6 @@ one_list j n xs ys one other =
     same_numbers (last_change j + 1) (last_change j + 1) xs ys one.down other.down
     (λ m h. other.all m (one.each m h)) (λ m h. one.all m (other.each m h))
 
--- none of them is before n
-pub taken_from : (j : Journal) (n m : ℕ) → IsTaken j n m → n ≤ m
-taken_from j n _ itself = omega arith
-taken_from j n _ (leaning k m taken leans) = omega (arith, taken_from j n k taken, leans.later)
-
 -- where n is in force and not final, they all are
 pub taken_kept : (j : Journal) (n : ℕ) → is_some (kept_change j n) ≡ true → (m : ℕ) → IsTaken j n m → is_some (kept_change j m) ≡ true
 taken_kept j n first _ itself = first
