@@ -67,11 +67,13 @@ blobs_built shown settings (Sweep wait) = []
 
 -- the other files that it builds beside the packs of these blobs and their index: a snapshot, or an index
 abbrev pub others_built : Shown → SettingsData → JobData → List NamedBytes
-others_built shown settings (Backup facts files) = snapshot_file facts (id_of (root_tree settings.cut (folder_of files))) ∷ []
+others_built shown settings (Backup facts files) =
+    snapshot_file facts (id_of (root_tree settings.cut (folder_of files))) ∷ []
 others_built shown settings (Filtered rule task) = []
 others_built shown settings Repair = whole_files shown.repo
 others_built shown settings Mark = []
-others_built shown settings (Sweep wait) = left_files shown.repo (marked_packs (waited_marks shown.repo settings.now wait))
+others_built shown settings (Sweep wait) =
+    left_files shown.repo (marked_packs (waited_marks shown.repo settings.now wait))
 
 -- what a job builds is among all that is met, be it there already or not: no name of a file, and no id of a blob,
 -- stands for two texts

@@ -29,9 +29,9 @@ pub fn jobs_are_said_in_texts<F: HoldsFilter>(job: &Job<F>)
     a_planned_tagging_is_safe();
 }
 
-/// The change of a job keeps every sound repository sound that meets it, and so every whole one whole: whatever snapshots
-/// are known; a mark's, which may be committed only where nothing happened since it was planned, if those are known
-/// that were shown then.
+/// The change of a job keeps every sound repository sound that meets it, and so every whole one whole: whatever
+/// snapshots are known. A mark's may be committed only where nothing happened since it was planned, and does so where
+/// those are known that were shown then.
 pub fn planned_changes_keep_whole()
     ensures sound { PlannedChangesKeep IsSound }
     ensures whole { PlannedChangesKeep (IsWhole restic) }
