@@ -1,11 +1,13 @@
 -- Selections of numbered changes, each of them safe where the snapshots before it are known.
 use Rattle.std.specs.Prelude.{◌≡◌, Bool, ◌||◌, List, [], ◌∷◌, ◌++◌, filter, None}
+use Rattle.keep_names.specs.FileName.{named}
 use Rattle.keep_names.specs.declared.file_name.Kind.TheVariants.{Snapshot}
 use Rattle.keep_names.specs.declared.id.Id.{Id}
 use Rattle.keep_repo.specs.Repository.{Repository, is_filled}
-use Rattle.keep_change.specs.Filling.{fills}
+use Rattle.keep_change.specs.Filling.{has_name}
 use Rattle.keep_change.specs.Fold.{Numbered, first_break, fold_of}
 use Rattle.keep_change.specs.Form.{HasNoFacetTwice}
+use Rattle.keep_change.specs.Lists.{file_names}
 use Rattle.keep_reach.specs.Sound.{IsSound}
 use Rattle.keep_sound.specs.Careful.{IsSafe, Keeps}
 use Rattle.keep_sound.specs.Met.{AddsPart, IsPartOf}
@@ -19,7 +21,7 @@ pub data IsSelection : List Numbered → List Numbered → Type 0 where
 
 -- these snapshots, and those that the change adds
 abbrev pub with_added : (Id → Bool) → Numbered → Id → Bool
-with_added known n snapshot = known snapshot || fills n.change (file_facet Snapshot snapshot)
+with_added known n snapshot = known snapshot || has_name (file_names n.change.adds) (named Snapshot snapshot)
 
 -- these, and those that the changes add
 abbrev pub known_by : (Id → Bool) → List Numbered → Id → Bool

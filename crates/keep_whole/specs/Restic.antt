@@ -9,20 +9,20 @@ use Rattle.keep_change.specs.declared.change.Change.{Change}
 use Rattle.keep_snap.specs.Snap.{SnapData}
 use Rattle.keep_catalog.specs.Files.{snap_read, what_is_read}
 use Rattle.keep_catalog.specs.Naming.{named_of, read_tree_of}
-use Rattle.keep_catalog.specs.Places.{places_listed, places_stored}
+use Rattle.keep_catalog.specs.Places.{at, is_among, places_listed, places_stored}
 use Rattle.keep_reach.specs.Sound.{IsSound}
 use Rattle.keep_sound.specs.Careful.{IsSafe, Keeps}
 use Rattle.keep_sound.specs.Met.{AddsPart, HasOneText, IsPartOf}
 use Rattle.keep_sound.specs.Selection.{AllKeep, AreSafe}
 use Rattle.keep_whole.specs.Whole.{IsWhole, Says}
 
--- the tree of a snapshot; what the nodes of a tree name; the blobs of an index; the entries of a header
+-- the tree of a snapshot; what the nodes of a tree name; whether the blob is one of an index, and one of a header
 abbrev pub restic : Says
 restic = record {
   root = λ bytes. option_map (λ (snap : SnapData). snap.tree) (snap_read (Some bytes));
   names = λ text. flat_map named_of (what_is_read (Some (read_tree_of text)));
-  lists = λ bytes. places_listed (Some bytes);
-  has = λ pack bytes. places_stored pack (Some bytes);
+  lists = λ bytes blob spot. is_among (places_listed (Some bytes)) (at blob spot);
+  has = λ bytes blob spot. is_among (places_stored spot.pack (Some bytes)) (at blob spot);
 }
 
 -- among files that are all met, where no id stands for two texts, to be sound is to be whole

@@ -1,5 +1,5 @@
 -- What it means that no snapshot of a repository misses a blob, whatever the formats of its files are.
-use Rattle.std.specs.Prelude.{◌≡◌, ◌⊎◌, true, ℕ, zero, suc, List, Option, None, Some}
+use Rattle.std.specs.Prelude.{◌≡◌, ◌⊎◌, Bool, true, ℕ, zero, suc, List, Option, None, Some}
 use Rattle.std.specs.FinMap as finite
 use Rattle.keep_names.specs.BlobId.{tree_at}
 use Rattle.keep_names.specs.FileName.{named}
@@ -10,18 +10,17 @@ use Rattle.keep_names.specs.declared.file_name.Kind.{Kind}
 use Rattle.keep_names.specs.declared.file_name.Kind.TheVariants.{Pack, Index, Snapshot}
 use Rattle.keep_names.specs.declared.id.Id.{Id}
 use Rattle.keep_repo.specs.Repository.{Repository}
-use Rattle.keep_catalog.specs.Places.{at, is_among, slice_of}
-use Rattle.keep_catalog.specs.declared.spot.PackedBlob.{PackedBlob}
+use Rattle.keep_catalog.specs.Places.{slice_of}
 use Rattle.keep_catalog.specs.declared.spot.Spot.{Spot}
 use Rattle.keep_reach.specs.Reach.{HasBlob, most_levels}
 
 -- What the bytes of files say, and nothing where they can't be read: the root tree that a snapshot names; the blobs
--- that a tree names; the places that an index lists; those that the header of the pack of an id has.
+-- that a tree names; whether an index lists a blob at a spot; whether the header of the spot's pack has it there.
 pub record Says : Type 0 where
   pub root : List ℕ → Option Id
   pub names : List ℕ → List BlobId
-  pub lists : List ℕ → List PackedBlob
-  pub has : Id → List ℕ → List PackedBlob
+  pub lists : List ℕ → BlobId → Spot → Bool
+  pub has : List ℕ → BlobId → Spot → Bool
 
 -- the file is there, with these bytes
 abbrev pub HasFile : Repository → Kind → Id → List ℕ → Type 0
@@ -36,8 +35,8 @@ pub record HasText (says : Says) (r : Repository) (blob : BlobId) (text : List �
   pub pack : List ℕ
   pub has_index : HasFile r Index index listing
   pub has_pack : HasFile r Pack spot.pack pack
-  pub listed : is_among (says.lists listing) (at blob spot) ≡ true
-  pub stored : is_among (says.has spot.pack pack) (at blob spot) ≡ true
+  pub listed : says.lists listing blob spot ≡ true
+  pub stored : says.has pack blob spot ≡ true
   pub free : finite.get r.marks spot.pack ≡ None
   pub stands : slice_of spot.offset spot.length pack ≡ Some text
   pub hashed : sha256 text ≡ blob.id.0
