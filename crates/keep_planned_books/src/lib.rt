@@ -3,4 +3,6 @@
 
 mod laws;
 
-pub use laws::{jobs_are_said_in_texts, planned_histories_lose_nothing};
+pub use laws::{
+    jobs_are_said_in_texts, planned_changes_keep_whole, planned_histories_lose_nothing,
+};
