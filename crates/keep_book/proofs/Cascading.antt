@@ -8,7 +8,7 @@ use Rattle.keep_change.specs.Fold.{fold_of}
 use Rattle.keep_hooks.specs.Guards.{Rule}
 use Rattle.keep_journal.specs.History.{final_number, is_change, is_in_force, length_of}
 use Rattle.keep_journal.specs.Journal.{Journal}
-use Rattle.keep_shelf.specs.Shelved.{Content, Shelved, failed, risen}
+use Rattle.keep_shelf.specs.Shelved.{Content, Shelved, risen}
 use Rattle.keep_moves.specs.Calls.{Call, Make, looks, played}
 use Rattle.keep_moves.specs.Course.{entry_put}
 use Rattle.keep_moves.proofs.Erased.{all_append, all_weaker}
@@ -19,7 +19,7 @@ use Rattle.keep_taken.specs.Undone.{kept_without, undone_in}
 use Rattle.keep_ledger.specs.Ends.{Ends, FaultsAtEntry, FaultsAtMoves, FaultsLast, failures_after, heard}
 use Rattle.keep_ledger.specs.LedgerState.{LedgerState}
 use Rattle.keep_ledger.specs.Made.{event_of, with_event}
-use Rattle.keep_ledger.specs.OnShelf.{OnShelf, entered, looked, looks_for, moved_on, settled}
+use Rattle.keep_ledger.specs.OnShelf.{OnShelf, entered, looks_for, settled}
 use Rattle.keep_ledger.specs.Reply.{RefusesOrTells, Replies, early_refusal, is_full, state_after, told_of}
 use Rattle.keep_ledger.specs.Stops.{EachCallReads, IsBeforeOrAfter, Says}
 use Rattle.keep_ledger.specs.declared.reply.Refusal.{Refusal}

@@ -1,20 +1,19 @@
 -- Undos one after another, of what has to be taken back with a change.
-use Rattle.std.proofs.Common.{◌≡◌, ◌∙◌, ℕ, ◌+◌, ◌<◌, Bool, true, false, List, [], ◌∷◌, ◌++◌, Option, Some, None, Result, Ok, Err, inl, inr, ap, arith, cond, refl, subst, sym}
+use Rattle.std.proofs.Common.{◌≡◌, ◌∙◌, ℕ, Bool, true, false, List, [], ◌∷◌, ◌++◌, Option, Some, None, Ok, inl, inr, ap, arith, cond, refl, subst}
 use Rattle.std.specs.Prelude.{if◌then◌else◌, nat_le, nat_lt}
 use Rattle.std.specs.Cmp.{first_so, second_so}
 use Rattle.std.proofs.lemmas.Bool.Decides.{nat_tests}
 use Rattle.std.specs.Option.{option_or}
-use Rattle.keep_change.specs.Fold.{first_break, first_leaning, fold_of}
+use Rattle.keep_change.specs.Fold.{first_leaning, fold_of}
 use Rattle.keep_change.specs.declared.change.Change.{Change}
-use Rattle.keep_change.specs.declared.outline.Outline.{Outline}
 use Rattle.keep_hooks.specs.Guards.{Rule}
 use Rattle.keep_journal.specs.History.{IsNumbered, change_of, final_number, is_change, is_in_force}
 use Rattle.keep_journal.specs.Journal.{Journal}
-use Rattle.keep_journal.specs.Kept.{is_kept, kept, later, others}
+use Rattle.keep_journal.specs.Kept.{is_kept, kept, later}
 use Rattle.keep_journal.specs.Opening.{IsOpen}
 use Rattle.keep_journal.proofs.Later.{a_kept_change}
 use Rattle.keep_journal.proofs.Numbers.{is_change_found}
-use Rattle.keep_taken.specs.Taken.{AreTaken, IsTaken, itself, leaning}
+use Rattle.keep_taken.specs.Taken.{IsTaken, itself, leaning}
 use Rattle.keep_taken.specs.Undone.{kept_without, undone_in}
 use Rattle.keep_ledger.specs.Dependents.{leaned_on}
 use Rattle.keep_ledger.specs.LedgerState.{LedgerState}
@@ -22,14 +21,14 @@ use Rattle.keep_ledger.specs.Made.{with_event}
 use Rattle.keep_ledger.specs.Reply.{RefusesOrTells, Replies, early_refusal, is_full, told_of, undo_refusal}
 use Rattle.keep_ledger.specs.Request.{CanBeMade}
 use Rattle.keep_ledger.specs.declared.reply.Refusal.{Refusal}
-use Rattle.keep_ledger.specs.declared.reply.Refusal.TheVariants.{Full, Memory}
+use Rattle.keep_ledger.specs.declared.reply.Refusal.TheVariants.{Full}
 use Rattle.keep_ledger.specs.declared.reply.Told.{Told}
 use Rattle.keep_ledger.specs.declared.request.Request.TheVariants.{Undo}
 use Rattle.keep_ledger.proofs.Doing.{made-Undo}
 use Rattle.keep_ledger.proofs.Replying.{undo_answers}
 use Rattle.keep_ledger.proofs.Undoing.{above_final, kept_is_there, same_undo_refusal}
-use Rattle.keep_taken.proofs.Leaning.{next_taken, still_kept, taken_is_kept, unleaned}
-use Rattle.keep_taken.proofs.Undoing.{change_of-undone, final_number-undone, kept-undone}
+use Rattle.keep_taken.proofs.Leaning.{next_taken, still_kept, unleaned}
+use Rattle.keep_taken.proofs.Undoing.{change_of-undone, kept-undone}
 use Rattle.keep_book.specs.Cascade.{AreUndone, NothingLeansOnTheNext, taken_refusal, with_undos}
 
 -- the ledger is open

@@ -1,5 +1,5 @@
 -- What is taken back with a change, and what that leaves.
-use Rattle.std.specs.Prelude.{◌≡◌, ◌≢◌, ℕ, ◌+◌, nat_le, Bool, false, not, if◌then◌else◌, List, [], ◌∷◌, ◌++◌, drop, fold, length, Option, Some, None, Result, Ok, Err, unwrap_or, ◌⊎◌}
+use Rattle.std.specs.Prelude.{◌≡◌, ◌≢◌, ℕ, ◌+◌, nat_le, false, not, if◌then◌else◌, List, [], ◌∷◌, ◌++◌, drop, fold, length, Option, Some, None, Result, Ok, Err, unwrap_or, ◌⊎◌}
 use Rattle.std.specs.List.{AllByRecursion}
 use Rattle.keep_change.specs.Fold.{fold_of}
 use Rattle.keep_journal.specs.History.{final_number, is_change, is_in_force}
@@ -26,7 +26,8 @@ use Rattle.keep_book.specs.declared.taken_back.TakenBack.{TakenBack}
 -- why change n can't be taken back, whatever leans on it
 abbrev pub taken_refusal : Journal → ℕ → Option Refusal
 taken_refusal j n =
-    first_of ((not (is_change j n), Unknown) ∷ (nat_le n (final_number j), Final) ∷ (not (is_in_force j n), NotInForce) ∷ [])
+    first_of ((not (is_change j n), Unknown) ∷ (nat_le n (final_number j), Final)
+    ∷ (not (is_in_force j n), NotInForce) ∷ [])
 
 -- the refusal where there is one; and else what is given, unless memory runs out
 abbrev pub RefusesOrGives : {A : Type 0} → Option Refusal → (A → Type 0) → Result A Refusal → Type 0
@@ -58,7 +59,8 @@ NothingLeansOnTheNext =
 abbrev pub AsksNothing : Journal → ℕ → List ℕ → Option Refusal → Type 0
 AsksNothing j n numbers stopped = (numbers ≡ []) × (stopped ≡ Some (unwrap_or (taken_refusal j n) Memory))
 
--- why these are taken back and no more, where those are left: none is left; or the last of these is unsettled; or the next isn't taken back, since the shelf fails, or there is no room for its event, or no memory
+-- why these are taken back and no more, where those are left: none is left; or the last of these is unsettled; or the
+-- next isn't taken back, since the shelf fails before its event is in, or there is no room for it, or no memory
 abbrev pub StopsBefore : Journal → List ℕ → List ℕ → Option Refusal → Type 0
 StopsBefore j numbers left None = left ≡ []
 StopsBefore j numbers left (Some (Unsettled m)) = (front : List ℕ) × (numbers ≡ front ++ m ∷ [])
@@ -83,11 +85,13 @@ TakesAlong j n numbers stopped = AsksNothing j n numbers stopped ⊎ TakesDown j
 
 -- ---- on the shelf
 
--- each of these changes is taken back to the end, in turn: the moves that were due are made, the undo is entered, and its moves are made
+-- each of these changes is taken back to the end, in turn: the moves that were due are made, the undo is entered, and
+-- its moves are made
 abbrev pub undone_on : OnShelf → List ℕ → OnShelf
 undone_on b numbers = fold (λ before m. settled (entered (Undo m) (settled before))) b numbers
 
--- what is left on the shelf: these are taken back to the end; but for the last, where it is unsettled; and the one that was refused ends as its refusal says
+-- what is left on the shelf: these are taken back to the end, but for a last one that is unsettled; that one, or the
+-- next where it is refused, ends as the ledger's answer says
 abbrev pub EndsBefore : OnShelf → List ℕ → List ℕ → Option Refusal → OnShelf → Type 0
 EndsBefore b numbers left None after = after ≡ undone_on b numbers
 EndsBefore b numbers left (Some (Unsettled m)) after =
@@ -95,6 +99,7 @@ EndsBefore b numbers left (Some (Unsettled m)) after =
 EndsBefore b numbers left (Some refusal) after =
     (next : ℕ) × (more : List ℕ) × (left ≡ next ∷ more) × Ends (undone_on b numbers) (Undo next) (Err refusal) after
 
+-- the answer tells how far it came, and so what is left on the shelf
 pub record EndsDown (b : OnShelf) (n : ℕ) (numbers : List ℕ) (stopped : Option Refusal) (after : OnShelf) : Type 0 where
   pub takes : TakesDown b.state.events n numbers stopped
   pub ends : EndsBefore b numbers takes.left stopped after
@@ -127,7 +132,9 @@ EachCallSays b n after = AllByRecursion (SaysSome b.state n) (drop (length b.she
 
 -- ---- all of it
 
--- change n is taken back with what leans on it, as far as it is told: each undo is one that the book accepts, and adds its event; the changes that are left make the live repository; the answer tells of the calls, each of which left a shelf that says what was so after some of the undos; what is armed stays, and each total is still the sum
+-- change n is taken back with what leans on it, as far as the answer tells: each undo is one that the ledger accepts,
+-- and adds its event; the other changes in force make the live repository; the answer tells of the calls too, each of
+-- which left a shelf that says what is so after some of the undos; what is armed stays, and each total is still the sum
 pub record Cascades {S I F g J E h : _} (before : Book S I F g J E h) (n : ℕ)
     (back : TakenBack) (after : Book S I F g J E h) : Type 0 where
   pub along : TakesAlong (ledger_of before).events n back.numbers.items back.stopped

@@ -11,8 +11,8 @@ impl<S: Shelf> Book<S> {
     ghost use Rattle.keep_book.specs.Armed.{HasSums, ledger_of};
     ghost use Rattle.keep_book.specs.Cascade.{Cascades, RefusesOrGives, taken_refusal};
 
-    /// The numbers of the changes that have to be taken back with change n, so that nothing that is left leans on any of
-    /// them: n itself, and each change in force that leans on one of them. They come from the greatest down.
+    /// The numbers of the changes that have to be taken back with change n, so that nothing that is left leans on any
+    /// of them: n itself, and each change in force that leans on one of them. They come from the greatest down.
     ///
     /// `Unknown`, `Final`, `NotInForce`, as an undo of n is refused, or `Memory`. No call of the shelf is made, whether
     /// moves are due or not.

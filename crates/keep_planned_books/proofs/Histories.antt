@@ -1,7 +1,8 @@
 -- Planned histories lose nothing.
 use Rattle.std.proofs.Common.{◌≡◌, ◌≢◌, ℕ, List, [], ◌∷◌, Result, Ok, Err, sym, subst}
 use Rattle.keep_repo.specs.Repository.{Repository}
-use Rattle.keep_reach.specs.Sound.{IsSound}
+use Rattle.keep_sound.specs.Met.{HasOneText}
+use Rattle.keep_sound.specs.Selection.{IsSoundState}
 use Rattle.keep_told.specs.Laws.{ToldIsOpen}
 use Rattle.keep_reading.specs.Reads.{OneReading}
 use Rattle.keep_ledger.specs.Ends.{heard}
@@ -15,16 +16,16 @@ use Rattle.keep_ledger.specs.declared.request.Request.TheVariants.{Undo}
 use Rattle.keep_book.specs.Cascade.{AreUndone, with_undos}
 use Rattle.keep_read.specs.Losses.{SoundLosesNoBlob}
 use Rattle.keep_sound_books.specs.SoundBooks.{SelectionsOfBooksAreSound}
-use Rattle.keep_planned_books.specs.History.{BeginsSound, IsPlannedHistory, accepted, begun, opened, read_again}
+use Rattle.keep_planned_books.specs.History.{BeginsWhole, IsPlannedHistory, accepted, begun, opened, read_again}
 use Rattle.keep_planned_books.specs.Losing.{AnswersLoseNothing, BooksLoseNothing, CascadesLoseNothing, LosesNothing, OpeningsLoseNothing, SelectionsLoseNothing}
 use Rattle.keep_planned_books.proofs.Keeping.{Keep, Laws, keep_first, keep_next}
 use Rattle.keep_planned_books.proofs.Opening.{opened_is, read_sound}
 
 module _ (laws : Laws) (audits : SoundLosesNoBlob) (stays : ToldIsOpen) where
-  loses_nothing : (r : Repository) → IsSound r → LosesNothing r
-  loses_nothing r sound = record { sound = sound; audit = audits r sound }
+  loses_nothing : (r all : Repository) → HasOneText all → IsSoundState all r → LosesNothing r
+  loses_nothing r all one is = record { whole = (laws.whole r all is.part one).0 is.sound; audit = audits r is.sound }
 
-  keeps : (all opening : Repository) → BeginsSound all opening → (books : List LedgerState) → IsPlannedHistory all opening books → Keep all books
+  keeps : (all opening : Repository) → BeginsWhole all opening → (books : List LedgerState) → IsPlannedHistory all opening books → Keep all books
   keeps all opening begins _ begun = keep_first laws all opening begins
   keeps all opening begins _ (accepted book earlier vetoes request told history planned replies) =
       keep_next laws all opening begins book earlier (keeps all opening begins (book ∷ earlier) history) vetoes request told planned replies
@@ -32,11 +33,11 @@ module _ (laws : Laws) (audits : SoundLosesNoBlob) (stays : ToldIsOpen) where
 
   pub selections_lose_nothing : SelectionsOfBooksAreSound → SelectionsLoseNothing
   selections_lose_nothing selections all opening book earlier chosen begins history selected unbroken =
-      loses_nothing _ (selections all book chosen (keeps all opening begins (book ∷ earlier) history).0 selected unbroken).sound
+      loses_nothing _ all begins.met.one_text (selections all book chosen (keeps all opening begins (book ∷ earlier) history).0 selected unbroken)
 
   pub books_lose_nothing : BooksLoseNothing
   books_lose_nothing all opening book earlier begins history =
-      loses_nothing book.live (laws.sound all book (keeps all opening begins (book ∷ earlier) history).0).sound
+      loses_nothing book.live all begins.met.one_text (laws.sound all book (keeps all opening begins (book ∷ earlier) history).0)
 
   pub openings_lose_nothing : OneReading → OpeningsLoseNothing
   openings_lose_nothing one all opening book earlier shelf read begins history says is =

@@ -1,5 +1,5 @@
 -- The change of a job is safe: whatever snapshots are known, or, if it is strict, where those are known that were shown.
-use Rattle.std.proofs.Common.{◌≡◌, ◌⊎◌, inl, inr, ℕ, Bool, true, false, cond, List, [], ◌∷◌, Option, None, Some, option_map, unwrap_or, Result, Ok, Err, refl, sym, ap, subst, ◌∙◌}
+use Rattle.std.proofs.Common.{◌≡◌, inl, inr, ℕ, Bool, true, false, cond, List, [], ◌∷◌, Option, None, Some, option_map, unwrap_or, Result, Ok, Err, refl, sym, ap, subst, ◌∙◌}
 use Rattle.std.proofs.lemmas.List.Elements.{recursion_from_All}
 use Rattle.std.specs.FinSet as set
 use Rattle.std.specs.List.{AllByRecursion, find}
@@ -16,6 +16,7 @@ use Rattle.keep_catalog.specs.Orders.{blob_eq}
 use Rattle.keep_catalog.specs.Places.{bytes_at, is_honest}
 use Rattle.keep_catalog.specs.declared.spot.Spot.{Spot}
 use Rattle.keep_plan.specs.declared.plan_error.PlanError.{PlanError}
+use Rattle.keep_reach.specs.Sound.{IsSound}
 use Rattle.keep_sound.specs.Careful.{IsSafe}
 use Rattle.keep_sound.specs.Met.{AddsPart, IsIn}
 use Rattle.keep_sound.specs.Plans.{AreMet}
@@ -33,7 +34,9 @@ use Rattle.keep_safety.specs.SafeLabels.{ForgetIsSafe, TaggingIsSafe}
 use Rattle.keep_safety.specs.SafeMark.{MarkIsSafe, MarkIsStrict}
 use Rattle.keep_safety.specs.SafeReindexing.{RepairIsSafe, SweepIsSafe}
 use Rattle.keep_safety.specs.SafeRewrite.{IsOneText, MeetsRewrite, RewriteIsSafe}
-use Rattle.keep_planned_books.specs.Jobs.{IsText, Meets, TaskIsText, blobs_built, others_built}
+use Rattle.keep_whole.specs.Restic.{SafeKeepsWhole, restic}
+use Rattle.keep_whole.specs.Whole.{IsWhole}
+use Rattle.keep_planned_books.specs.Jobs.{KeepsFor, PlannedChangesKeep, IsText, Meets, TaskIsText, blobs_built, others_built}
 
 -- the laws on which that rests
 pub record PlansAreSafe : Type 0 where
@@ -52,10 +55,6 @@ by_patterns : (P : Type 0) (r : Repository) (rule : Pick) (forget : Bool) (found
     → ((patterns : List PatternData) → found ≡ Some patterns → rewrite_change r rule patterns forget ≡ Ok c → P) → rewriting r rule forget found ≡ Ok c → P
 by_patterns P r rule forget None c so is = cc is
 by_patterns P r rule forget (Some patterns) c so is = so patterns refl is
-
--- whatever snapshots are known, or where those are that were shown
-abbrev pub IsSafeFor : Repository → Shown → Change → Type 0
-IsSafeFor all shown c = ((known : Id → Bool) → IsSafe all known c) ⊎ ((c.strict ≡ true) × IsSafe all (set.contains shown.known) c)
 
 -- blobs that stand for one text each are met by their names
 met_texts : TellsApart blob_cmp → (all : Repository) (blobs : List BlobData) → AllByRecursion (IsOneText all) blobs → AreMet all (texts_of blobs)
@@ -105,7 +104,7 @@ module _ (laws : PlansAreSafe) (all : Repository) (shown : Shown) (met : IsMet a
       (λ patterns same made. laws.rewrite shown.repo all known rule patterns forget c made met files adds (subst (RewriteBuilt rule) same here)) is
 
 pub job_safe : (laws : PlansAreSafe) (all : Repository) (shown : Shown) → IsMet all shown.repo → AreFiles shown.repo → (settings : SettingsData) (job : JobData) (c : Change)
-    → IsText job → Meets all shown settings job → AddsPart all c → job_change shown settings job ≡ Ok c → IsSafeFor all shown c
+    → IsText job → Meets all shown settings job → AddsPart all c → job_change shown settings job ≡ Ok c → KeepsFor IsSound all shown c
 job_safe laws all shown met files settings (Backup facts given) c text meets adds is =
     inl (λ known. backup_safe laws all shown met files settings c adds known facts given text meets is)
 job_safe laws all shown met files settings (Filtered rule task) c text meets adds is =
@@ -115,3 +114,14 @@ job_safe laws all shown met files settings Mark c text meets adds is =
     inr (laws.strict shown.repo shown.known settings.now c is, laws.mark shown.repo all shown.known settings.now c is met)
 job_safe laws all shown met files settings (Sweep wait) c text meets adds is =
     inl (λ known. laws.sweep shown.repo all known settings.now wait c is met meets.others)
+
+pub planned_safe : PlansAreSafe → PlannedChangesKeep IsSound
+planned_safe laws all shown p files met of =
+    job_safe laws all shown met (λ name text is. files name text (met.part name text is)) of.settings of.job p.change of.text of.meets of.adds of.change
+
+-- and a whole repository whole
+pub planned_whole : SafeKeepsWhole → PlannedChangesKeep IsSound → PlannedChangesKeep (IsWhole restic)
+planned_whole keeps plans all shown p files met of = cases (plans all shown p files met of) where
+  cases : KeepsFor IsSound all shown p.change → KeepsFor (IsWhole restic) all shown p.change
+  cases (inl any) = inl (λ known. keeps all known p.change met.one_text of.adds (any known))
+  cases (inr (strict, safe)) = inr (strict, keeps all (set.contains shown.known) p.change met.one_text of.adds safe)

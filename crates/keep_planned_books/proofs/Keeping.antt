@@ -13,6 +13,7 @@ use Rattle.keep_hooks.specs.Guards.{Rule}
 use Rattle.keep_journal.proofs.Commits.{length_of-push}
 use Rattle.keep_journal.specs.History.{length_of}
 use Rattle.keep_journal.specs.Kept.{unfinal}
+use Rattle.keep_reach.specs.Sound.{IsSound}
 use Rattle.keep_sound.specs.Careful.{IsSafe}
 use Rattle.keep_sound.specs.Met.{IsPartOf}
 use Rattle.keep_view.specs.Shown.{Shown, known_of, shown_of}
@@ -25,11 +26,10 @@ use Rattle.keep_ledger.specs.declared.reply.Refusal.TheVariants.{Full, Malformed
 use Rattle.keep_ledger.specs.declared.reply.Told.{Told}
 use Rattle.keep_ledger.specs.declared.request.Request.{Request}
 use Rattle.keep_ledger.specs.declared.request.Request.TheVariants.{Commit, Undo, Redo, Empty}
-use Rattle.keep_safety.specs.Met.{AreFiles}
 use Rattle.keep_sound_books.specs.SoundBooks.{BooksAreSound, BooksBeginSound, BooksStaySound, IsSoundBook, KeepsSound, ViewsKnow, known_to}
-use Rattle.keep_planned_books.specs.History.{BeginsSound, IsOneOf, IsPlanned}
-use Rattle.keep_planned_books.specs.Jobs.{IsOfJob}
-use Rattle.keep_planned_books.proofs.JobSafe.{IsSafeFor, PlansAreSafe, job_safe}
+use Rattle.keep_whole.specs.Restic.{SoundIsWhole}
+use Rattle.keep_planned_books.specs.History.{BeginsWhole, IsOneOf, IsPlanned}
+use Rattle.keep_planned_books.specs.Jobs.{IsOfJob, KeepsFor, PlannedChangesKeep}
 
 -- ---- a strict commit that is accepted
 
@@ -85,13 +85,14 @@ all_longer all count more lt (book ∷ books) h =
 
 -- the laws on which it rests
 pub record Laws : Type 0 where
-  pub plans : PlansAreSafe
+  pub plans : PlannedChangesKeep IsSound
   pub know : ViewsKnow
   pub begin : BooksBeginSound
   pub stay : BooksStaySound
   pub sound : BooksAreSound
+  pub whole : SoundIsWhole
 
-module _ (laws : Laws) (all opening : Repository) (begins : BeginsSound all opening) where
+module _ (laws : Laws) (all opening : Repository) (begins : BeginsWhole all opening) where
   abbrev shown_by : LedgerState → Shown
   shown_by on = shown_of on.opening on.events on.live
 
@@ -115,15 +116,10 @@ module _ (laws : Laws) (all opening : Repository) (begins : BeginsSound all open
 
     module _ (vetoes : List Rule) (p : Planned) (told : Told) (replies : Replies book vetoes (Commit p) (Ok told))
         (on : LedgerState) (one : IsOneOf (book ∷ earlier) on) (of : IsOfJob all (shown_by on) p) where
-      its_files : AreFiles on.live
-      its_files name text is = begins.files name text (its_part on one name text is)
+      safe_for : KeepsFor IsSound all (shown_by on) p.change
+      safe_for = laws.plans all (shown_by on) p begins.files (record { one_text = begins.met.one_text; part = its_part on one }) of
 
-      safe_for : IsSafeFor all (shown_by on) p.change
-      safe_for =
-          job_safe laws.plans all (shown_by on) (record { one_text = begins.met.one_text; part = its_part on one }) its_files
-          of.settings of.job p.change of.text of.meets of.adds of.change
-
-      safe_here : IsSafeFor all (shown_by on) p.change → IsSafe all (known_to book) p.change
+      safe_here : KeepsFor IsSound all (shown_by on) p.change → IsSafe all (known_to book) p.change
       safe_here (inl any) = any (known_to book)
       safe_here (inr (strict, safe)) =
           let same : on ≡ book = is_this on one (sym of.seen ∙ seen_now book vetoes p told replies strict) in
@@ -149,4 +145,4 @@ module _ (laws : Laws) (all opening : Repository) (begins : BeginsSound all open
         )
 
   pub keep_first : Keep all (new_ledger opening ∷ [])
-  keep_first = (laws.begin all opening begins.met.part begins.sound, tt)
+  keep_first = (laws.begin all opening begins.met.part ((laws.whole opening all begins.met.part begins.met.one_text).1 begins.whole), tt)

@@ -1,7 +1,6 @@
 -- Histories whose changes are all planned as jobs.
 use Rattle.std.specs.Prelude.{◌≡◌, ◌⊎◌, List, [], ◌∷◌, Ok}
 use Rattle.keep_repo.specs.Repository.{Repository}
-use Rattle.keep_reach.specs.Sound.{IsSound}
 use Rattle.keep_hooks.specs.Guards.{Rule}
 use Rattle.keep_told.specs.Told.{told_of}
 use Rattle.keep_view.specs.Shown.{shown_of}
@@ -11,15 +10,17 @@ use Rattle.keep_ledger.specs.Reply.{Replies}
 use Rattle.keep_ledger.specs.declared.reply.Told.{Told}
 use Rattle.keep_ledger.specs.declared.request.Request.{Request}
 use Rattle.keep_ledger.specs.declared.request.Request.TheVariants.{Commit, Undo, Redo, Empty}
+use Rattle.keep_whole.specs.Restic.{restic}
+use Rattle.keep_whole.specs.Whole.{IsWhole}
 use Rattle.keep_safety.specs.Met.{AreFiles, IsMet}
 use Rattle.keep_planned_books.specs.Jobs.{IsOfJob}
 
 -- What a history begins with: all that is ever met are files, no blob has two texts among them, and they have the
--- opening, which is sound.
-pub record BeginsSound (all opening : Repository) : Type 0 where
+-- opening, which is whole.
+pub record BeginsWhole (all opening : Repository) : Type 0 where
   pub files : AreFiles all
   pub met : IsMet all opening
-  pub sound : IsSound opening
+  pub whole : IsWhole restic opening
 
 -- it is one of these books
 abbrev pub IsOneOf : List LedgerState → LedgerState → Type 0

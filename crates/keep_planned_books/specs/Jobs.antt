@@ -1,12 +1,16 @@
 -- What a job says and builds, and the changes that are planned as jobs.
-use Rattle.std.specs.Prelude.{◌≡◌, ℕ, List, [], ◌∷◌, All, Ok, unwrap_or}
+use Rattle.std.specs.Prelude.{◌≡◌, ◌⊎◌, ℕ, Bool, true, List, [], ◌∷◌, All, Ok, unwrap_or}
+use Rattle.std.specs.FinSet as set
 use Rattle.std.specs.Result.{result_unwrap_or}
+use Rattle.keep_names.specs.declared.id.Id.{Id}
 use Rattle.keep_repo.specs.Repository.{Repository}
 use Rattle.keep_change.specs.Lists.{marked_packs}
 use Rattle.keep_change.specs.NamedBytes.{NamedBytes}
+use Rattle.keep_change.specs.declared.change.Change.{Change}
 use Rattle.keep_change.specs.declared.change.Planned.{Planned}
 use Rattle.keep_filters.specs.Taking.{taken_in}
 use Rattle.keep_filters.specs.declared.pick.Pick.{Pick}
+use Rattle.keep_sound.specs.Careful.{Keeps}
 use Rattle.keep_sound.specs.Met.{AddsPart, IsIn}
 use Rattle.keep_view.specs.Shown.{Shown}
 use Rattle.keep_backup.specs.Backup.{snapshot_file}
@@ -20,6 +24,7 @@ use Rattle.keep_upkeep.specs.Repair.{whole_files}
 use Rattle.keep_upkeep.specs.Sweep.{left_files, waited_marks}
 use Rattle.keep_jobs.specs.Job.{Backup, Filtered, Forget, JobData, Mark, Repair, Rewrite, SettingsData, Sweep, Tag, TaskData, job_change}
 use Rattle.keep_jobs.specs.Patterns.{patterns_in}
+use Rattle.keep_safety.specs.Met.{AreFiles, IsMet}
 use Rattle.keep_safety.specs.SafeBackup.{AreTexts, HaveTextPaths}
 use Rattle.keep_safety.specs.SafeLabels.{HasTexts}
 use Rattle.keep_safety.specs.SafeRewrite.{IsOneText}
@@ -62,11 +67,13 @@ blobs_built shown settings (Sweep wait) = []
 
 -- the other files that it builds beside the packs of these blobs and their index: a snapshot, or an index
 abbrev pub others_built : Shown → SettingsData → JobData → List NamedBytes
-others_built shown settings (Backup facts files) = snapshot_file facts (id_of (root_tree settings.cut (folder_of files))) ∷ []
+others_built shown settings (Backup facts files) =
+    snapshot_file facts (id_of (root_tree settings.cut (folder_of files))) ∷ []
 others_built shown settings (Filtered rule task) = []
 others_built shown settings Repair = whole_files shown.repo
 others_built shown settings Mark = []
-others_built shown settings (Sweep wait) = left_files shown.repo (marked_packs (waited_marks shown.repo settings.now wait))
+others_built shown settings (Sweep wait) =
+    left_files shown.repo (marked_packs (waited_marks shown.repo settings.now wait))
 
 -- what a job builds is among all that is met, be it there already or not: no name of a file, and no id of a blob,
 -- stands for two texts
@@ -86,3 +93,18 @@ pub record IsOfJob (all : Repository) (shown : Shown) (p : Planned) : Type 0 whe
   pub seen : p.seen ≡ shown.length
   pub meets : Meets all shown settings job
   pub adds : AddsPart all p.change
+
+-- ---- what they keep
+
+-- the change keeps what holds of a repository: whatever snapshots are known; or it may be committed only at the length
+-- that was shown, and keeps it where those are known that were shown
+abbrev pub KeepsFor : (Repository → Type 0) → Repository → Shown → Change → Type 0
+KeepsFor IsSo all shown c =
+    ((known : Id → Bool) → Keeps IsSo all known c)
+    ⊎ ((c.strict ≡ true) × Keeps IsSo all (set.contains shown.known) c)
+
+-- so does the change of each job, where all that is ever met are files, among which no blob has two texts
+abbrev pub PlannedChangesKeep : (Repository → Type 0) → Type 0
+PlannedChangesKeep IsSo =
+    (all : Repository) (shown : Shown) (p : Planned) → AreFiles all → IsMet all shown.repo → IsOfJob all shown p
+    → KeepsFor IsSo all shown p.change

@@ -9,9 +9,9 @@ use Rattle.keep_change.specs.declared.change.Change.{Change}
 use Rattle.keep_sound.specs.Met.{IsPartOf}
 use Rattle.keep_sound.specs.Selection.{IsSelection}
 use Rattle.keep_view.specs.Shown.{Shown, known_of}
-use Rattle.keep_safety.specs.Met.{AreFiles, IsMet}
 use Rattle.keep_whole.specs.Restic.{restic}
 use Rattle.keep_whole.specs.Whole.{IsWhole}
+use Rattle.keep_planned_books.specs.History.{BeginsWhole}
 use Rattle.keep_planned_books.specs.Jobs.{IsOfJob}
 
 -- The change was planned as a job on what was shown of some repository, whichever it was, whose files are all met. A
@@ -34,5 +34,5 @@ ArePlanned all opening before (n ∷ ns) =
 abbrev pub PlannedSelectionsAreWhole : Type 0
 PlannedSelectionsAreWhole =
     (all opening : Repository) (changes chosen : List Numbered)
-    → AreFiles all → IsMet all opening → IsWhole restic opening → ArePlanned all opening [] changes
-    → IsSelection chosen changes → first_break chosen opening ≡ None → IsWhole restic (fold_of chosen opening)
+    → BeginsWhole all opening → ArePlanned all opening [] changes → IsSelection chosen changes
+    → first_break chosen opening ≡ None → IsWhole restic (fold_of chosen opening)

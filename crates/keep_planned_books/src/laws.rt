@@ -1,5 +1,8 @@
 ghost use Rattle.keep_jobs.specs.Job.{job_view};
-ghost use Rattle.keep_planned_books.specs.Jobs.{IsText};
+ghost use Rattle.keep_reach.specs.Sound.{IsSound};
+ghost use Rattle.keep_whole.specs.Restic.{restic};
+ghost use Rattle.keep_whole.specs.Whole.{IsWhole};
+ghost use Rattle.keep_planned_books.specs.Jobs.{IsText, PlannedChangesKeep};
 ghost use Rattle.keep_planned_books.specs.Losing.{AnswersLoseNothing, BooksLoseNothing, CascadesLoseNothing, OpeningsLoseNothing, SelectionsLoseNothing};
 
 use keep_jobs::{HoldsFilter, Job};
@@ -16,6 +19,7 @@ use keep_sound_books::{
     views_know_what_books_know,
 };
 use keep_told::what_is_told_is_kept;
+use keep_whole::{safe_changes_keep_whole, sound_repositories_are_whole};
 
 /// What a job is asked for in texts is such.
 pub fn jobs_are_said_in_texts<F: HoldsFilter>(job: &Job<F>)
@@ -23,6 +27,24 @@ pub fn jobs_are_said_in_texts<F: HoldsFilter>(job: &Job<F>)
 {
     a_planned_backup_is_safe();
     a_planned_tagging_is_safe();
+}
+
+/// The change of a job keeps every sound repository sound that meets it, and so every whole one whole: whatever
+/// snapshots are known. A mark's may be committed only where nothing happened since it was planned, and does so where
+/// those are known that were shown then.
+pub fn planned_changes_keep_whole()
+    ensures sound { PlannedChangesKeep IsSound }
+    ensures whole { PlannedChangesKeep (IsWhole restic) }
+{
+    orders_tell_apart();
+    a_planned_backup_is_safe();
+    a_planned_tagging_is_safe();
+    a_planned_forget_is_safe();
+    plan_rewrite_is_safe();
+    a_planned_repair_is_safe();
+    a_planned_mark_is_safe();
+    a_planned_sweep_is_safe();
+    safe_changes_keep_whole();
 }
 
 /// In a history whose changes are all planned as jobs, be it on the book as it is or on an earlier one, no snapshot
@@ -36,14 +58,8 @@ pub fn planned_histories_lose_nothing()
     ensures cascades { CascadesLoseNothing }
     ensures openings { OpeningsLoseNothing }
 {
-    orders_tell_apart();
-    a_planned_backup_is_safe();
-    a_planned_tagging_is_safe();
-    a_planned_forget_is_safe();
-    plan_rewrite_is_safe();
-    a_planned_repair_is_safe();
-    a_planned_mark_is_safe();
-    a_planned_sweep_is_safe();
+    planned_changes_keep_whole();
+    sound_repositories_are_whole();
     what_is_told_is_kept();
     one_reading();
     views_know_what_books_know();

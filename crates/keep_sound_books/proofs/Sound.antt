@@ -17,9 +17,10 @@ use Rattle.keep_ledger.specs.declared.request.Request.{Request}
 use Rattle.keep_ledger.specs.declared.request.Request.TheVariants.{Commit, Undo, Redo, Empty}
 use Rattle.keep_ledger.proofs.Replying.{can_empty}
 use Rattle.keep_sound.specs.Selection.{CommitsStaySound, EmptyingsStaySound, FiltersAreSelections, IsSelection, IsSoundHistory, IsSoundState, SelectionsAreSound}
-use Rattle.keep_sound_books.specs.Accepted.{AcceptedStayOpen, IsOpenLedger}
+use Rattle.keep_pages.specs.Histories.{IsOpenLedger}
+use Rattle.keep_pages.specs.Laws.{AcceptedStayOpen}
+use Rattle.keep_pages.proofs.Accepting.{accepts}
 use Rattle.keep_sound_books.specs.SoundBooks.{BooksAreSound, BooksBeginSound, BooksStaySound, IsSoundBook, KeepsSound, SelectionsOfBooksAreSound}
-use Rattle.keep_sound_books.proofs.Accepted.{can_be_made}
 use Rattle.keep_sound_books.proofs.Growing.{becoming_final, break_front, kept_selected, unfinal-Commit, unfinal-Empty, unfinal-Redo, unfinal-Undo, unfinal_split, up_to_selected}
 
 -- ---- how a book begins
@@ -68,7 +69,7 @@ module _ (commits : CommitsStaySound) (empties : EmptyingsStaySound) (filters : 
 pub books_stay_sound : AcceptedStayOpen → CommitsStaySound → EmptyingsStaySound → FiltersAreSelections → BooksStaySound
 books_stay_sound opens commits empties filters all b rules request (Ok told) is keeps replies = record {
   is_open = opens b rules request told is.is_open replies;
-  history = history_after commits empties filters all b is request keeps (can_be_made b rules request told replies);
+  history = history_after commits empties filters all b is request keeps (accepts rules b request told replies);
 }
 books_stay_sound opens commits empties filters all b rules request (Err refusal) is keeps replies = is
 

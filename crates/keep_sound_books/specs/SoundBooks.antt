@@ -18,7 +18,7 @@ use Rattle.keep_reach.specs.Sound.{IsSound}
 use Rattle.keep_sound.specs.Careful.{IsSafe}
 use Rattle.keep_sound.specs.Met.{AddsPart, IsPartOf}
 use Rattle.keep_sound.specs.Selection.{IsSelection, IsSoundHistory, IsSoundState, known_in}
-use Rattle.keep_sound_books.specs.Accepted.{IsOpenLedger}
+use Rattle.keep_pages.specs.Histories.{IsOpenLedger}
 
 -- the opening is sound, and each change that isn't final is safe, undone ones too
 pub record IsSoundBook (all : Repository) (b : LedgerState) : Type 0 where

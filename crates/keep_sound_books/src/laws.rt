@@ -1,15 +1,10 @@
-ghost use Rattle.keep_sound_books.specs.Accepted.{AcceptedStayOpen};
 ghost use Rattle.keep_sound_books.specs.SoundBooks.{BooksAreSound, BooksBeginSound, BooksStaySound, SelectionsOfBooksAreSound, ViewsKnow};
 
+use keep_pages::accepted_requests_leave_open_ledgers;
 use keep_sound::{
     commits_stay_sound, emptyings_stay_sound, filters_are_selections, selections_are_sound,
 };
 use keep_view::the_known_are_there_or_added;
-
-/// An accepted request leaves a ledger whose events make its live repository of its opening.
-pub fn accepted_requests_leave_open_ledgers()
-    ensures { AcceptedStayOpen }
-{}
 
 /// A book without events is sound over a sound opening.
 pub fn books_begin_sound()

@@ -1,13 +1,12 @@
 -- How the facets that a change writes are walked, one after another.
 use Rattle.std.proofs.Common.{◌≡◌, ℕ, ◌+◌, ◌<◌, ◌≤◌, ◌==◌, nat_lt, Bool, true, false, ◌&&◌, ◌||◌, cond, List, [], ◌∷◌, ◌++◌, length, get_or, map, take, Option, Some, None, ◌⊎◌, inl, inr, refl, sym, ap, subst, ◌∙◌, arith}
-use Rattle.std.specs.BTreeMap.{is_at}
 use Rattle.std.specs.List.{filter, list_any, AllByRecursion}
 use Rattle.std.specs.Option.{is_some, option_map_or}
 use Rattle.std.proofs.lemmas.Bool.{and_from, cases_Bool, cond-false, cond-true, false≢true, lt-ltb, ltb-true, or_cases, or_left, or_right}
 use Rattle.std.proofs.lemmas.List.{map_more}
 use Rattle.std.proofs.lemmas.List.Folds.{list_any-append}
 use Rattle.std.proofs.lemmas.Option.{same_Some}
-use Rattle.keep_repo.specs.Facet.{facet_cmp, facet_eq}
+use Rattle.keep_repo.specs.contracts.facet.FacetOrd.TheImpl.Laws as the_facet_laws
 use Rattle.keep_repo.specs.declared.facet.Facet.{Facet}
 use Rattle.keep_repo.specs.declared.facet.Facet.TheVariants.{File, Mark}
 use Rattle.keep_repo.proofs.Orders.{facet_eq_refl, facet_eq_same}
@@ -23,6 +22,7 @@ use Rattle.keep_touch.specs.declared.mention.Mention.{Mention}
 use Rattle.keep_touch.specs.declared.touch.Touch.{Touch}
 use Rattle.keep_touch.proofs.Listing.{written_listed}
 use Rattle.keep_touch.proofs.Picking.{all_weaker}
+use Rattle.keep_touch.proofs.Putting.{same_key}
 use Rattle.keep_taken.specs.Gathering.{is_pending, is_walked, touches_after, touches_kept, Finds, Walks}
 use Rattle.keep_taken.specs.declared.found.Found.{Found}
 use Rattle.keep_taken.proofs.Members.{kept_within}
@@ -73,17 +73,17 @@ always : (b : Bool) → cond b true true ≡ true
 always true = refl
 always false = refl
 
-module _ (old new : Found) (q : Facet) (put : (f : Facet) → is_walked new f ≡ cond (is_at (facet_cmp q) f) true (is_walked old f)) where
+module _ (old new : Found) (q : Facet) (put : (f : Facet) → is_walked new f ≡ cond (same_key q f) true (is_walked old f)) where
   walked_still : (f : Facet) → is_walked old f ≡ true → is_walked new f ≡ true
-  walked_still f h = put f ∙ ap (cond (is_at (facet_cmp q) f) true) h ∙ always (is_at (facet_cmp q) f)
+  walked_still f h = put f ∙ ap (cond (same_key q f) true) h ∙ always (same_key q f)
 
   walked_now : is_walked new q ≡ true
-  walked_now = put q ∙ cond-true (facet_eq q q) true (is_walked old q) (facet_eq_refl q)
+  walked_now = put q ∙ cond-true (same_key q q) true (is_walked old q) (the_facet_laws.matches_eq-law q q ∙ facet_eq_refl q)
 
   walked_before : (f : Facet) → is_walked new f ≡ true → (q ≡ f) ⊎ (is_walked old f ≡ true)
-  walked_before f h = elim (cases_Bool (facet_eq q f)) [
-    | inl same ↦ inl (facet_eq_same q f same)
-    | inr other ↦ inr (sym (put f ∙ cond-false (facet_eq q f) true (is_walked old f) other) ∙ h)
+  walked_before f h = elim (cases_Bool (same_key q f)) [
+    | inl same ↦ inl (facet_eq_same q f (sym (the_facet_laws.matches_eq-law q f) ∙ same))
+    | inr other ↦ inr (sym (put f ∙ cond-false (same_key q f) true (is_walked old f) other) ∙ h)
   ]
 
   -- it was walked before, and nothing is done

@@ -1,10 +1,11 @@
 -- What is found of the changes that have to be taken back, while they are looked for.
 use Rattle.std.specs.Prelude.{◌≡◌, ℕ, ◌≤◌, ◌==◌, nat_lt, Bool, true, false, ◌&&◌, not, List, ◌⊎◌}
-use Rattle.std.specs.BTreeSet.{contains}
+use Rattle.std.specs.BTreeSet as tree
+use Rattle.std.specs.HashSet as bag
 use Rattle.std.specs.List.{AllByRecursion, list_any}
 use Rattle.std.specs.Option.{option_map_or}
 use Rattle.std.specs.Ordering.{nat_cmp}
-use Rattle.keep_repo.specs.Facet.{facet_cmp}
+use Rattle.keep_repo.specs.contracts.facet.FacetPartialEq.TheImpl as the_facet_eq
 use Rattle.keep_repo.specs.declared.facet.Facet.{Facet}
 use Rattle.keep_change.specs.Touch.{touches}
 use Rattle.keep_journal.specs.Journal.{Journal}
@@ -14,11 +15,11 @@ use Rattle.keep_taken.specs.declared.found.Found.{Found}
 
 -- whether change m was found, and is still to be looked at
 abbrev pub is_pending : Found → ℕ → Bool
-is_pending found m = contains nat_cmp found.pending m
+is_pending found m = tree.contains nat_cmp found.pending m
 
 -- whether the facet's mentions were gone through
 abbrev pub is_walked : Found → Facet → Bool
-is_walked found facet = contains facet_cmp found.walked facet
+is_walked found facet = bag.contains (the_facet_eq.ghosts).eq found.walked facet
 
 -- whether change m is in force and not final, and touches the facet
 abbrev pub touches_kept : Journal → Facet → ℕ → Bool

@@ -13,7 +13,7 @@ use keep_journal::History;
 use keep_repo::Facet;
 use keep_touch::{Mention, Touch};
 use std::alloc::{AllocError, Global};
-use std::collections::BTreeSet;
+use std::collections::{BTreeSet, HashSet};
 
 /// What is found of the changes that have to be taken back, while they are looked for.
 ///
@@ -24,7 +24,7 @@ pub(crate) struct Found {
     /// Those that are still to be looked at.
     pub(crate) pending: BTreeSet<u64>,
     /// The facets whose mentions were gone through.
-    pub(crate) walked: BTreeSet<Facet>,
+    pub(crate) walked: HashSet<Facet>,
 }
 
 impl Found {
@@ -34,7 +34,7 @@ impl Found {
     {
         let mut pending = BTreeSet::new(alloc);
         pending.insert(n)?;
-        let walked = BTreeSet::new(alloc);
+        let walked = HashSet::new(alloc);
         Ok(Found { pending, walked })
     }
 

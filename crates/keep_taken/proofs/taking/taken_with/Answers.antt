@@ -28,3 +28,9 @@ loop-number-smaller c =
     comes_nearer c.args.history.now.journal c.args.n c.loop-number.numbers.items c.in-Some.number c.loop-number.found c.take_first.new.self
     c.push.new.self.items c.in_ok-push.ensures.items
     c.last_change-last.ensures.numbered c.requires.change c.requires.kept c.loop-number.invariant c.in-Some.ensures.first
+
+pub loop-number-smaller-in-Continue-branch-3 : goal.loop-number-smaller-in-Continue-branch-3
+loop-number-smaller-in-Continue-branch-3 c =
+    comes_nearer c.args.history.now.journal c.args.n c.loop-number.numbers.items c.in-Some.number c.loop-number.found c.take_first.new.self
+    c.push.new.self.items c.in_ok-push.ensures.items
+    c.last_change-last.ensures.numbered c.requires.change c.requires.kept c.loop-number.invariant c.in-Some.ensures.first
