@@ -10,11 +10,7 @@ use std::alloc::AllocError;
 
 /// The marks of the repository that the changes in force after n are made of: the live ones, with what those
 /// changes made of marks taken back, the last first.
-pub fn marks_under(
-    live: &Repo,
-    history: &History,
-    n: u64,
-) -> Result<Listed<PackMark>, AllocError>
+pub fn marks_under(live: &Repo, history: &History, n: u64) -> Result<Listed<PackMark>, AllocError>
     ensures { let under = unfold_of (later history.now.journal n) live.now in
         IfOk result (λ marks. marks ≡ marks_of under) }
 {
