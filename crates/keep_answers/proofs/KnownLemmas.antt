@@ -53,6 +53,10 @@ pub Puts-last : (a b c : Option (List ℕ)) (all done next : List ℕ) (r : Resu
 Puts-last a b c all done next (Ok u) e h k = subst (Appends a c) (sym e) (Appends-trans a b c done next h k)
 Puts-last a b c all done next (Err stop) e h k = Puts-failed a b c all done next [] stop (Err stop) (e ∙ ap (λ l. done ++ l) (sym (append-nil next))) h k refl
 
+-- it put two texts, one behind the other
+pub puts_both : (a b c : Option (List ℕ)) (first last : List ℕ) (r : Result (Unit {0}) Halt) → Appends a b first → Puts b c last r → Puts a c (first ++ last) r
+puts_both a b c first last r h k = Puts-last a b c (first ++ last) first last r refl h k
+
 -- ---- whole lines
 
 AreLines-append : (text more : List ℕ) → AreLines text → AreLines more → AreLines (text ++ more)

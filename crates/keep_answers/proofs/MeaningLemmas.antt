@@ -86,6 +86,7 @@ arm_there state (command.Job line) name place e = absurd (other_found Job (job_o
 arm_there state (command.RawFile (raw_file.Add kind bytes)) name place e = cc e
 arm_there state (command.RawFile (raw_file.Drop kind target)) name place e = absurd (other_found Drop (file_meant state.book.events kind target) _ (Arm name place) (λ value h. cc h) e)
 arm_there state (command.Revision revision) name place e = cc e
+arm_there state (command.Cascade n) name place e = cc e
 arm_there state (command.Question question.List) name place e = cc e
 arm_there state (command.Question question.Count) name place e = cc e
 arm_there state (command.Question question.History) name place e = cc e

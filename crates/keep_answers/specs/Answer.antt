@@ -26,8 +26,9 @@ use Rattle.keep_lines.specs.Revision.{request_of}
 use Rattle.keep_lines.specs.declared.command.Command.{Command}
 use Rattle.keep_lines.specs.declared.mistake.Mistake.{Mistake}
 use Rattle.keep_answers.specs.Arming.{ArmsVeto, ArmsWatch}
+use Rattle.keep_answers.specs.Cascading.{Cascaded}
 use Rattle.keep_answers.specs.Files.{added_file, dropped_file}
-use Rattle.keep_answers.specs.Meaning.{MeantData, Job, Add, Drop, Revise, Tell, Compare, Restore, Note, Arm, meant_by}
+use Rattle.keep_answers.specs.Meaning.{MeantData, Job, Add, Drop, Revise, Cascade, Tell, Compare, Restore, Note, Arm, meant_by}
 use Rattle.keep_answers.specs.declared.hook_place.HookPlace.{HookPlace}
 use Rattle.keep_answers.specs.declared.hook_place.HookPlace.TheVariants.{Armed, Veto, Watch}
 use Rattle.keep_answers.specs.declared.meant.Topic.{Topic}
@@ -116,12 +117,14 @@ Arms state name (Veto place) text after = ArmsSpare state name (ArmsVeto state p
 Arms state name (Watch place) text after = ArmsSpare state name (ArmsWatch state place) text after
 
 -- the answer to what a command means, and the state that it leaves: a job is planned and committed, a file by itself
--- committed, a revision asked of the book; what is told changes nothing; a note is kept; a veto or a watch is armed
+-- committed, a revision asked of the book; a change is taken back with all that leans on it; what is told changes
+-- nothing; a note is kept; a veto or a watch is armed
 abbrev pub AnswersTo : State → MeantData → List ℕ → State → Type 0
 AnswersTo state (Job job) text after = JobAnswered state job text after
 AnswersTo state (Add kind bytes) text after = Committed state (added_file kind bytes) text after
 AnswersTo state (Drop name) text after = Committed state (dropped_file state.book.live name) text after
 AnswersTo state (Revise revision) text after = Asked state (request_of revision) told_text text after
+AnswersTo state (Cascade n) text after = Cascaded state n text after
 AnswersTo state (Tell what) text after = Tells state what text × (after ≡ state)
 AnswersTo state (Compare name noted) text after = Compares state name noted text × (after ≡ state)
 AnswersTo state (Restore snapshot) text after = Restores state.book.live snapshot text × (after ≡ state)

@@ -1,6 +1,7 @@
 pub mod Answer
 pub mod Answering
 pub mod Arming
+pub mod Cascading
 pub mod Files
 pub mod Halting
 pub mod Known

@@ -26,13 +26,15 @@ use Rattle.keep_answers.specs.declared.meant.Meant.TheVariants as meant
 use Rattle.keep_answers.specs.declared.meant.Topic.{Topic}
 use Rattle.keep_answers.specs.declared.meant.Topic.TheVariants as topic
 
--- what a command means: a job, a file to add or to drop by itself, a revision, something to tell, the noted repository
--- of a name to compare, a snapshot to restore, a note to take under a name, and where the hook of a name is
+-- what a command means: a job, a file to add or to drop by itself, a revision, a change to take back with all that leans
+-- on it, something to tell, the noted repository of a name to compare, a snapshot to restore, a note to take under a name,
+-- and where the hook of a name is
 pub data MeantData : Type 0 where
   Job : JobData → MeantData
   Add : Kind → List ℕ → MeantData
   Drop : FileName → MeantData
   Revise : Revision → MeantData
+  Cascade : ℕ → MeantData
   Tell : Topic → MeantData
   Compare : List ℕ → Repository → MeantData
   Restore : Id → MeantData
@@ -49,6 +51,7 @@ meant_view filters (meant.Job line) = job_meant filters line
 meant_view filters (meant.Add kind bytes) = Ok (Add kind bytes.items)
 meant_view filters (meant.Drop name) = Ok (Drop name)
 meant_view filters (meant.Revision revision) = Ok (Revise revision)
+meant_view filters (meant.Cascade n) = Ok (Cascade n)
 meant_view filters (meant.Tell what) = Ok (Tell what)
 meant_view filters (meant.Compare name noted) = Ok (Compare name.now noted.now)
 meant_view filters (meant.Restore snapshot) = Ok (Restore snapshot)
@@ -74,6 +77,7 @@ meant_by state (command.RawFile (raw_file.Add kind bytes)) = Ok (Add kind bytes.
 meant_by state (command.RawFile (raw_file.Drop kind target)) =
     ok_or (option_map Drop (file_meant state.book.events kind target)) NoFile
 meant_by state (command.Revision revision) = Ok (Revise revision)
+meant_by state (command.Cascade n) = Ok (Cascade n)
 meant_by state (command.Question asked) = question_meant state asked
 meant_by state (command.Note name) = Ok (Note name.now)
 meant_by state (command.Arm name) =

@@ -47,9 +47,18 @@ is_fault (Err Fault) = true
 is_fault (Err (Unsettled n)) = true
 is_fault reply = false
 
+-- whether what stopped the book is that a call of the shelf failed
+abbrev pub is_stopped_by_fault : Option Refusal → Bool
+is_stopped_by_fault None = false
+is_stopped_by_fault (Some refusal) = is_fault (Err refusal)
+
 -- the session once the book has replied
 abbrev pub session_after : Session → Result Told Refusal → Session
 session_after session reply = record session { faulted = session.faulted || is_fault reply }
+
+-- the session once the book has taken changes back, and was stopped by this
+abbrev pub session_stopped : Session → Option Refusal → Session
+session_stopped session stopped = record session { faulted = session.faulted || is_stopped_by_fault stopped }
 
 -- the state that these are, with what the kit still has
 abbrev pub state_of : {S I F g J E h : _} → KitData → Session → Book S I F g J E h → State

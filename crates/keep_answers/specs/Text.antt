@@ -1,5 +1,5 @@
 -- The texts of whole answers, which are made of lines.
-use Rattle.std.specs.Prelude.{ℕ, ◌&&◌, Bool, true, false, List, ◌++◌, length, codes, is_some, Result, Ok, Err}
+use Rattle.std.specs.Prelude.{ℕ, ◌&&◌, Bool, true, false, List, ◌++◌, [], ◌∷◌, length, codes, is_some, Option, None, Some, Result, Ok, Err}
 use Rattle.std.specs.FinMap as map
 use Rattle.std.specs.List.{flat_map}
 use Rattle.keep_names.specs.declared.file_name.FileName.{FileName}
@@ -20,7 +20,7 @@ use Rattle.keep_read.specs.Refusals.{restore_text}
 use Rattle.keep_read.specs.Restored.{RestoredData}
 use Rattle.keep_read.specs.declared.finding.Finding.{Finding}
 use Rattle.keep_read.specs.declared.restore_error.RestoreError.{RestoreError}
-use Rattle.keep_lines.specs.Reply.{bad_line_text, committed_text, no_text}
+use Rattle.keep_lines.specs.Reply.{bad_line_text, committed_text, no_text, taken_text}
 use Rattle.keep_lines.specs.Telling.{armed_text, counts_text, event_text, file_text, found_count, found_text, noted_text, restored_counts, restored_text, same_text, total_text}
 use Rattle.keep_lines.specs.Word.{hex_text}
 use Rattle.keep_lines.specs.declared.reply.Sizes.{Sizes}
@@ -49,6 +49,20 @@ no_memory_answer = refused_answer Memory
 abbrev pub reply_answer : (Told → List ℕ) → Result Told Refusal → List ℕ
 reply_answer accepted (Ok told) = line (accepted told)
 reply_answer accepted (Err refusal) = refused_answer refusal
+
+-- the line of the numbers that were taken back, where there are any
+abbrev pub numbers_answer : List ℕ → List ℕ
+numbers_answer [] = []
+numbers_answer (n ∷ ns) = line (taken_text (n ∷ ns))
+
+-- the line of the refusal that stopped it, where one did
+abbrev pub stop_answer : Option Refusal → List ℕ
+stop_answer None = []
+stop_answer (Some refusal) = refused_answer refusal
+
+-- the answer to `cascade`: the first of these lines, or the second, or both
+abbrev pub taken_answer : List ℕ → Option Refusal → List ℕ
+taken_answer numbers stopped = numbers_answer numbers ++ stop_answer stopped
 
 -- the answer to a job that was to be planned and committed
 abbrev pub outcome_answer : Result (Result Told Refusal × Sizes) PlanError → List ℕ

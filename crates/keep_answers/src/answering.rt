@@ -16,6 +16,7 @@ use crate::meant::{Meant, Topic};
 use crate::output::put_line;
 use crate::reply::{
     write_armed, write_audit, write_committed, write_outcome, write_reply, write_restore,
+    write_taken,
 };
 use crate::session::Session;
 use keep_book::Book;
@@ -72,6 +73,7 @@ impl Session {
             Ok(Meant::Add { kind, bytes }) => self.add(kind, bytes, book, writer),
             Ok(Meant::Drop(name)) => self.drop(name, book, writer),
             Ok(Meant::Revision(revision)) => self.revise(revision, book, writer),
+            Ok(Meant::Cascade(number)) => self.cascade(number, book, writer),
             Ok(Meant::Tell(topic)) => self.tell(topic, book, writer),
             Ok(Meant::Compare(name, noted)) => self.compare(name, noted, book, writer),
             Ok(Meant::Restore(snapshot)) => self.restore(snapshot, book, writer),
@@ -162,6 +164,23 @@ impl Session {
         ensures sums { HasSums book.new }
     {
         write_reply(self.alloc, self.ask(book, revision.request()), writer)
+    }
+
+    /// Takes the change back with all that leans on it.
+    fn cascade<S: Shelf, W: Write>(
+        &mut self,
+        number: u64,
+        book: &mut Book<S>,
+        writer: &mut W,
+    ) -> Result<(), Halt>
+        requires { HasSums book.old }
+        ensures answers { (kit : KitData) → Writes (W.contents writer.old) (W.contents writer.new) (λ text.
+            AnswersMeant (state_of kit self.old book.old) (meaning.Cascade number) text result
+            (state_of kit self.new book.new)) }
+        ensures whole { result ≢ Err Halt.WriteFailed → WritesLines (W.contents writer.old) (W.contents writer.new) }
+        ensures sums { HasSums book.new }
+    {
+        write_taken(self.alloc, self.take_back(book, number), writer)
     }
 
     /// Tells what is asked for.

@@ -1,16 +1,17 @@
 ghost use Rattle.std.specs.Prelude.{◌≡◌, ◌≢◌, Err, IfErr, IfOk, Ok, true};
 ghost use Rattle.keep_book.specs.Armed.{HasSums, IsUnchanged, Responds, ledger_of};
+ghost use Rattle.keep_book.specs.Cascade.{Cascades};
 ghost use Rattle.keep_change.specs.declared.change.Change.{Change};
 ghost use Rattle.keep_jobs.specs.Job.{has_bad_edit, job_change, job_view, settings_view};
 ghost use Rattle.keep_ledger.specs.declared.request.Request.TheVariants as request;
 ghost use Rattle.keep_lines.specs.Reply.{sizes_of};
 ghost use Rattle.keep_plan.specs.declared.plan_error.PlanError.TheVariants as plan_error;
 ghost use Rattle.keep_answers.specs.Answer.{commit_of, shown_by};
-ghost use Rattle.keep_answers.specs.State.{session_after};
+ghost use Rattle.keep_answers.specs.State.{session_after, session_stopped};
 
-use crate::reply::{Outcome, is_fault};
+use crate::reply::{Outcome, is_fault, is_stopped_by_fault};
 use crate::session::Session;
-use keep_book::Book;
+use keep_book::{Book, TakenBack};
 use keep_change::{Change, Planned};
 use keep_filters::Filter;
 use keep_jobs::{Job, plan};
@@ -78,5 +79,17 @@ impl Session {
         let reply = book.ask(request);
         self.faulted = self.faulted || is_fault(&reply);
         reply
+    }
+
+    /// Takes the change back with all that leans on it, and notes where a call of the book's shelf failed.
+    pub fn take_back<S: Shelf>(&mut self, book: &mut Book<S>, number: u64) -> TakenBack
+        requires { HasSums book.old }
+        ensures taken { Cascades book.old number result book.new }
+        ensures sums { HasSums book.new }
+        ensures noted { self.new ≡ session_stopped self.old result.stopped }
+    {
+        let taken = book.undo_with(number);
+        self.faulted = self.faulted || is_stopped_by_fault(&taken.stopped);
+        taken
     }
 }

@@ -15,6 +15,8 @@ pub(crate) enum Meant<'t, 'n> {
     /// To drop the file of this name by itself.
     Drop(FileName),
     Revision(Revision),
+    /// To take the change of this number back, with all that leans on it.
+    Cascade(u64),
     Tell(Topic),
     /// To tell whether the repository is as this one, which was noted under the name.
     Compare(&'t str, &'n Repo),

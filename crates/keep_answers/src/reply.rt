@@ -10,8 +10,9 @@ use crate::arming::Unarmed;
 use crate::halt::Halt;
 use crate::listing::{write_findings, write_restored};
 use crate::output::put_line;
+use keep_book::TakenBack;
 use keep_ledger::{Refusal, Told};
-use keep_lines::{Accepted, Armed, Committed, Refused, Sizes};
+use keep_lines::{Accepted, Armed, Committed, Refused, Sizes, TakenNumbers};
 use keep_plan::PlanError;
 use keep_read::{Finding, RestoreError, Restored};
 use std::alloc::{AllocError, Global};
@@ -27,6 +28,13 @@ pub(crate) fn is_fault(reply: &Result<Told, Refusal>) -> bool
     matches!(reply, Err(Refusal::Fault | Refusal::Unsettled(_)))
 }
 
+/// Whether what stopped a book is that a call of the shelf failed.
+pub(crate) fn is_stopped_by_fault(stopped: &Option<Refusal>) -> bool
+    ensures { result ≡ states.is_stopped_by_fault stopped.now }
+{
+    matches!(stopped, Some(Refusal::Fault | Refusal::Unsettled(_)))
+}
+
 /// Writes the answer to a request to the book about an earlier change.
 pub(crate) fn write_reply<W: Write>(
     alloc: Global,
@@ -39,6 +47,43 @@ pub(crate) fn write_reply<W: Write>(
     match reply {
         Ok(told) => put_line(alloc, &Accepted(told), writer),
         Err(refusal) => put_line(alloc, &Refused(refusal), writer),
+    }
+}
+
+/// Writes the answer to changes that were to be taken back: their numbers, where there are any, and why there are no more.
+#[tactic(auto, using(crate::proofs::KnownLemmas::puts_both))]
+pub(crate) fn write_taken<W: Write>(
+    alloc: Global,
+    taken: TakenBack,
+    writer: &mut W,
+) -> Result<(), Halt>
+    ensures puts { Puts (W.contents writer.old) (W.contents writer.new)
+        (texts.taken_answer taken.numbers.items taken.stopped) result }
+    ensures whole { result ≢ Err Halt.WriteFailed → WritesLines (W.contents writer.old) (W.contents writer.new) }
+{
+    write_numbers(alloc, taken.numbers.as_slice(), writer)?;
+    write_stop(alloc, taken.stopped, writer)
+}
+
+/// Writes the line of the changes that were taken back, where there are any.
+fn write_numbers<W: Write>(alloc: Global, numbers: &[u64], writer: &mut W) -> Result<(), Halt>
+    ensures puts { Puts (W.contents writer.old) (W.contents writer.new) (texts.numbers_answer numbers.now) result }
+    ensures whole { result ≢ Err Halt.WriteFailed → WritesLines (W.contents writer.old) (W.contents writer.new) }
+{
+    if numbers.is_empty() {
+        return Ok(());
+    }
+    put_line(alloc, &TakenNumbers(numbers), writer)
+}
+
+/// Writes the line of the refusal, where there is one.
+fn write_stop<W: Write>(alloc: Global, stopped: Option<Refusal>, writer: &mut W) -> Result<(), Halt>
+    ensures puts { Puts (W.contents writer.old) (W.contents writer.new) (texts.stop_answer stopped) result }
+    ensures whole { result ≢ Err Halt.WriteFailed → WritesLines (W.contents writer.old) (W.contents writer.new) }
+{
+    match stopped {
+        Some(refusal) => put_line(alloc, &Refused(refusal), writer),
+        None => Ok(()),
     }
 }
 

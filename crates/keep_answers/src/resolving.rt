@@ -39,6 +39,7 @@ impl Session {
                 Ok(Meant::Drop(name))
             }
             Command::Revision(revision) => Ok(Meant::Revision(revision)),
+            Command::Cascade(number) => Ok(Meant::Cascade(number)),
             Command::Question(question) => self.resolve_question(question, book),
             Command::Note(name) => Ok(Meant::Note(name)),
             Command::Arm(name) => {

@@ -32,6 +32,13 @@ returns-in-Ok-Revision-clause-answers g c =
     AnswersDue-meant _ _ state (state_of kit c.revise.new.self c.revise.new.book) (meant_by state c.args.command) (meaning.Revise c.in-Ok-Revision.revision) _
     (rw c.in-Ok-Revision.field-0-is at c.in-Ok-Revision.ensures) (c.revise.ensures.answers kit)
 
+pub returns-in-Ok-Cascade-clause-answers : goal.returns-in-Ok-Cascade-clause-answers
+returns-in-Ok-Cascade-clause-answers g c =
+    let kit = kit_view c.args.kit.now in
+    let state = state_of kit c.args.self.now c.args.book.now in
+    AnswersDue-meant _ _ state (state_of kit c.cascade.new.self c.cascade.new.book) (meant_by state c.args.command) (meaning.Cascade c.in-Ok-Cascade.number) _
+    (rw c.in-Ok-Cascade.field-0-is at c.in-Ok-Cascade.ensures) (c.cascade.ensures.answers kit)
+
 pub returns-in-Ok-Tell-clause-answers : goal.returns-in-Ok-Tell-clause-answers
 returns-in-Ok-Tell-clause-answers g c =
     let kit = kit_view c.args.kit.now in
