@@ -1,6 +1,8 @@
+pub mod Appended
 pub mod Exact
 pub mod HexBytes
 pub mod OpenHistories
+pub mod PutGroups
 pub mod ReadExactly
 pub mod RoundTrip
 pub mod SameMembers

@@ -1,18 +1,13 @@
 -- What bytes spell, and that they spell nothing else.
-use Rattle.std.proofs.Common.{◌≡◌, ◌≢◌, ℕ, List, None, Some, Result, Ok, Err, IfOk, Vec, Global, false, sym, ap, subst, ◌∙◌}
-use Rattle.std.specs.declared.alloc.AllocError.{AllocError}
-use Rattle.serde_json.specs.Data.{Data}
-use Rattle.serde_json.specs.Written.{compact_text, has_float}
-use Rattle.keep_docs.proofs.ReadBack.{has_float-IsReadable}
+use Rattle.std.proofs.Common.{◌≡◌, ◌≢◌, ℕ, List, None, Some, sym, ap, subst, ◌∙◌}
 use Rattle.keep_journal.specs.declared.event.Event.{Event}
 use Rattle.keep_entries.specs.Entry.{Fits, IsEntry, Spells, TellsNothing, event_told}
 use Rattle.keep_entries.specs.Laws.{FormsDiffer, OneEventIsSpelled}
 use Rattle.keep_entries.specs.Shape.{read_of}
-use Rattle.keep_entries.specs.Spelling.{event_data, text_in}
+use Rattle.keep_entries.specs.Spelling.{text_in}
 use Rattle.keep_entries.specs.declared.form.Form.{Form}
 use Rattle.keep_entries.specs.declared.form.Form.TheVariants.{Packs, Moments}
 use Rattle.keep_entries.proofs.RoundTrip.{read_back}
-use Rattle.keep_entries.proofs.Written.{readable_event}
 
 pub pair_same : {A B : Type 0} (p q : A × B) → Some p ≡ Some q → (p.0 ≡ q.0) × (p.1 ≡ q.1)
 pair_same {A} {B} p q e =
@@ -49,13 +44,3 @@ nothing_else k bytes form event found apart other is s =
     let same = pair_same (s.0, other) (form, event) (sym (spelled_reads bytes other is.fits s) ∙ found) in
     let entry = subst (λ (e : Event). IsEntry (record { at = k; event = e })) same.1 is in
     apart entry (s.1 ∙ ap (λ (f : Form). text_in f other) same.0 ∙ ap (text_in form) same.1)
-
--- ---- the writer's answer
-
-pub text_is : (r : Result (Vec ℕ Global) AllocError) (d : Data) (form : Form) (event : Event) → d ≡ event_data form event
-    → Fits event → IfOk r (λ bytes. has_float d ≡ false → bytes.items ≡ compact_text d)
-    → IfOk r (λ bytes. bytes.items ≡ text_in form event)
-text_is (Ok bytes) d form event is fits text =
-    let whole = has_float-IsReadable (event_data form event) (readable_event form event fits) in
-    text (ap has_float is ∙ whole) ∙ ap compact_text is
-text_is (Err e) d form event is fits text = tt

@@ -25,7 +25,7 @@ use Rattle.keep_journal.specs.declared.event.Event.{Event}
 use Rattle.keep_journal.specs.declared.event.EventKind.{EventKind}
 use Rattle.keep_journal.specs.declared.event.EventKind.TheVariants.{Commit, Undo, Redo, Empty}
 use Rattle.keep_entries.specs.Entry.{FilesFit, Fits, FitsFile, FitsKind, FitsMark, FitsMoment, FitsName, MarksFit}
-use Rattle.keep_entries.specs.Members.{with_files, with_head, with_marks}
+use Rattle.keep_entries.proofs.PutGroups.{with_files, with_head, with_marks}
 use Rattle.keep_entries.specs.Spelling.{commit_data, empty_data, event_data, file_data, files_data, form_number, kind_data, mark_data, marks_data, name_data, names_data, turn_data}
 use Rattle.keep_entries.specs.declared.form.Form.{Form}
 use Rattle.keep_entries.specs.declared.form.Form.TheVariants.{Packs, Moments}

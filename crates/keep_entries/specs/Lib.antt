@@ -4,3 +4,4 @@ pub mod Members
 pub mod Refusal
 pub mod Shape
 pub mod Spelling
+pub mod Tokens

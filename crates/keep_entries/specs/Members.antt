@@ -1,31 +1,28 @@
--- The members of a commit, group by group, in the order in which they are put.
+-- The members of a commit before others, group by group, in the order in which they are written.
 use Rattle.std.specs.Prelude.{ℕ, codes}
-use Rattle.serde_json.specs.Data.{Members, boolean, number, string, unsigned, put}
+use Rattle.serde_json.specs.Data.{Members, boolean, member, number, string, unsigned}
 use Rattle.keep_docs.specs.Lists.{ids_data}
 use Rattle.keep_change.specs.declared.change.Change.{Change}
 use Rattle.keep_entries.specs.Spelling.{files_data, form_number, marks_data, names_data}
 use Rattle.keep_entries.specs.declared.form.Form.{Form}
 
--- with the four lists of files
-abbrev pub with_files : Change → Members → Members
-with_files c ms =
-    put (codes "absent") (names_data c.absent)
-    (put (codes "present") (names_data c.present)
-    (put (codes "drops") (files_data c.drops)
-    (put (codes "adds") (files_data c.adds) ms)))
+abbrev pub first_members : Form → Change → Members → Members
+first_members form c ms =
+    member (codes "absent") (names_data c.absent)
+    (member (codes "adds") (files_data c.adds)
+    (member (codes "clears") (marks_data form c.clears)
+    (member (codes "drops") (files_data c.drops) ms)))
 
--- with the four lists of marks
-abbrev pub with_marks : Form → Change → Members → Members
-with_marks form c ms =
-    put (codes "unmarked") (ids_data c.unmarked)
-    (put (codes "marked") (ids_data c.marked)
-    (put (codes "clears") (marks_data form c.clears)
-    (put (codes "sets") (marks_data form c.sets) ms)))
+abbrev pub middle_members : Form → ℕ → Change → Members → Members
+middle_members form n c ms =
+    member (codes "event") (string (codes "commit"))
+    (member (codes "form") (number (unsigned (form_number form)))
+    (member (codes "marked") (ids_data c.marked)
+    (member (codes "number") (number (unsigned n)) ms)))
 
--- with what isn't listed
-abbrev pub with_head : Form → ℕ → Change → Members → Members
-with_head form n c ms =
-    put (codes "strict") (boolean c.strict)
-    (put (codes "number") (number (unsigned n))
-    (put (codes "form") (number (unsigned (form_number form)))
-    (put (codes "event") (string (codes "commit")) ms)))
+abbrev pub last_members : Form → Change → Members → Members
+last_members form c ms =
+    member (codes "present") (names_data c.present)
+    (member (codes "sets") (marks_data form c.sets)
+    (member (codes "strict") (boolean c.strict)
+    (member (codes "unmarked") (ids_data c.unmarked) ms)))

@@ -8,8 +8,7 @@ use crate::checks::is_proper;
 use crate::entry_error::EntryError;
 use crate::event_in::read_in;
 use crate::misread::Misread;
-use crate::writing::event_value;
-use keep_docs::write_doc;
+use crate::writing::event_text;
 use keep_journal::{Entry, Event};
 use std::alloc::{AllocError, Global};
 
@@ -18,8 +17,7 @@ pub fn write_entry(alloc: Global, entry: &Entry) -> Result<Vec<u8>, AllocError>
     ensures text { IfOk result (λ bytes. bytes.items ≡ entry_text entry.now.event) }
     ensures fits { IfOk result (λ _. Fits entry.now.event) }
 {
-    let value = event_value(alloc, &entry.event)?;
-    write_doc(alloc, &value)
+    event_text(alloc, &entry.event)
 }
 
 /// Reads the entry of number k, in either form and in no other spelling. Beside the text, what was added or dropped is

@@ -1,60 +1,101 @@
-ghost use Rattle.std.specs.Prelude.{◌≡◌, ◌<◌, ◌^◌, IfOk};
+ghost use Rattle.std.specs.Prelude.{◌≡◌, ◌<◌, ◌++◌, ◌^◌, IfOk, OnOk};
 ghost use Rattle.std.specs.List.{AllByRecursion};
-ghost use Rattle.serde_json.specs.View.{view};
 ghost use Rattle.keep_entries.specs.Entry.{FilesFit, Fits, FitsMark, MarksFit};
-ghost use Rattle.keep_entries.specs.Spelling.{commit_data, empty_data, event_data, turn_data};
+ghost use Rattle.keep_entries.specs.Spelling.{commit_data, empty_data, entry_text, event_data, turn_data};
+ghost use Rattle.keep_entries.specs.Tokens.{value_tokens};
 ghost use Rattle.keep_entries.specs.declared.form.Form.TheVariants.{Moments};
 
-use crate::form::FORM;
-use crate::members::{put_files, put_head, put_marks};
-use crate::values::marks_value;
+use crate::members::{put_first, put_form, put_last, put_middle, put_number, put_word};
+use crate::values::put_marks;
+use json::Writer;
 use keep_change::{Change, PackMark};
 use keep_journal::{Event, EventKind};
-use serde_json::{Map, Value, json};
 use std::alloc::{AllocError, Global};
 
-/// An event as a value.
-pub(crate) fn event_value(alloc: Global, event: &Event) -> Result<Value, AllocError>
-    ensures value { IfOk result (λ value. view value ≡ event_data Moments event.now) }
+/// Room for the text of an event that changes little.
+const ROOM: usize = 512;
+
+/// The text of an event.
+pub(crate) fn event_text(alloc: Global, event: &Event) -> Result<Vec<u8>, AllocError>
+    ensures text { IfOk result (λ bytes. bytes.items ≡ entry_text event.now) }
     ensures fits { IfOk result (λ _. Fits event.now) }
+{
+    let mut out = Writer::new(Vec::with_capacity(alloc, ROOM)?);
+    put_event(alloc, &mut out, event)?;
+    let mut bytes = out.into_inner();
+    bytes.shrink_to_fit();
+    Ok(bytes)
+}
+
+// Writes an event.
+fn put_event(alloc: Global, out: &mut Writer, event: &Event) -> Result<(), AllocError>
+    ensures tokens { OnOk result (out.new.tokens
+        ≡ out.old.tokens ++ value_tokens (event_data Moments event.now)) }
+    ensures before { out.new.before ≡ out.old.before }
+    ensures fits { OnOk result (Fits event.now) }
 {
     let number = event.number;
     match &event.kind {
-        EventKind::Commit(change) => commit_value(alloc, number, change.as_change()),
-        EventKind::Undo => turn_value(alloc, "undo", number),
-        EventKind::Redo => turn_value(alloc, "redo", number),
-        EventKind::Empty(marks) => empty_value(alloc, number, marks.as_slice()),
+        EventKind::Commit(change) => put_commit(alloc, out, number, change.as_change()),
+        EventKind::Undo => put_turn(out, "undo", number),
+        EventKind::Redo => put_turn(out, "redo", number),
+        EventKind::Empty(marks) => put_empty(alloc, out, number, marks.as_slice()),
     }
 }
 
-// A commit as a value.
-fn commit_value(alloc: Global, number: u64, change: &Change) -> Result<Value, AllocError>
-    ensures value { IfOk result (λ value. view value ≡ commit_data Moments number change.now) }
-    ensures number { IfOk result (λ _. number < 2 ^ 64) }
-    ensures files { IfOk result (λ _. FilesFit change.now) }
-    ensures marks { IfOk result (λ _. MarksFit change.now) }
+// Writes a commit.
+fn put_commit(
+    alloc: Global,
+    out: &mut Writer,
+    number: u64,
+    change: &Change,
+) -> Result<(), AllocError>
+    ensures tokens { OnOk result (out.new.tokens
+        ≡ out.old.tokens ++ value_tokens (commit_data Moments number change.now)) }
+    ensures before { out.new.before ≡ out.old.before }
+    ensures number { OnOk result (number < 2 ^ 64) }
+    ensures files { OnOk result (FilesFit change.now) }
+    ensures marks { OnOk result (MarksFit change.now) }
 {
-    let mut members = Map::new(alloc);
-    put_head(alloc, &mut members, number, change)?;
-    put_marks(alloc, &mut members, change)?;
-    put_files(alloc, &mut members, change)?;
-    Ok(Value::Object(members))
+    out.begin_object()?;
+    put_first(alloc, out, change)?;
+    put_middle(alloc, out, number, change)?;
+    put_last(alloc, out, change)?;
+    out.end_object()
 }
 
-// An undo or a redo as a value.
-fn turn_value(alloc: Global, word: &str, number: u64) -> Result<Value, AllocError>
-    ensures value { IfOk result (λ value. view value ≡ turn_data Moments word.now number) }
-    ensures number { IfOk result (λ _. number < 2 ^ 64) }
+// Writes an undo or a redo.
+fn put_turn(out: &mut Writer, word: &str, number: u64) -> Result<(), AllocError>
+    ensures tokens { OnOk result (out.new.tokens
+        ≡ out.old.tokens ++ value_tokens (turn_data Moments word.now number)) }
+    ensures before { out.new.before ≡ out.old.before }
+    ensures number { OnOk result (number < 2 ^ 64) }
 {
-    json!(in alloc; {"event": word, "form": FORM, "number": number})
+    out.begin_object()?;
+    put_word(out, word)?;
+    put_form(out)?;
+    put_number(out, number)?;
+    out.end_object()
 }
 
-// An emptying as a value.
-fn empty_value(alloc: Global, number: u64, marks: &[PackMark]) -> Result<Value, AllocError>
-    ensures value { IfOk result (λ value. view value ≡ empty_data Moments number marks.now) }
-    ensures number { IfOk result (λ _. number < 2 ^ 64) }
-    ensures fit { IfOk result (λ _. AllByRecursion FitsMark marks.now) }
+// Writes an emptying.
+fn put_empty(
+    alloc: Global,
+    out: &mut Writer,
+    number: u64,
+    marks: &[PackMark],
+) -> Result<(), AllocError>
+    ensures tokens { OnOk result (out.new.tokens
+        ≡ out.old.tokens ++ value_tokens (empty_data Moments number marks.now)) }
+    ensures before { out.new.before ≡ out.old.before }
+    ensures number { OnOk result (number < 2 ^ 64) }
+    ensures fit { OnOk result (AllByRecursion FitsMark marks.now) }
 {
-    let marks = marks_value(alloc, marks)?;
-    json!(in alloc; {"event": "empty", "form": FORM, "marks": marks, "number": number})
+    out.begin_object()?;
+    put_word(out, "empty")?;
+    put_form(out)?;
+    out.key("marks")?;
+    put_marks(alloc, out, marks)?;
+    put_number(out, number)?;
+    out.end_object()
 }
