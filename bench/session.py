@@ -13,8 +13,9 @@ def build():
 
 
 class Session:
-    def __init__(self, program=PROGRAM, environment=None):
-        self.program = subprocess.Popen([program], stdin=subprocess.PIPE, stdout=subprocess.PIPE, env=environment)
+    def __init__(self, program=PROGRAM, environment=None, errors=None):
+        self.program = subprocess.Popen([program], stdin=subprocess.PIPE, stdout=subprocess.PIPE, stderr=errors,
+                                        env=environment)
         self.ask("count\n", "files 0 marks 0\n")  # the start is over, and isn't timed
 
     def ask(self, lines, wanted):
