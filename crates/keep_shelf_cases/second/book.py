@@ -74,6 +74,18 @@ class Book:
             raise Refused(f"Unsettled {number}")
         return f"ok {number} at {at}"
 
+    def taken(self, number):
+        """The change and all that lean on it, or on another one of these, the greatest number first. No call is made."""
+        self.check_number(number)
+        if not self.in_force(number):
+            raise Refused("NotInForce")
+        numbers, written = [], set()
+        for n in self.kept():
+            if n == number or self.changes[n].touched() & written:
+                numbers.append(n)
+                written |= self.changes[n].written()
+        return numbers[::-1]
+
     def allowed(self, kind, number, change, seen):
         """The state that the event leaves, and which files of the trash are looked at first."""
         if kind == "commit":
@@ -84,10 +96,7 @@ class Book:
             if unmet:
                 raise Refused("Unmet " + (word(unmet[1]) if unmet[0] == 0 else f"mark {unmet[1]}"))
             return change.made(self.state), []
-        if not 0 < number <= self.last_change():
-            raise Refused("Unknown")
-        if number <= self.final:
-            raise Refused("Final")
+        self.check_number(number)
         if kind != "empty" and (kind == "redo") == self.in_force(number):
             raise Refused("InForce" if kind == "redo" else "NotInForce")
         self.check_room()
@@ -99,6 +108,12 @@ class Book:
             raise Refused(f"{'Blocked' if kind == 'redo' else 'LeanedOn'} {stuck}")
         back = self.changes[number].adds if kind == "redo" else self.changes[number].drops
         return state, [trash(number, name) for name in sorted(back)]
+
+    def check_number(self, number):
+        if not 0 < number <= self.last_change():
+            raise Refused("Unknown")
+        if number <= self.final:
+            raise Refused("Final")
 
     def check_room(self, before=0):
         """Refuses an event, and a change after so many, past the greatest number."""
