@@ -1,3 +1,4 @@
+pub mod Heard
 pub mod Histories
 pub mod JobSafe
 pub mod Keeping
