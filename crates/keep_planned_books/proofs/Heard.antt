@@ -1,5 +1,5 @@
 -- What any answer leaves: the book as it was, or the book with the request's event.
-use Rattle.std.proofs.Common.{◌≡◌, ◌≢◌, List, Result, Ok, Err}
+use Rattle.std.proofs.Common.{◌≢◌, List, Result, Ok, Err}
 use Rattle.keep_hooks.specs.Guards.{Rule}
 use Rattle.keep_ledger.specs.Ends.{heard}
 use Rattle.keep_ledger.specs.LedgerState.{LedgerState}

@@ -1,3 +1,4 @@
+pub mod Choosing
 pub mod Heard
 pub mod Histories
 pub mod JobSafe

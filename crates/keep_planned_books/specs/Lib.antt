@@ -1,3 +1,4 @@
 pub mod History
 pub mod Jobs
 pub mod Losing
+pub mod Selected
