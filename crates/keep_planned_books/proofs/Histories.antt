@@ -1,23 +1,20 @@
 -- Planned histories lose nothing.
-use Rattle.std.proofs.Common.{◌≡◌, ◌≢◌, ℕ, List, [], ◌∷◌, Result, Ok, Err, sym, subst}
+use Rattle.std.proofs.Common.{◌≡◌, ℕ, List, [], ◌∷◌, sym, subst}
 use Rattle.keep_repo.specs.Repository.{Repository}
 use Rattle.keep_sound.specs.Met.{HasOneText}
 use Rattle.keep_sound.specs.Selection.{IsSoundState}
 use Rattle.keep_told.specs.Laws.{ToldIsOpen}
 use Rattle.keep_reading.specs.Reads.{OneReading}
-use Rattle.keep_ledger.specs.Ends.{heard}
 use Rattle.keep_ledger.specs.LedgerState.{LedgerState}
 use Rattle.keep_ledger.specs.Made.{with_event}
-use Rattle.keep_ledger.specs.Reply.{Replies, state_after, told_of}
-use Rattle.keep_ledger.specs.declared.reply.Refusal.{Refusal}
-use Rattle.keep_ledger.specs.declared.reply.Refusal.TheVariants.{Malformed, Unknown, Final, NotInForce, InForce, Full, Stale, Vetoed, Unmet, LeanedOn, Blocked, Memory, Fault, Unsettled}
-use Rattle.keep_ledger.specs.declared.reply.Told.{Told}
+use Rattle.keep_ledger.specs.Reply.{told_of}
 use Rattle.keep_ledger.specs.declared.request.Request.TheVariants.{Undo}
 use Rattle.keep_book.specs.Cascade.{AreUndone, with_undos}
 use Rattle.keep_read.specs.Losses.{SoundLosesNoBlob}
 use Rattle.keep_sound_books.specs.SoundBooks.{SelectionsOfBooksAreSound}
 use Rattle.keep_planned_books.specs.History.{BeginsWhole, IsPlannedHistory, accepted, begun, opened, read_again}
 use Rattle.keep_planned_books.specs.Losing.{AnswersLoseNothing, BooksLoseNothing, CascadesLoseNothing, LosesNothing, OpeningsLoseNothing, SelectionsLoseNothing}
+use Rattle.keep_planned_books.proofs.Heard.{by_reply}
 use Rattle.keep_planned_books.proofs.Keeping.{Keep, Laws, keep_first, keep_next}
 use Rattle.keep_planned_books.proofs.Opening.{opened_is, read_sound}
 
@@ -47,29 +44,9 @@ module _ (laws : Laws) (audits : SoundLosesNoBlob) (stays : ToldIsOpen) where
       )
 
   pub answers_lose_nothing : AnswersLoseNothing
-  answers_lose_nothing all opening book earlier vetoes request reply begins history planned replies = by_reply reply replies where
-    next : (told : Told) → Replies book vetoes request (Ok told) → LosesNothing (with_event book request).live
-    next told made = books_lose_nothing all opening (with_event book request) (book ∷ earlier) begins (accepted book earlier vetoes request told history planned made)
-
-    same : LosesNothing book.live
-    same = books_lose_nothing all opening book earlier begins history
-
-    by_reply : (reply : Result Told Refusal) → (reply ≢ Err Fault → Replies book vetoes request (heard book request reply)) → LosesNothing (state_after book request (heard book request reply)).live
-    by_reply (Ok told) made = next told (made (λ e. cc e))
-    by_reply (Err (Unsettled n)) made = next (told_of book.events request) (made (λ e. cc e))
-    by_reply (Err Malformed) made = same
-    by_reply (Err Unknown) made = same
-    by_reply (Err Final) made = same
-    by_reply (Err NotInForce) made = same
-    by_reply (Err InForce) made = same
-    by_reply (Err Full) made = same
-    by_reply (Err (Stale length)) made = same
-    by_reply (Err (Vetoed name)) made = same
-    by_reply (Err (Unmet facet)) made = same
-    by_reply (Err (LeanedOn n)) made = same
-    by_reply (Err (Blocked n)) made = same
-    by_reply (Err Memory) made = same
-    by_reply (Err Fault) made = same
+  answers_lose_nothing all opening book earlier vetoes request reply begins history planned replies =
+      by_reply (λ (b : LedgerState). LosesNothing b.live) book vetoes request (books_lose_nothing all opening book earlier begins history)
+      (λ told made. books_lose_nothing all opening (with_event book request) (book ∷ earlier) begins (accepted book earlier vetoes request told history planned made)) reply replies
 
   -- each undo that is accepted goes on with the history
   undone : (all opening : Repository) (numbers : List ℕ) (book : LedgerState) (earlier : List LedgerState) → IsPlannedHistory all opening (book ∷ earlier) → AreUndone book numbers

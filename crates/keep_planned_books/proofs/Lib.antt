@@ -1,4 +1,5 @@
 pub mod Choosing
+pub mod Heard
 pub mod Histories
 pub mod JobSafe
 pub mod Keeping
