@@ -20,5 +20,6 @@ mod request;
 pub use keep_opening::OpenError;
 pub use laws::{calls_are_counted, live_files_alone_are_opened};
 pub use ledger::Ledger;
+pub use opening_marks::marks_under;
 pub use reply::{Refusal, Told};
 pub use request::Request;

@@ -10,7 +10,7 @@ use std::alloc::AllocError;
 
 /// The marks of the repository that the changes in force after n are made of: the live ones, with what those
 /// changes made of marks taken back, the last first.
-pub(crate) fn marks_under(
+pub fn marks_under(
     live: &Repo,
     history: &History,
     n: u64,

@@ -1,0 +1,4 @@
+pub mod Following
+pub mod Histories
+pub mod Laws
+pub mod Sheet
