@@ -77,7 +77,8 @@ impl<B: Naming> Pass<B> {
 
     /// Ends its reading.
     pub fn leave(&mut self)
-        ensures { self.new ≡ record self.old { shown = false } }
+        ensures same { self.new ≡ record self.old { shown = false } }
+        ensures legal { IsLegal B.hooks.vetoes B.opening self.new.seen }
     {
         if let Some(reading) = self.reading.take() {
             self.reader = Some(reading.leave());
