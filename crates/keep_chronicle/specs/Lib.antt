@@ -1,0 +1,2 @@
+pub mod Chronicle
+pub mod Rules
