@@ -6,6 +6,7 @@ use Rattle.keep_change.specs.declared.change.Change.{Change}
 use Rattle.keep_entries.specs.Spelling.{files_data, form_number, marks_data, names_data}
 use Rattle.keep_entries.specs.declared.form.Form.{Form}
 
+-- those from `absent` to `drops`
 abbrev pub first_members : Form → Change → Members → Members
 first_members form c ms =
     member (codes "absent") (names_data c.absent)
@@ -13,6 +14,7 @@ first_members form c ms =
     (member (codes "clears") (marks_data form c.clears)
     (member (codes "drops") (files_data c.drops) ms)))
 
+-- those from `event` to `number`
 abbrev pub middle_members : Form → ℕ → Change → Members → Members
 middle_members form n c ms =
     member (codes "event") (string (codes "commit"))
@@ -20,6 +22,7 @@ middle_members form n c ms =
     (member (codes "marked") (ids_data c.marked)
     (member (codes "number") (number (unsigned n)) ms)))
 
+-- those from `present` to `unmarked`
 abbrev pub last_members : Form → Change → Members → Members
 last_members form c ms =
     member (codes "present") (names_data c.present)
