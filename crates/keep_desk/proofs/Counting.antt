@@ -37,9 +37,9 @@ one_taken es all left before parts amount p taken is begins = record {
   long = omega (arith, taken.long);
 }
   where
-  each : (k : ℕ) (d : Known) → k < length (p ∷ taken.done) → IsPrefix (slice_index_or (p ∷ taken.done) k d).seen es
-  each zero d within = begins
-  each (suc k) d within = taken.begins k d (omega arith)
+    each : (k : ℕ) (d : Known) → k < length (p ∷ taken.done) → IsPrefix (slice_index_or (p ∷ taken.done) k d).seen es
+    each zero d within = begins
+    each (suc k) d within = taken.begins k d (omega arith)
 
 -- all of them were taken in
 pub record AreIn (es : List Event) (all : List Known) (parts amount : ℕ) : Type 0 where

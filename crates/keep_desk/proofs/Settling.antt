@@ -1,5 +1,5 @@
 -- A page that is at most one event behind.
-use Rattle.std.proofs.Common.{◌≡◌, ◌≢◌, ◌∙◌, ℕ, ◌+◌, List, [], ◌∷◌, ◌++◌, length, ap, arith, inl, inr, length-append, subst, sym}
+use Rattle.std.proofs.Common.{◌≡◌, ◌≢◌, ◌∙◌, ◌+◌, List, [], ◌∷◌, ◌++◌, length, ap, arith, inl, inr, length-append, sym}
 use Rattle.logbook.specs.Pages.{Book}
 use Rattle.keep_journal.specs.History.{length_of}
 use Rattle.keep_journal.specs.declared.event.Event.{Event}

@@ -78,11 +78,7 @@ impl<B: Naming, R: Wait + Drop, K: Keeper> Locked<B, R, K> {
     }
 
     /// Publishes an event that came late before, does what is asked, and publishes the event of that.
-    pub(crate) fn change(
-        &mut self,
-        pass: &mut Pass<B>,
-        request: Request,
-    ) -> Result<Told, DeskError>
+    pub(crate) fn change(&mut self, pass: &mut Pass<B>, request: Request) -> Result<Told, DeskError>
         ensures answered { IsAnswered B.hooks.vetoes B.opening request pass.old pass.new result }
         ensures begins { IsPrefix pass.old.seen pass.new.seen }
         ensures legal { IsLegal B.hooks.vetoes B.opening pass.new.seen }

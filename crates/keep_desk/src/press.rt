@@ -28,8 +28,8 @@ impl<B: Naming, R: Wait + Drop> Model for Press<B, R> {
     ghost coded = { Prim.hlevel (codes, coded_repository) };
 
     ghost view = { λ p. record {
-        page = p.writer.desk.shown.value;
-        pending = drop p.writer.behind p.writer.log.items;
+      page = p.writer.desk.shown.value;
+      pending = drop p.writer.behind p.writer.log.items;
     } };
 
     ghost invariant = { λ p. IsPage B.book B.hooks.vetoes B.opening p.writer.desk.shown.value };
@@ -87,7 +87,11 @@ impl<B: Naming, R: Wait + Drop> Press<B, R> {
         ensures ok { OnOk result (self.new.pending ≡ []) }
         ensures err { OnErr result (self.new ≡ self.old) }
     {
-        replace_with(&mut self.writer, &self.rt, |writer, rt| writer.publish_as::<Shows<B>, R>(rt))
+        replace_with(
+            &mut self.writer,
+            &self.rt,
+            |writer, rt| writer.publish_as::<Shows<B>, R>(rt),
+        )
     }
 
     /// One more reader.
