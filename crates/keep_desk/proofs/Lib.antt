@@ -1,0 +1,4 @@
+pub mod Answering
+pub mod Closing
+pub mod Counting
+pub mod Settling

@@ -1,0 +1,19 @@
+use Rattle.std.proofs.Common.{◌∙◌, ap, sym}
+use Rattle.keep_journal.specs.History.{length_of}
+use Rattle.keep_register.specs.Pages.{PageState}
+use Rattle.keep_pass.proofs.Paging.{page_next}
+use Rattle.keep_desk.proofs.Settling.{one_late}
+use Rattle.keep_desk.proofs.locked.Locked.settle.Goals as goal
+
+pub publish-requires : goal.publish-requires
+publish-requires g c =
+    let book = g.B.Chronicled.book in
+    let rules = g.B.Naming.hooks.vetoes in
+    let opening = g.B.Naming.opening in
+    let p = c.self.inside.press.page in
+    let es = c.self.inside.register in
+    let late = one_late book rules opening es p c.self.inside.press.pending c.page.ensures.list c.self.invariant.0
+    (λ same. c.if-length.false (c.length.ensures ∙ (ap (λ (q : PageState). length_of q.sheet.events) c.page.ensures.page ∙ (same ∙ sym c.length-2.ensures.length)))) in
+    let step = c.in_ok-hand_in.ensures.ready late.event late.goes_on late.waits in
+    rw (c.in_ok-hand_in.ensures.page, step.1)
+    (page_next book rules opening p c.page.ensures.list step.0 es late.event late.goes_on step.2 c.length-2.ensures.history)

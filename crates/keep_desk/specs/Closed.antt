@@ -1,0 +1,31 @@
+-- What closing a desk tells.
+use Rattle.std.specs.Prelude.{◌≡◌, ℕ, ◌+◌, ◌≤◌, List, length, sum_by}
+use Rattle.std.specs.List.{All}
+use mathlib.Core.List.{IsPrefix}
+use Rattle.keep_journal.specs.History.{length_of}
+use Rattle.keep_journal.specs.declared.event.Event.{Event}
+use Rattle.keep_hooks.specs.Guards.{Rule}
+use Rattle.keep_ledger.specs.LedgerState.{LedgerState}
+use Rattle.keep_pages.specs.Histories.{state_of, IsHistory}
+use Rattle.keep_pass.specs.Known.{Known}
+use Rattle.keep_desk.specs.declared.answers.NotOpened.{NotOpened}
+use Rattle.keep_desk.specs.declared.answers.NotOpened.TheVariants.{Memory, NoPass}
+
+-- how many events these passes count
+abbrev pub count_of : List Known → ℕ
+count_of passes = sum_by (λ p. p.counted) passes
+
+-- the book is what a legal list of events left of the one that the desk was opened with; what each pass has seen begins that list, and its events were counted by the passes: by these, if they are all
+pub record IsClosed (rules : List Rule) (opening : LedgerState) (parts : ℕ) (passes : List Known) (now : LedgerState) : Type 0 where
+  pub since : List Event
+  pub state : now ≡ state_of opening since
+  pub history : IsHistory rules opening since
+  pub begins : All (λ p. IsPrefix p.seen since) passes
+  pub longer : length_of now.events ≡ length_of opening.events + length since
+  pub least : count_of passes ≤ length since
+  pub whole : length passes ≡ parts → length since ≡ count_of passes
+
+-- what is handed back
+abbrev pub keeper_of : {K : Type 0} → NotOpened K → K
+keeper_of (Memory keeper) = keeper
+keeper_of (NoPass keeper) = keeper

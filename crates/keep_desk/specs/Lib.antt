@@ -1,0 +1,4 @@
+pub mod Answered
+pub mod Closed
+pub mod Held
+pub mod Pressed

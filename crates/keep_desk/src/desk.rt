@@ -1,0 +1,138 @@
+ghost use Rattle.std.specs.Prelude.{◌≡◌, ◌<◌, ◌≤◌, length, IfErr, IfOk};
+ghost use mathlib.Core.List.{IsPrefix};
+ghost use Rattle.keep_ledger.specs.Sums.{AreSums};
+ghost use Rattle.keep_ledger.specs.declared.request.Request.TheVariants as request;
+ghost use Rattle.keep_pages.specs.Histories.{IsLegal};
+ghost use Rattle.keep_register.specs.Asked.{counted_after};
+ghost use Rattle.keep_desk.specs.Answered.{IsAnswered, has_event};
+ghost use Rattle.keep_desk.specs.Closed.{IsClosed, keeper_of};
+ghost use Rattle.keep_pass.specs.Known.{AreFresh};
+
+use crate::answers::{DeskError, NotOpened};
+use crate::locked::Locked;
+use crate::opening::{Wanting, passes_of, press_of};
+use keep_change::Planned;
+use keep_chronicle::Opened;
+use keep_ledger::{Request, Told};
+use keep_pass::{Pass, Shown};
+use keep_register::{Keeper, Naming, Register};
+use std::alloc::Global;
+use std::marker::PhantomData;
+use std::sync::ledger::Blank;
+use std::sync::{Mutex, Wait};
+
+/// A book under a lock, whose pages are published: views take no lock.
+///
+/// It carries the type of what is locked, so that `view` stands where nothing that waits is in sight.
+pub struct Desk<B: Naming, L> {
+    locked: Mutex<L>,
+    of: PhantomData<B>,
+}
+
+impl<B: Naming, L> Desk<B, L> {
+    /// Shows the pass what is published now. It waits for nobody.
+    pub fn view<'a>(&self, pass: &'a mut Pass<B>) -> Shown<'a, B>
+        ensures same { result.pass.ghost_name ≡ pass.entry.ghost_name }
+        ensures begins { IsPrefix pass.old.seen result.pass.now.seen }
+        ensures legal { IsLegal B.hooks.vetoes B.opening result.pass.now.seen }
+        ensures counted { result.pass.now.counted ≡ pass.old.counted }
+    {
+        Shown::of(pass)
+    }
+}
+
+impl<B: Naming, R: Wait + Drop, K: Keeper> Desk<B, Locked<B, R, K>> {
+    /// Puts the book under a lock, and makes so many passes. The list of events and the counts are new.
+    pub fn open(
+        alloc: Global,
+        rt: R,
+        keeper: K,
+        opened: Opened,
+        blank: Blank,
+        passes: usize,
+    ) -> Result<(Self, Vec<Pass<B>>), NotOpened<K>>
+        requires history { opened.sight.book ≡ B.book }
+        requires opening { K.ledger keeper ≡ B.opening }
+        requires hooks { K.hooks keeper ≡ B.hooks }
+        requires sums { AreSums (K.ledger keeper).events (K.hooks keeper).watches (K.tallies keeper) }
+        requires counts { (blank.name ≡ B.name) × (blank.parts ≡ B.parts) × (blank.parts ≡ passes) }
+        requires passes { (0 < passes) × (passes ≤ 64) }
+        ensures long { IfOk result (λ made. length made.1.items ≡ passes) }
+        ensures fresh { IfOk result (λ made. AreFresh made.1.items) }
+        ensures handed { IfErr result (λ refusal. keeper_of refusal ≡ keeper) }
+    {
+        let at = keeper.history().length();
+        let Ok(press) = press_of::<B, R, K>(alloc, rt, &keeper, &opened.sight, passes) else {
+            return Err(NotOpened::Memory(keeper));
+        };
+        let (counts, mut rest) = blank.open::<B>();
+        match passes_of(alloc, &press, &opened.sight, at, &mut rest, passes) {
+            Ok(made) => {
+                let register = Register::new(keeper, opened, counts);
+                let locked = Locked::new(alloc, register, press, rest);
+                let desk = Desk {
+                    locked: Mutex::new(locked),
+                    of: PhantomData,
+                };
+                Ok((desk, made))
+            }
+            Err(Wanting::Memory) => Err(NotOpened::Memory(keeper)),
+            Err(Wanting::Place) => Err(NotOpened::NoPass(keeper)),
+        }
+    }
+
+    /// Makes a change, as the book does.
+    pub fn commit<W: Wait>(
+        &self,
+        rt: &W,
+        pass: &mut Pass<B>,
+        planned: Planned,
+    ) -> Result<Told, DeskError>
+        ensures answered { IsAnswered B.hooks.vetoes B.opening (request.Commit planned) pass.old pass.new result }
+        ensures begins { IsPrefix pass.old.seen pass.new.seen }
+        ensures legal { IsLegal B.hooks.vetoes B.opening pass.new.seen }
+        ensures counted { pass.new.counted ≡ counted_after (has_event result) pass.old.counted }
+    {
+        self.locked.lock(rt).change(pass, Request::Commit(planned))
+    }
+
+    /// Takes the change back.
+    pub fn undo<W: Wait>(&self, rt: &W, pass: &mut Pass<B>, n: u64) -> Result<Told, DeskError>
+        ensures answered { IsAnswered B.hooks.vetoes B.opening (request.Undo n) pass.old pass.new result }
+        ensures begins { IsPrefix pass.old.seen pass.new.seen }
+        ensures legal { IsLegal B.hooks.vetoes B.opening pass.new.seen }
+        ensures counted { pass.new.counted ≡ counted_after (has_event result) pass.old.counted }
+    {
+        self.locked.lock(rt).change(pass, Request::Undo(n))
+    }
+
+    /// Makes the change again, at its place.
+    pub fn redo<W: Wait>(&self, rt: &W, pass: &mut Pass<B>, n: u64) -> Result<Told, DeskError>
+        ensures answered { IsAnswered B.hooks.vetoes B.opening (request.Redo n) pass.old pass.new result }
+        ensures begins { IsPrefix pass.old.seen pass.new.seen }
+        ensures legal { IsLegal B.hooks.vetoes B.opening pass.new.seen }
+        ensures counted { pass.new.counted ≡ counted_after (has_event result) pass.old.counted }
+    {
+        self.locked.lock(rt).change(pass, Request::Redo(n))
+    }
+
+    /// Makes all changes up to n final.
+    pub fn empty<W: Wait>(&self, rt: &W, pass: &mut Pass<B>, n: u64) -> Result<Told, DeskError>
+        ensures answered { IsAnswered B.hooks.vetoes B.opening (request.Empty n) pass.old pass.new result }
+        ensures begins { IsPrefix pass.old.seen pass.new.seen }
+        ensures legal { IsLegal B.hooks.vetoes B.opening pass.new.seen }
+        ensures counted { pass.new.counted ≡ counted_after (has_event result) pass.old.counted }
+    {
+        self.locked.lock(rt).change(pass, Request::Empty(n))
+    }
+
+    /// Takes the passes in, and gives the book back. Pages that are still read are waited for.
+    pub fn close(self, passes: Vec<Pass<B>>) -> K
+        ensures closed { IsClosed B.hooks.vetoes B.opening B.parts passes.items (K.ledger result) }
+        ensures hooks { K.hooks result ≡ B.hooks }
+        ensures sums { AreSums (K.ledger result).events (K.hooks result).watches (K.tallies result) }
+    {
+        let Desk { locked, of: _ } = self;
+        locked.into_inner().close(passes)
+    }
+}

@@ -1,0 +1,192 @@
+ghost use Rattle.std.specs.Prelude.{◌≡◌, [], ◌∷◌, ◌++◌, IfOk, OnErr, OnOk, length};
+ghost use Rattle.std.specs.List.{All};
+ghost use mathlib.Core.List.{IsPrefix};
+ghost use Rattle.keep_journal.specs.declared.event.Event as the_event;
+ghost use Rattle.keep_ledger.specs.Sums.{AreSums};
+ghost use Rattle.keep_pages.specs.Histories.{IsLegal};
+ghost use Rattle.keep_register.specs.Asked.{WasAsked, counted_after, is_in};
+ghost use Rattle.keep_register.specs.Pages.{events_on};
+ghost use Rattle.keep_desk.specs.Answered.{IsAnswered, has_event, number_in};
+ghost use Rattle.keep_desk.specs.Closed.{IsClosed, count_of};
+ghost use Rattle.keep_desk.specs.Held.{HasStep, Waits};
+
+use crate::answers::DeskError;
+use crate::press::Press;
+use keep_ledger::{Refusal, Request, Told};
+use keep_pass::Pass;
+use keep_register::{Keeper, Naming, Register};
+use std::alloc::{AllocError, Global};
+use std::marker::Model;
+use std::sync::Wait;
+use std::sync::ledger::Share;
+
+/// What lies under a desk's lock: the book with the list of its events, and the end from which pages are published.
+#[derive(Drop)]
+pub struct Locked<B: Naming, R: Wait + Drop, K: Keeper> {
+    alloc: Global,
+    register: Register<B, K>,
+    press: Press<B, R>,
+    /// Where the passes' parts of the counts come together.
+    rest: Share<B>,
+}
+
+impl<B: Naming, R: Wait + Drop, K: Keeper> Model for Locked<B, R, K> {
+    ghost use Rattle.std.specs.Prelude.{◌≡◌};
+    ghost use Rattle.keep_register.specs.Pages.{events_on};
+    ghost use Rattle.keep_desk.specs.Held.{Held, IsUpTo};
+
+    ghost Value = { Held };
+
+    ghost view = { λ l. record { journal = l.register; published = events_on l.press.page } };
+
+    ghost invariant = { λ l. IsUpTo B.book l.register l.press.page l.press.pending
+        × (l.rest.parts ≡ 0)
+        × (l.rest.amount ≡ 0) };
+}
+
+impl<B: Naming, R: Wait + Drop, K: Keeper> Locked<B, R, K> {
+    pub(crate) fn new(
+        alloc: Global,
+        register: Register<B, K>,
+        press: Press<B, R>,
+        rest: Share<B>,
+    ) -> Locked<B, R, K>
+        requires page { events_on press.page ≡ register }
+        requires pending { press.pending ≡ [] }
+        requires rest { (rest.parts ≡ 0) × (rest.amount ≡ 0) }
+    {
+        Locked {
+            alloc,
+            register,
+            press,
+            rest,
+        }
+    }
+
+    /// Publishes an event that came late, if there is one.
+    fn settle(&mut self) -> Result<(), AllocError>
+        ensures journal { self.new.journal ≡ self.old.journal }
+        ensures ok { OnOk result (self.new.published ≡ self.old.journal) }
+        ensures err { OnErr result (self.new.published ≡ self.old.published) }
+    {
+        if self.press.page().length() == self.register.length() {
+            return Ok(());
+        }
+        hand_in(self.alloc, &self.register, &mut self.press)?;
+        self.press.publish()?;
+        Ok(())
+    }
+
+    /// Publishes an event that came late before, does what is asked, and publishes the event of that.
+    pub(crate) fn change(&mut self, pass: &mut Pass<B>, request: Request) -> Result<Told, DeskError>
+        ensures answered { IsAnswered B.hooks.vetoes B.opening request pass.old pass.new result }
+        ensures begins { IsPrefix pass.old.seen pass.new.seen }
+        ensures legal { IsLegal B.hooks.vetoes B.opening pass.new.seen }
+        ensures counted { pass.new.counted ≡ counted_after (has_event result) pass.old.counted }
+        ensures published { IfOk result (λ _. self.new.published ≡ self.new.journal) }
+    {
+        pass.leave();
+        if let Err(AllocError) = self.settle() {
+            return Err(DeskError::Refused(Refusal::Memory));
+        }
+        self.tell(pass);
+        let reply = self.ask(pass, request);
+        if let Some(number) = number_in(&reply) {
+            if let Err(AllocError) = self.settle() {
+                return Err(DeskError::Late(number));
+            }
+            self.tell(pass);
+        }
+        match reply {
+            Ok(told) => Ok(told),
+            Err(refusal) => Err(DeskError::Refused(refusal)),
+        }
+    }
+
+    /// Tells the pass of all events.
+    fn tell(&mut self, pass: &mut Pass<B>)
+        ensures same { self.new ≡ self.old }
+        ensures seen { pass.new.seen ≡ self.old.journal }
+        ensures begins { IsPrefix pass.old.seen pass.new.seen }
+        ensures counted { pass.new.counted ≡ pass.old.counted }
+        ensures legal { IsLegal B.hooks.vetoes B.opening pass.new.seen }
+    {
+        pass.learn(&mut self.register);
+    }
+
+    /// Asks where all events are published. The event of an accepted request isn't yet.
+    fn ask(&mut self, pass: &mut Pass<B>, request: Request) -> Result<Told, Refusal>
+        requires { self.old.published ≡ self.old.journal }
+        ensures asked { WasAsked B.hooks.vetoes B.opening request result self.old.journal self.new.journal }
+        ensures published { self.new.published ≡ self.old.published }
+        ensures seen { pass.new.seen ≡ pass.old.seen }
+        ensures counted { pass.new.counted ≡ counted_after (is_in result) pass.old.counted }
+    {
+        pass.ask(&mut self.register, request)
+    }
+
+    /// Takes the passes in, and gives the book back.
+    pub(crate) fn close(self, passes: Vec<Pass<B>>) -> K
+        ensures closed { IsClosed B.hooks.vetoes B.opening B.parts passes.items (K.ledger result) }
+        ensures hooks { K.hooks result ≡ B.hooks }
+        ensures sums { AreSums (K.ledger result).events (K.hooks result).watches (K.tallies result) }
+    {
+        let Locked {
+            alloc: _,
+            mut register,
+            press: _press,
+            mut rest,
+        } = self;
+        take_in(&mut register, passes, &mut rest);
+        register.close(&mut rest)
+    }
+}
+
+/// The number of the change that an answer is about, where its event is in.
+fn number_in(reply: &Result<Told, Refusal>) -> Option<u64>
+    ensures { result ≡ number_in reply.now }
+{
+    match reply {
+        Ok(told) => Some(told.number),
+        Err(Refusal::Unsettled(number)) => Some(*number),
+        Err(_) => None,
+    }
+}
+
+/// Sees to it that the step of the last event waits to be published.
+fn hand_in<B: Naming, R: Wait + Drop, K: Keeper>(
+    alloc: Global,
+    register: &Register<B, K>,
+    press: &mut Press<B, R>,
+) -> Result<(), AllocError>
+    ensures page { press.new.page ≡ press.old.page }
+    ensures ready { (event : the_event.Event) → events_on press.old.page ++ event ∷ [] ≡ register.now
+        → Waits B.book register.now event press.old.pending
+        → OnOk result (HasStep B.book register.now event press.new.pending) }
+    ensures same { OnErr result (press.new.pending ≡ press.old.pending) }
+{
+    if press.is_waiting() {
+        return Ok(());
+    }
+    let step = register.last_step(alloc)?;
+    press.append(step)?;
+    Ok(())
+}
+
+/// Takes the passes in: what each has seen begins the list, and their counts come together.
+fn take_in<B: Naming, K: Keeper>(
+    register: &mut Register<B, K>,
+    mut passes: Vec<Pass<B>>,
+    rest: &mut Share<B>,
+)
+    requires { (rest.old.parts ≡ 0) × (rest.old.amount ≡ 0) }
+    ensures same { register.new ≡ register.old }
+    ensures begins { All (λ p. IsPrefix p.seen register.old) passes.items }
+    ensures amount { rest.new.amount ≡ count_of passes.items }
+    ensures parts { rest.new.parts ≡ length passes.items }
+{
+    while let Some(pass) = passes.pop() {
+        let share = pass.close(register);
+        rest.merge(share);
+    }
+}
