@@ -14,8 +14,8 @@ without_changes state numbers stopped = record state {
   faulted = state.faulted || is_stopped_by_fault stopped;
 }
 
--- change n is taken back with all that leans on it, as far as that comes; the numbers and what stopped it are written, and
--- alone decide on what is left; by its rules the book accepts each of the undos
+-- change n is taken back with all that leans on it, as far as that comes; the numbers and what stopped it are
+-- written, and alone decide on what is left; by its rules the book accepts each of the undos
 pub record Cascaded (state : State) (n : ℕ) (written : List ℕ) (after : State) : Type 0 where
   pub numbers : List ℕ
   pub stopped : Option Refusal

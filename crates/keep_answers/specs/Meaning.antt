@@ -26,9 +26,9 @@ use Rattle.keep_answers.specs.declared.meant.Meant.TheVariants as meant
 use Rattle.keep_answers.specs.declared.meant.Topic.{Topic}
 use Rattle.keep_answers.specs.declared.meant.Topic.TheVariants as topic
 
--- what a command means: a job, a file to add or to drop by itself, a revision, a change to take back with all that leans
--- on it, something to tell, the noted repository of a name to compare, a snapshot to restore, a note to take under a name,
--- and where the hook of a name is
+-- what a command means: a job, a file to add or to drop by itself, a revision, a change to take back with all that
+-- leans on it, something to tell, the noted repository of a name to compare, a snapshot to restore, a note to take
+-- under a name, and where the hook of a name is
 pub data MeantData : Type 0 where
   Job : JobData → MeantData
   Add : Kind → List ℕ → MeantData

@@ -50,7 +50,8 @@ pub(crate) fn write_reply<W: Write>(
     }
 }
 
-/// Writes the answer to changes that were to be taken back: their numbers, where there are any, and why there are no more.
+/// Writes the answer to changes that were to be taken back: their numbers, where there are any, and why there are no
+/// more.
 #[tactic(auto, using(crate::proofs::KnownLemmas::puts_both))]
 pub(crate) fn write_taken<W: Write>(
     alloc: Global,

@@ -1,4 +1,5 @@
--- The rule of a chronicle, and what its steps tell. Each note says which pen writes the next one, and to write it spends that pen: so who has it knows that nothing was written since.
+-- The rule of a chronicle, and what its steps tell. Each note says which pen writes the next one, and to write it
+-- spends that pen: so who has it knows that nothing was written since.
 use Rattle.std.specs.Prelude.{◌≡◌, ℕ, ◌<◌, true, List, [], ◌∷◌, ◌++◌, length}
 use Rattle.logbook.specs.Pages.{Cell, Step, View, cell, may_make}
 use Rattle.keep_chronicle.specs.Chronicle.{events_of}

@@ -1,5 +1,5 @@
-//! Tokens of one list of events that only grows. They take no memory: of two that were seen, the shorter list begins the
-//! longer.
+//! Tokens of one list of events that only grows. They take no memory: of two that were seen, the shorter list begins
+//! the longer.
 #![tactic(auto)]
 
 mod chronicle;

@@ -27,7 +27,9 @@ number_in (Ok told) = Some told.number
 number_in (Err (Unsettled n)) = Some n
 number_in (Err refusal) = None
 
--- the request was asked after the events `on`, and these have been seen then: what the book's answer makes of them; of an event that is late the pass has seen all that comes before it; where there is no memory for an event that was late before, nothing was asked
+-- the request was asked after the events `on`, and these have been seen then: what the book's answer makes of them;
+-- of an event that is late the pass has seen all that comes before it; where there is no memory for an event that was
+-- late before, nothing was asked
 abbrev pub Tells : List Rule → LedgerState → Request → Result Told DeskError → List Event → List Event → Type 0
 Tells rules opening request (Ok told) on seen = WasAsked rules opening request (Ok told) on seen
 Tells rules opening request (Err (Late n)) on seen = let b = state_of opening on in

@@ -15,7 +15,8 @@ use Rattle.keep_desk.specs.declared.answers.NotOpened.TheVariants.{Memory, NoPas
 abbrev pub count_of : List Known → ℕ
 count_of passes = sum_by (λ p. p.counted) passes
 
--- the book is what a legal list of events left of the one that the desk was opened with; what each pass has seen begins that list, and its events were counted by the passes: by these, if they are all
+-- the book is what a legal list of events left of the one that the desk was opened with; what each pass has seen
+-- begins that list, and its events were counted by the passes: by these, if they are all
 pub record IsClosed (rules : List Rule) (opening : LedgerState) (parts : ℕ) (passes : List Known) (now : LedgerState) : Type 0 where
   pub since : List Event
   pub state : now ≡ state_of opening since

@@ -13,7 +13,8 @@ use Rattle.keep_pages.specs.Sheet.{SheetState, followed, sheet_of}
 abbrev pub IsFormedEvent : Event → Type 0
 IsFormedEvent e = IfSome (commit_of e) (λ n. IsWellFormed n.change)
 
--- there is a number left for the event, it is about a change that isn't final, and fits; and that change can be turned in the repository
+-- there is a number left for the event, it is about a change that isn't final, and fits; and that change can be
+-- turned in the repository
 pub record CanFollow (s : SheetState) (e : Event) : Type 0 where
   pub room : length_of s.events + 1 < 2 ^ 64
   pub unfinal : final_number s.events < e.number

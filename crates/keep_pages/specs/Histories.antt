@@ -46,7 +46,8 @@ shown_at b es = let s = state_of b es in shown_of s.opening s.events s.live
 abbrev pub IsOpenLedger : LedgerState → Type 0
 IsOpenLedger b = IsOpen b.opening b.events b.live
 
--- the event is in: it is that of some request which is told of it, so neither the ledger nor these rules object. Moves that are left due make no difference
+-- the event is in: it is that of some request which is told of it, so neither the ledger nor these rules object.
+-- Moves that are left due make no difference
 pub record IsAccepted (rules : List Rule) (b : LedgerState) (e : Event) : Type 0 where
   pub request : Request
   pub reply : Replies b rules request (Ok (told_of b.events request))

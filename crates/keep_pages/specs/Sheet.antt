@@ -17,7 +17,8 @@ pub record SheetState : Type 0 where
 abbrev pub sheet_of : LedgerState → SheetState
 sheet_of b = record { events = b.events; live = b.live }
 
--- the sheet after an event: it is posted under the next number, and the change that it is about is turned in the repository
+-- the sheet after an event: it is posted under the next number, and the change that it is about is turned in the
+-- repository
 abbrev pub followed : SheetState → Event → SheetState
 followed s e = record {
   events = posted s.events (length_of s.events + 1) e;

@@ -3,7 +3,8 @@ use Rattle.std.specs.Prelude.{◌≡◌, ℕ, Bool, false, List, []}
 use Rattle.std.specs.List.{All}
 use Rattle.keep_journal.specs.declared.event.Event.{Event}
 
--- the events that it was shown or told of since the desk was opened, whether it reads a page, and how many of its own events are in
+-- the events that it was shown or told of since the desk was opened, whether it reads a page, and how many of its own
+-- events are in
 pub record Known : Type 0 where
   pub seen : List Event
   pub shown : Bool

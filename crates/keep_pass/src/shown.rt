@@ -23,8 +23,8 @@ impl<'a, B: Naming> Shown<'a, B> {
         Shown { pass }
     }
 
-    /// The repository at the moment that the pass has come to. It is there always but where the desk is gone, or no page
-    /// can be read.
+    /// The repository at the moment that the pass has come to. It is there always but where the desk is gone, or
+    /// no page can be read.
     pub fn get(&self) -> Option<View<'_>>
         ensures { IfSome result (λ view. view ≡ shown_at B.opening self.now.pass.now.seen) }
     {

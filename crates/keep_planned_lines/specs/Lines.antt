@@ -1,5 +1,5 @@
--- That the answers to lines lose nothing: to jobs, revisions and cascades. What is read, noted, compared or armed leaves
--- the book as it is; a file that is added or dropped by hand is no job.
+-- That the answers to lines lose nothing: to jobs, revisions and cascades. What is read, noted, compared or armed
+-- leaves the book as it is; a file that is added or dropped by hand is no job.
 use Rattle.std.specs.Prelude.{List, ◌∷◌, ℕ, IfOk}
 use Rattle.keep_repo.specs.Repository.{Repository}
 use Rattle.keep_sound.specs.Met.{AddsPart}

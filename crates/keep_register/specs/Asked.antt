@@ -26,7 +26,8 @@ abbrev pub IsIn : List Rule → LedgerState → Request → List Event → List 
 IsIn rules opening request on now = let b = state_of opening on in
     Replies b rules request (Ok (told_of b.events request)) × (now ≡ on ++ event_of b request ∷ [])
 
--- the request was asked after the events `on`, and got this answer: where it is told, or in and unsettled, its event is the next one; else the list stays, and but for the shelf's fault the refusal is the ledger's
+-- the request was asked after the events `on`, and got this answer: where it is told, or in and unsettled, its event
+-- is the next one; else the list stays, and but for the shelf's fault the refusal is the ledger's
 abbrev pub WasAsked : List Rule → LedgerState → Request → Result Told Refusal → List Event → List Event → Type 0
 WasAsked rules opening request (Ok told) on now =
     IsIn rules opening request on now × (told ≡ told_of (state_of opening on).events request)

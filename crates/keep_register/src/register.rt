@@ -18,8 +18,8 @@ use std::alloc::{AllocError, Global};
 use std::marker::Model;
 use std::sync::ledger::{Book, Share};
 
-/// A keeper, with the list of the events that it accepted since the desk was opened, each counted once. The list is told
-/// for clauses alone.
+/// A keeper, with the list of the events that it accepted since the desk was opened, each counted once. The list is
+/// told for clauses alone.
 #[derive(Drop)]
 pub struct Register<B: Naming, K: Keeper> {
     keeper: K,
