@@ -1,4 +1,6 @@
 pub mod Answering
+pub mod Cascading
 pub mod Closing
 pub mod Counting
+pub mod Crossing
 pub mod Settling

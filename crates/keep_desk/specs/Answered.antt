@@ -28,18 +28,18 @@ number_in (Err (Unsettled n)) = Some n
 number_in (Err refusal) = None
 
 -- the request was asked after the events `on`, and these have been seen then: what the book's answer makes of them;
--- of an event that is late the pass has seen all that comes before it; where there is no memory for an event that was
--- late before, nothing was asked
+-- of an event that is late the pass has seen all that comes before it
 abbrev pub Tells : List Rule → LedgerState → Request → Result Told DeskError → List Event → List Event → Type 0
 Tells rules opening request (Ok told) on seen = WasAsked rules opening request (Ok told) on seen
 Tells rules opening request (Err (Late n)) on seen = let b = state_of opening on in
     Replies b rules request (Ok (told_of b.events request)) × (n ≡ about b.events request) × (seen ≡ on)
-Tells rules opening request (Err (Refused refusal)) on seen =
-    WasAsked rules opening request (Err refusal) on seen ⊎ ((refusal ≡ Memory) × (seen ≡ on))
+Tells rules opening request (Err (Refused refusal)) on seen = WasAsked rules opening request (Err refusal) on seen
 
--- the answer is the book's, after a list of events that begins with all that the pass had seen
+-- the answer is the book's, after a list of events that begins with all that the pass had seen; or there was no memory
+-- for an event that was late before, and nothing was asked
 pub record IsAnswered (rules : List Rule) (opening : LedgerState) (request : Request) (before after : Known)
     (answer : Result Told DeskError) : Type 0 where
   pub on : List Event
   pub begins : IsPrefix before.seen on
   pub tells : Tells rules opening request answer on after.seen
+      ⊎ ((answer ≡ Err (Refused Memory)) × (after.seen ≡ on))

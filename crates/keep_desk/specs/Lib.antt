@@ -1,4 +1,6 @@
 pub mod Answered
+pub mod Cascade
 pub mod Closed
+pub mod Crew
 pub mod Held
 pub mod Pressed

@@ -1,3 +1,4 @@
+use keep_crew::NotPlanned;
 use keep_ledger::Refusal;
 
 /// Why a desk didn't tell.
@@ -18,4 +19,13 @@ pub enum NotOpened<K> {
     Memory(K),
     /// There was no place for one of the readers.
     NoPass(K),
+}
+
+/// Why an operator of a crew didn't tell.
+#[derive(Drop)]
+pub enum NotTold {
+    /// It had no change to ask for.
+    Unplanned(NotPlanned),
+    /// The desk's answer.
+    Unanswered(DeskError),
 }

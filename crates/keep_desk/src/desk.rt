@@ -1,16 +1,18 @@
-ghost use Rattle.std.specs.Prelude.{◌≡◌, ◌<◌, ◌≤◌, length, IfErr, IfOk};
+ghost use Rattle.std.specs.Prelude.{◌≡◌, ◌+◌, ◌<◌, ◌≤◌, length, IfErr, IfOk};
 ghost use mathlib.Core.List.{IsPrefix};
 ghost use Rattle.keep_ledger.specs.Sums.{AreSums};
 ghost use Rattle.keep_ledger.specs.declared.request.Request.TheVariants as request;
 ghost use Rattle.keep_pages.specs.Histories.{IsLegal};
 ghost use Rattle.keep_register.specs.Asked.{counted_after};
 ghost use Rattle.keep_desk.specs.Answered.{IsAnswered, has_event};
+ghost use Rattle.keep_desk.specs.Cascade.{IsTakenBack};
 ghost use Rattle.keep_desk.specs.Closed.{IsClosed, keeper_of};
 ghost use Rattle.keep_pass.specs.Known.{AreFresh};
 
 use crate::answers::{DeskError, NotOpened};
 use crate::locked::Locked;
 use crate::opening::{Wanting, passes_of, press_of};
+use crate::taken_back::TakenBack;
 use keep_change::Planned;
 use keep_chronicle::Opened;
 use keep_ledger::{Request, Told};
@@ -104,6 +106,20 @@ impl<B: Naming, R: Wait + Drop, K: Keeper> Desk<B, Locked<B, R, K>> {
         ensures counted { pass.new.counted ≡ counted_after (has_event result) pass.old.counted }
     {
         self.locked.lock(rt).change(pass, Request::Undo(n))
+    }
+
+    /// Takes the change back with all that leans on it, from the greatest number down, each by an undo of its own that
+    /// is published before the next is asked for. No other pass can ask in between.
+    ///
+    /// Where an undo is refused or late, or its change is left unsettled, no more are asked for. `LeanedOn` is no refusal
+    /// of any: what leans on a change is taken back before it.
+    pub fn undo_with<W: Wait>(&self, rt: &W, pass: &mut Pass<B>, n: u64) -> TakenBack
+        ensures taken_back { IsTakenBack B.opening n pass.old pass.new result }
+        ensures begins { IsPrefix pass.old.seen pass.new.seen }
+        ensures legal { IsLegal B.hooks.vetoes B.opening pass.new.seen }
+        ensures counted { pass.new.counted ≡ pass.old.counted + length result.numbers.items }
+    {
+        self.locked.lock(rt).undo_with(pass, n)
     }
 
     /// Makes the change again, at its place.

@@ -2,12 +2,17 @@
 #![tactic(auto)]
 
 mod answers;
+mod crew;
 mod desk;
 mod locked;
 mod opening;
 mod press;
+mod taken_back;
 
-pub use answers::{DeskError, NotOpened};
+pub use answers::{DeskError, NotOpened, NotTold};
+pub use crew::Operator;
 pub use desk::Desk;
+pub use keep_crew::{Gate, OpenGate, Plans, Work};
 pub use keep_pass::{Pass, Shown};
 pub use locked::Locked;
+pub use taken_back::TakenBack;

@@ -1,17 +1,21 @@
-ghost use Rattle.std.specs.Prelude.{◌≡◌, [], ◌∷◌, ◌++◌, IfOk, OnErr, OnOk, length};
+ghost use Rattle.std.specs.Prelude.{◌≡◌, ◌+◌, [], ◌∷◌, ◌++◌, IfOk, OnErr, OnOk, length};
 ghost use Rattle.std.specs.List.{All};
 ghost use mathlib.Core.List.{IsPrefix};
 ghost use Rattle.keep_journal.specs.declared.event.Event as the_event;
 ghost use Rattle.keep_ledger.specs.Sums.{AreSums};
-ghost use Rattle.keep_pages.specs.Histories.{IsLegal};
+ghost use Rattle.keep_taken.specs.Taken.{AreTaken};
+ghost use Rattle.keep_book.specs.Cascade.{RefusesOrGives, taken_refusal};
+ghost use Rattle.keep_pages.specs.Histories.{state_of, IsHistory, IsLegal};
 ghost use Rattle.keep_register.specs.Asked.{WasAsked, counted_after, is_in};
 ghost use Rattle.keep_register.specs.Pages.{events_on};
-ghost use Rattle.keep_desk.specs.Answered.{IsAnswered, has_event, number_in};
+ghost use Rattle.keep_desk.specs.Answered.{IsAnswered, Tells, has_event, number_in};
+ghost use Rattle.keep_desk.specs.Cascade.{IsTakenBack};
 ghost use Rattle.keep_desk.specs.Closed.{IsClosed, count_of};
 ghost use Rattle.keep_desk.specs.Held.{HasStep, Waits};
 
 use crate::answers::DeskError;
 use crate::press::Press;
+use crate::taken_back::TakenBack;
 use keep_ledger::{Refusal, Request, Told};
 use keep_pass::Pass;
 use keep_register::{Keeper, Naming, Register};
@@ -85,11 +89,66 @@ impl<B: Naming, R: Wait + Drop, K: Keeper> Locked<B, R, K> {
         ensures counted { pass.new.counted ≡ counted_after (has_event result) pass.old.counted }
         ensures published { IfOk result (λ _. self.new.published ≡ self.new.journal) }
     {
-        pass.leave();
-        if let Err(AllocError) = self.settle() {
+        if let Err(AllocError) = self.catch_up(pass) {
             return Err(DeskError::Refused(Refusal::Memory));
         }
+        self.change_once(pass, request)
+    }
+
+    /// Publishes an event that came late before, and takes the change back with all that leans on it.
+    pub(crate) fn undo_with(&mut self, pass: &mut Pass<B>, n: u64) -> TakenBack
+        ensures taken_back { IsTakenBack B.opening n pass.old pass.new result }
+        ensures begins { IsPrefix pass.old.seen pass.new.seen }
+        ensures legal { IsLegal B.hooks.vetoes B.opening pass.new.seen }
+        ensures counted { pass.new.counted ≡ pass.old.counted + length result.numbers.items }
+        ensures published { result.stopped ≡ None → self.new.published ≡ self.new.journal }
+    {
+        if let Err(AllocError) = self.catch_up(pass) {
+            return TakenBack::refused(self.alloc, Refusal::Memory);
+        }
+        let numbers = match self.taken(n) {
+            Ok(numbers) => numbers,
+            Err(refusal) => return TakenBack::refused(self.alloc, refusal),
+        };
+        for done in 0..numbers.len() {
+            if let Err(error) = self.change_once(pass, Request::Undo(numbers[done])) {
+                return TakenBack::stopped_at(numbers, done, error);
+            }
+        }
+        TakenBack {
+            numbers,
+            stopped: None,
+        }
+    }
+
+    /// Ends the pass's reading, publishes an event that came late, and tells the pass of all events.
+    fn catch_up(&mut self, pass: &mut Pass<B>) -> Result<(), AllocError>
+        ensures journal { self.new.journal ≡ self.old.journal }
+        ensures published { OnOk result (self.new.published ≡ self.new.journal) }
+        ensures seen { OnOk result (pass.new.seen ≡ self.new.journal) }
+        ensures same { OnErr result (pass.new.seen ≡ pass.old.seen) }
+        ensures begins { IsPrefix pass.old.seen pass.new.seen }
+        ensures legal { IsLegal B.hooks.vetoes B.opening pass.new.seen }
+        ensures counted { pass.new.counted ≡ pass.old.counted }
+    {
+        pass.leave();
+        self.settle()?;
         self.tell(pass);
+        Ok(())
+    }
+
+    /// Does what is asked where all events are published and told, and publishes the event of that.
+    fn change_once(&mut self, pass: &mut Pass<B>, request: Request) -> Result<Told, DeskError>
+        requires published { self.old.published ≡ self.old.journal }
+        requires seen { pass.old.seen ≡ self.old.journal }
+        requires legal { IsLegal B.hooks.vetoes B.opening pass.old.seen }
+        ensures tells { Tells B.hooks.vetoes B.opening request result self.old.journal pass.new.seen }
+        ensures begins { IsPrefix pass.old.seen pass.new.seen }
+        ensures legal { IsLegal B.hooks.vetoes B.opening pass.new.seen }
+        ensures counted { pass.new.counted ≡ counted_after (has_event result) pass.old.counted }
+        ensures told { IfOk result (λ _. pass.new.seen ≡ self.new.journal) }
+        ensures published { IfOk result (λ _. self.new.published ≡ self.new.journal) }
+    {
         let reply = self.ask(pass, request);
         if let Some(number) = number_in(&reply) {
             if let Err(AllocError) = self.settle() {
@@ -123,6 +182,15 @@ impl<B: Naming, R: Wait + Drop, K: Keeper> Locked<B, R, K> {
         ensures counted { pass.new.counted ≡ counted_after (is_in result) pass.old.counted }
     {
         pass.ask(&mut self.register, request)
+    }
+
+    /// What has to be taken back with change n.
+    fn taken(&self, n: u64) -> Result<Vec<u64>, Refusal>
+        ensures taken { let events = (state_of B.opening self.now.journal).events in
+            RefusesOrGives (taken_refusal events n) (λ numbers. AreTaken events n numbers.items) result }
+        ensures history { IsHistory B.hooks.vetoes B.opening self.now.journal }
+    {
+        self.register.taken(n)
     }
 
     /// Takes the passes in, and gives the book back.

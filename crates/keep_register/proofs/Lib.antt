@@ -1,3 +1,4 @@
-pub mod Telling
-pub mod Recording
+pub mod Crossing
 pub mod Lasting
+pub mod Recording
+pub mod Telling

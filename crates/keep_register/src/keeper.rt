@@ -4,6 +4,8 @@ ghost use Rattle.keep_journal.specs.Opening.{IsOpen};
 ghost use Rattle.keep_ledger.specs.Ends.{heard};
 ghost use Rattle.keep_ledger.specs.Reply.{Replies, about, state_after};
 ghost use Rattle.keep_ledger.specs.Sums.{AreSums};
+ghost use Rattle.keep_taken.specs.Taken.{AreTaken};
+ghost use Rattle.keep_book.specs.Cascade.{RefusesOrGives, taken_refusal};
 
 use keep_book::Book;
 use keep_journal::History;
@@ -35,6 +37,11 @@ pub trait Keeper: Drop + Send {
     fn live(&self) -> &Repo
         ensures { result.now ≡ (ledger self.now).live };
 
+    /// The numbers of the changes that have to be taken back with change n, from the greatest down.
+    fn taken(&self, n: u64) -> Result<Vec<u64>, Refusal>
+        ensures { let events = (ledger self.now).events in
+            RefusesOrGives (taken_refusal events n) (λ numbers. AreTaken events n numbers.items) result };
+
     /// Does what is asked, or refuses it.
     fn ask(&mut self, request: Request) -> Result<Told, Refusal>
         requires { AreSums (ledger self.old).events (hooks self.old).watches (tallies self.old) }
@@ -63,6 +70,10 @@ impl<S: Shelf + Send> Keeper for Book<S> {
 
     fn live(&self) -> &Repo {
         self.ledger().live()
+    }
+
+    fn taken(&self, n: u64) -> Result<Vec<u64>, Refusal> {
+        Book::taken(self, n)
     }
 
     fn ask(&mut self, request: Request) -> Result<Told, Refusal> {

@@ -3,6 +3,8 @@ ghost use mathlib.Core.List.{IsPrefix};
 ghost use Rattle.keep_journal.specs.Opening.{IsOpen};
 ghost use Rattle.keep_journal.specs.declared.event.Event as the_event;
 ghost use Rattle.keep_ledger.specs.Sums.{AreSums};
+ghost use Rattle.keep_taken.specs.Taken.{AreTaken};
+ghost use Rattle.keep_book.specs.Cascade.{RefusesOrGives, taken_refusal};
 ghost use Rattle.keep_chronicle.specs.Chronicle.{events_of};
 ghost use Rattle.keep_pages.specs.Histories.{length_at, state_of, IsHistory, IsLegal};
 ghost use Rattle.keep_register.specs.Asked.{WasAsked, counted_after, is_in};
@@ -85,6 +87,15 @@ impl<B: Naming, K: Keeper> Register<B, K> {
         ensures begins { IsPrefix (events_of seen.now.log) self.new }
     {
         self.chronicle.covers(seen);
+    }
+
+    /// The numbers of the changes that have to be taken back with change n after the list, from the greatest down.
+    pub fn taken(&self, n: u64) -> Result<Vec<u64>, Refusal>
+        ensures taken { let events = (state_of B.opening self.now).events in
+            RefusesOrGives (taken_refusal events n) (λ numbers. AreTaken events n numbers.items) result }
+        ensures history { IsHistory B.hooks.vetoes B.opening self.now }
+    {
+        self.keeper.taken(n)
     }
 
     /// Asks the keeper. An event that is in, settled or not, is written and counted.

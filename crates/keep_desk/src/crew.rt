@@ -1,0 +1,99 @@
+ghost use Rattle.std.specs.Prelude.{◌≡◌, ℕ, ◌<◌, length};
+ghost use Rattle.std.specs.List.{slice_index_or};
+ghost use Rattle.keep_desk.specs.Crew.{DoesWork, HasWorked, PlansAndCommits, as_told};
+
+use crate::answers::{DeskError, NotTold};
+use crate::desk::Desk;
+use crate::locked::Locked;
+use keep_crew::{Gate, Plans, Work, plan_on};
+use keep_ledger::Told;
+use keep_pass::Pass;
+use keep_register::{Keeper, Naming};
+use std::sync::Wait;
+use std::thread::{self, Threads};
+
+/// As many workers as a desk has passes at most, so that each operator has one.
+const MOST_WORKERS: usize = 64;
+
+/// One operator of a crew: its pass, what it is asked for, and once that is done, what came of it.
+#[derive(Drop)]
+pub struct Operator<B: Naming, P: Plans> {
+    pub pass: Pass<B>,
+    pub work: Work<P>,
+    pub answer: Option<Result<Told, NotTold>>,
+}
+
+impl<B: Naming + Send + Sync, R: Wait + Drop + Send, K: Keeper> Desk<B, Locked<B, R, K>> {
+    /// Has each operator do its work, in a thread of its own, and waits for all of them. Where no thread can be made,
+    /// they work one after another.
+    ///
+    /// A worker comes by the gate before its work, and once its answer is there.
+    pub fn run_crew<W: Wait + Threads + Sync, P: Plans, G: Gate + Sync>(
+        &self,
+        rt: &W,
+        operators: &mut [Operator<B, P>],
+        gate: &G,
+    )
+        ensures { (i : ℕ) (d : _) → i < length operators.old
+            → HasWorked B.hooks.vetoes B.opening P.wanted (slice_index_or operators.old i d) (slice_index_or operators.new i d) }
+    {
+        thread::for_each_mut(
+            rt,
+            operators,
+            MOST_WORKERS,
+            &|place, operator| {
+                gate.before(place);
+                self.serve(rt, operator);
+                gate.after(place);
+            },
+        );
+    }
+
+    fn serve<W: Wait, P: Plans>(&self, rt: &W, operator: &mut Operator<B, P>)
+        ensures { HasWorked B.hooks.vetoes B.opening P.wanted operator.old operator.new }
+    {
+        let answer = self.work(rt, &mut operator.pass, &operator.work);
+        operator.answer = Some(answer);
+    }
+
+    /// Does what an operator is asked for.
+    fn work<W: Wait, P: Plans>(
+        &self,
+        rt: &W,
+        pass: &mut Pass<B>,
+        work: &Work<P>,
+    ) -> Result<Told, NotTold>
+        ensures { DoesWork B.hooks.vetoes B.opening P.wanted work.now pass.old pass.new result }
+    {
+        match work {
+            Work::Plan(plans) => self.plan_and_commit(rt, pass, plans),
+            Work::Undo(n) => answer_of(self.undo(rt, pass, *n)),
+            Work::Redo(n) => answer_of(self.redo(rt, pass, *n)),
+            Work::Empty(n) => answer_of(self.empty(rt, pass, *n)),
+        }
+    }
+
+    /// Plans on what the pass shows, without the lock, and commits what was planned.
+    fn plan_and_commit<W: Wait, P: Plans>(
+        &self,
+        rt: &W,
+        pass: &mut Pass<B>,
+        plans: &P,
+    ) -> Result<Told, NotTold>
+        ensures { PlansAndCommits B.hooks.vetoes B.opening (P.wanted plans.now) pass.old pass.new result }
+    {
+        match plan_on(pass, plans) {
+            Ok(planned) => answer_of(self.commit(rt, pass, planned)),
+            Err(why) => Err(NotTold::Unplanned(why)),
+        }
+    }
+}
+
+fn answer_of(reply: Result<Told, DeskError>) -> Result<Told, NotTold>
+    ensures { result ≡ as_told reply }
+{
+    match reply {
+        Ok(told) => Ok(told),
+        Err(error) => Err(NotTold::Unanswered(error)),
+    }
+}

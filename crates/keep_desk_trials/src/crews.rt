@@ -1,0 +1,115 @@
+use crate::adding::Adding;
+use crate::desks::{Scene, play};
+use crate::gates::{LastFirst, Signals, Together};
+use keep_book::Book;
+use keep_desk::{Desk, Gate, Locked, Operator, Pass, Work};
+use keep_register::{Keeper, Naming};
+use keep_shelf::MemoryShelf;
+use std::alloc::{AllocError, Global};
+use std::process::Abort;
+use std::sync::Wait;
+use std::test::Fail;
+use std::thread::Threads;
+use std::time::Clock;
+
+/// Two operators in threads add `a` and `b`, and neither begins before both have come. Either may be told first.
+pub fn both_at_once<
+    N: Naming + Send + Sync,
+    R: Abort + Wait + Threads + Clock + Send + Sync + Drop,
+    K: Keeper,
+>(
+    rt: &R,
+    alloc: Global,
+    desk: &Desk<N, Locked<N, R, K>>,
+    passes: Vec<Pass<N>>,
+) -> Result<Vec<Pass<N>>, Fail> {
+    let gate = Together(Signals::new(rt));
+    let (passes, numbers) = two_add(rt, alloc, desk, passes, &gate)?;
+    assert_eq!(rt; gate.0.given_up(), 0);
+    assert!(rt; numbers.as_slice() == [1, 2].as_slice() || numbers.as_slice() == [2, 1].as_slice());
+    Ok(passes)
+}
+
+/// Two operators in threads add `a` and `b`, and the first doesn't begin before the second is done.
+pub fn last_first<
+    N: Naming + Send + Sync,
+    R: Abort + Wait + Threads + Clock + Send + Sync + Drop,
+    K: Keeper,
+>(
+    rt: &R,
+    alloc: Global,
+    desk: &Desk<N, Locked<N, R, K>>,
+    passes: Vec<Pass<N>>,
+) -> Result<Vec<Pass<N>>, Fail> {
+    let gate = LastFirst(Signals::new(rt));
+    let (passes, numbers) = two_add(rt, alloc, desk, passes, &gate)?;
+    assert_eq!(rt; gate.0.given_up(), 0);
+    assert_eq!(rt; numbers.as_slice(), [2, 1].as_slice());
+    Ok(passes)
+}
+
+/// Has them add, each when the gate lets it. Answers the numbers of the changes that they were told, in their order.
+fn two_add<
+    N: Naming + Send + Sync,
+    R: Wait + Threads + Send + Sync + Drop,
+    K: Keeper,
+    G: Gate + Sync,
+>(
+    rt: &R,
+    alloc: Global,
+    desk: &Desk<N, Locked<N, R, K>>,
+    passes: Vec<Pass<N>>,
+    gate: &G,
+) -> Result<(Vec<Pass<N>>, Vec<u64>), AllocError> {
+    let mut operators = operators_of(alloc, passes)?;
+    desk.run_crew(rt, &mut operators, gate);
+    answers_of(alloc, operators)
+}
+
+/// An operator for each pass: the first adds `a`, the next one `b`.
+fn operators_of<N: Naming>(
+    alloc: Global,
+    passes: Vec<Pass<N>>,
+) -> Result<Vec<Operator<N, Adding>>, AllocError> {
+    let mut operators = Vec::new(alloc);
+    let mut byte = b'a';
+    for pass in passes {
+        let work = Work::Plan(Adding { alloc, byte });
+        operators.push(Operator {
+            pass,
+            work,
+            answer: None,
+        })?;
+        byte = b'b';
+    }
+    Ok(operators)
+}
+
+/// The passes, and the number of the change that each operator was told; 0 where it wasn't.
+fn answers_of<N: Naming>(
+    alloc: Global,
+    operators: Vec<Operator<N, Adding>>,
+) -> Result<(Vec<Pass<N>>, Vec<u64>), AllocError> {
+    let mut passes = Vec::new(alloc);
+    let mut numbers = Vec::new(alloc);
+    for operator in operators {
+        let Operator { pass, answer, .. } = operator;
+        passes.push(pass)?;
+        numbers.push(match answer {
+            Some(Ok(told)) if told.at == told.number => told.number,
+            _ => 0,
+        })?;
+    }
+    Ok((passes, numbers))
+}
+
+#[test]
+fn operators_work_side_by_side(rt: HostRuntime) -> Result<(), Fail> {
+    let alloc = rt.alloc();
+    for scene in [Scene::BothAtOnce, Scene::LastFirst] {
+        let book = Book::open(alloc, MemoryShelf::new(alloc))?;
+        let book = play(rt, alloc, book, scene)?;
+        assert_eq!(rt; book.ledger().history().length(), 2);
+    }
+    Ok(())
+}

@@ -1,0 +1,10 @@
+//! What the operators of a crew are asked for: jobs that plan for themselves, and the backups of a crew.
+#![tactic(auto)]
+
+mod backups;
+mod each_snapshot;
+mod planner;
+
+pub use backups::crew_of;
+pub use each_snapshot::EachSnapshot;
+pub use planner::Planner;
