@@ -1,4 +1,4 @@
-use keep_command::{keepd, tell};
+use keep_command::{NoOperators, keepd, tell};
 use std::alloc::{AllocError, Global};
 use std::io::{self, ErrorKind, Write};
 
@@ -80,7 +80,7 @@ impl Case {
         let mut said = Vec::new(alloc);
         writeln!(writer, "= {}", self.name)?;
         let mut script = self.script.as_slice();
-        let ending = keepd(rt, words.as_slice(), &mut script, writer);
+        let ending = keepd(rt, &NoOperators, words.as_slice(), &mut script, writer);
         let (code, _) = tell(ending, &mut said);
         write!(writer, "-> {code}")?;
         if said.is_empty() {

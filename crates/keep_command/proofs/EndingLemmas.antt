@@ -1,27 +1,48 @@
--- How the program ends after a run, or where it has no memory.
-use Rattle.std.proofs.Common.{Bor, ◌≡◌, ◌∙◌, ◌++◌, ℕ, IfErr, IfOk, List, [], ◌∷◌, Option, Some, None, Result, Ok, Err, ap, append-nil, inl, inr, refl, subst, sym}
-use Rattle.std.specs.Prelude.{◌≢◌}
+-- How the program ends that was to end so, or where nothing is read or written.
+use Rattle.std.proofs.Common.{◌≡◌, ◌∙◌, ℕ, IfErr, IfOk, IsSome, List, [], Option, Some, None, Result, Ok, Err, append-nil, inl, inr, refl, subst, sym}
 use Rattle.std.specs.Io.KnownBytes.{Keeps}
-use Rattle.std.specs.FinMap as map
-use Rattle.keep_shelf.specs.Shelved.{Shelved, stocked}
+use Rattle.std.proofs.KnownBytes.{Keeps-refl}
+use Rattle.keep_folder.specs.declared.error.FolderError.{FolderError}
+use Rattle.keep_folder.specs.declared.error.FolderError.TheVariants as unopened
+use Rattle.keep_jobs.specs.Kits.{KitData}
+use Rattle.keep_answers.proofs.KnownLemmas.{WritesLines-none}
 use Rattle.keep_answers.specs.Known.{WritesLines}
-use Rattle.keep_script.specs.declared.status.Status.{Status}
-use Rattle.keep_script.specs.declared.status.Status.TheVariants.{WriteFailed}
-use Rattle.keep_command.specs.Ending.{ending_after}
-use Rattle.keep_command.specs.Option.{OptionsData, options_view}
-use Rattle.keep_command.specs.Running.{EndsBy, IsShelfBy, IsUntouched, KeepsLines, Runs}
-use Rattle.keep_command.specs.declared.options.Options.{Options}
+use Rattle.keep_script.specs.declared.status.Status.TheVariants.{ScriptTooLong, NoMemory}
+use Rattle.keep_command.specs.Ending.{ending_after, ending_unopened}
+use Rattle.keep_command.specs.Following.{EndsBy, EndsWith, IsNotRun}
+use Rattle.keep_command.specs.Option.{OptionsData}
+use Rattle.keep_command.specs.Running.{IsUntouched, KeepsLines}
 use Rattle.keep_command.specs.declared.ending.Ending.{Ending}
 use Rattle.keep_command.specs.declared.ending.Ending.TheVariants.{Ran}
 
-pub ends-after : {E : Type 0} (r : Result Status E) (ended : Ending) (shelf : Shelved) (options : OptionsData) (known left old new : Option (List ℕ))
-    → ended ≡ ending_after r → IsShelfBy options shelf
-    → IfOk r (λ status. Runs shelf options known left old new status × KeepsLines known old new status)
+-- a folder that isn't opened
+not-run : (options : OptionsData) (error : FolderError) → IsSome options.folder → IsNotRun options (ending_unopened error)
+not-run options unopened.Memory named = inl refl
+not-run options unopened.BadConfig named = inr (named, (unopened.BadConfig, (λ e. cc e), refl))
+not-run options unopened.Locked named = inr (named, (unopened.Locked, (λ e. cc e), refl))
+not-run options unopened.Fault named = inr (named, (unopened.Fault, (λ e. cc e), refl))
+
+pub ends-unopened : (kit : KitData) (options : OptionsData) (known old : Option (List ℕ)) (error : FolderError) (ended : Ending) → IsSome options.folder
+    → ended ≡ ending_unopened error → EndsWith kit options known known old old ended
+ends-unopened kit options known old error ended named e =
+    inr (subst (λ (x : Ending). IsNotRun options x) (sym e) (not-run options error named), (Keeps-refl known, Keeps-refl old))
+
+-- and then no script is too long
+never-long : (error : FolderError) → ending_unopened error ≡ Ran ScriptTooLong → ⊥
+never-long unopened.Memory e = cc e
+never-long unopened.BadConfig e = cc e
+never-long unopened.Locked e = cc e
+never-long unopened.Fault e = cc e
+
+pub keeps-idle : (known old : Option (List ℕ)) (error : FolderError) (ended : Ending) → ended ≡ ending_unopened error → KeepsLines known old old ended
+keeps-idle known old error ended e = ((λ other. WritesLines-none old), (λ short. absurd (never-long error (sym e ∙ short))))
+
+pub ends-after : {E : Type 0} (r : Result Ending E) (ended : Ending) (options : OptionsData) (known left old new : Option (List ℕ))
+    → ended ≡ ending_after r → IfOk r (λ ended. EndsBy options known left old new ended × KeepsLines known old new ended)
     → IfErr r (λ error. IsUntouched known left old new) → EndsBy options known left old new ended
-ends-after (Ok status) ended shelf options known left old new e by h untouched =
-    subst (λ (x : Ending). EndsBy options known left old new x) (sym e) (inl (shelf, by, h.0))
-ends-after (Err error) ended shelf options known left old new e by h untouched =
-    subst (λ (x : Ending). EndsBy options known left old new x) (sym e) (inr (refl, untouched))
+ends-after (Ok end) ended options known left old new e h untouched =
+    subst (λ (x : Ending). EndsBy options known left old new x) (sym e) h.0
+ends-after (Err error) ended options known left old new e h untouched = inr (inl e, untouched)
 
 -- nothing that is written is whole lines
 lines-kept : (old new : Option (List ℕ)) → Keeps old new → WritesLines old new
@@ -29,15 +50,12 @@ lines-kept None new kept = ([], tt, inl refl)
 lines-kept (Some xs) None kept = absurd kept
 lines-kept (Some xs) (Some ys) kept = ([], kept ∙ sym (append-nil xs), inl refl)
 
-pub whole-after : {E : Type 0} (r : Result Status E) (ended : Ending) (shelf : Shelved) (options : OptionsData) (known left old new : Option (List ℕ))
-    → ended ≡ ending_after r → IfOk r (λ status. Runs shelf options known left old new status × KeepsLines known old new status)
-    → IfErr r (λ error. IsUntouched known left old new) → ended ≢ Ran WriteFailed → WritesLines old new
-whole-after (Ok status) ended shelf options known left old new e h untouched other = h.1.0 (λ same. other (e ∙ ap Ran same))
-whole-after (Err error) ended shelf options known left old new e h untouched other = lines-kept old new untouched.1
+memory-short : Ran NoMemory ≡ Ran ScriptTooLong → ⊥
+memory-short e = cc e
 
--- the shelf by options that name no folder, and by some that do
-pub shelf-unnamed : (options : Options) (shelf : Shelved) → options.folder ≡ None → shelf ≡ stocked map.empty → IsShelfBy (options_view options) shelf
-shelf-unnamed options shelf none empty = rw none empty
-
-pub shelf-named : (options : Options) (shelf : Shelved) (path : Bor (List ℕ)) → options.folder ≡ Some path → shelf ≡ stocked shelf.content → IsShelfBy (options_view options) shelf
-shelf-named options shelf path named read = rw named read
+pub lines-after : {E : Type 0} (r : Result Ending E) (ended : Ending) (options : OptionsData) (known left old new : Option (List ℕ))
+    → ended ≡ ending_after r → IfOk r (λ ended. EndsBy options known left old new ended × KeepsLines known old new ended)
+    → IfErr r (λ error. IsUntouched known left old new) → KeepsLines known old new ended
+lines-after (Ok end) ended options known left old new e h untouched = subst (λ (x : Ending). KeepsLines known old new x) (sym e) h.1
+lines-after (Err error) ended options known left old new e h untouched =
+    ((λ other. lines-kept old new untouched.1), (λ short. absurd (memory-short (sym e ∙ short))))

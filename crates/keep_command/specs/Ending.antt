@@ -9,9 +9,10 @@ use Rattle.keep_opening.specs.declared.open_error.OpenError.{OpenError}
 use Rattle.keep_opening.specs.declared.open_error.OpenError.TheVariants as unread
 use Rattle.keep_opening.specs.declared.open_error.OpenError.TheVariants.{BadEntry}
 use Rattle.keep_lines.specs.Mistake.{mistake_text}
-use Rattle.keep_script.specs.declared.status.Status.{Status}
 use Rattle.keep_script.specs.declared.status.Status.TheVariants.{Done, Faulted, BadLine, ReadFailed, ScriptTooLong, WriteFailed, NoMemory, NotOpened}
 use Rattle.keep_command.specs.Option.{IsBadWord}
+use Rattle.keep_command.specs.declared.crew.NoCrew.{NoCrew}
+use Rattle.keep_command.specs.declared.crew.NoCrew.TheVariants as uncrewed
 use Rattle.keep_command.specs.declared.ending.Ending.{Ending}
 use Rattle.keep_command.specs.declared.ending.Ending.TheVariants as ending
 use Rattle.keep_command.specs.declared.options.BadOptions.{BadOptions}
@@ -29,15 +30,16 @@ code_of (ending.Ran NoMemory) = 1
 code_of (ending.Ran (NotOpened error)) = 1
 code_of (ending.BadOptions word) = 2
 code_of (ending.NoFolder error) = 1
+code_of (ending.NoCrew error) = 1
 
 -- the end where no options are read, and no word is named
 abbrev pub ending_of : BadOptions → Ending
 ending_of Refused = ending.BadOptions None
 ending_of Memory = ending.Ran NoMemory
 
--- the end after a run, or where it has no memory
-abbrev pub ending_after : {E : Type 0} → Result Status E → Ending
-ending_after (Ok status) = ending.Ran status
+-- the end that is come to, or where there is no memory
+abbrev pub ending_after : {E : Type 0} → Result Ending E → Ending
+ending_after (Ok ended) = ended
 ending_after (Err error) = ending.Ran NoMemory
 
 -- the end where the folder isn't opened
@@ -45,9 +47,14 @@ abbrev pub ending_unopened : FolderError → Ending
 ending_unopened unopened.Memory = ending.Ran NoMemory
 ending_unopened error = ending.NoFolder error
 
+-- the end where a crew is refused
+abbrev pub ending_uncrewed : NoCrew → Ending
+ending_uncrewed uncrewed.Memory = ending.Ran NoMemory
+ending_uncrewed uncrewed.NoPass = ending.NoCrew uncrewed.NoPass
+
 -- how the program is called
 abbrev pub usage : List ℕ
-usage = codes "usage: keepd [--cut N] [--now TIME] [--host H] [--tagged T] [--drops N] [--folder DIR] < SCRIPT"
+usage = codes "usage: keepd [--cut N] [--now TIME] [--host H] [--tagged T] [--drops N] [--folder DIR] [--crew N] < SCRIPT"
 
 -- what to do where a shelf isn't opened for this cause
 abbrev pub advice_on : OpenError → List ℕ
@@ -77,6 +84,8 @@ ending_text (ending.NoFolder unopened.Locked) =
 ending_text (ending.NoFolder unopened.Fault) =
     codes "keepd: cannot open: Fault; see that all files and folders in it can be read"
 ending_text (ending.NoFolder unopened.Memory) = codes "keepd: no memory"
+ending_text (ending.NoCrew uncrewed.NoPass) = codes "keepd: cannot open: NoPass; run it with fewer operators"
+ending_text (ending.NoCrew uncrewed.Memory) = codes "keepd: no memory"
 
 -- what is written on standard error: that line, unless each line of the script was answered and the shelf never failed
 abbrev pub told_text : Ending → List ℕ

@@ -23,8 +23,8 @@ program = on_top (λ top. record top { no_binary_name = true }) (new_app (codes 
 -- the program's command: its options
 abbrev pub command : App
 command =
-    with_rule (with_rule (with_rule (with_rule (with_rule (with_rule program (option (codes "cut"))) (option (codes "now")))
-    (option (codes "host"))) (option (codes "tagged"))) (option (codes "drops"))) (option (codes "folder"))
+    with_rule (with_rule (with_rule (with_rule (with_rule (with_rule (with_rule program (option (codes "cut"))) (option (codes "now")))
+    (option (codes "host"))) (option (codes "tagged"))) (option (codes "drops"))) (option (codes "folder"))) (option (codes "crew"))
 
 -- the number that a word writes, if it is one from `least` to `most`: decimal digits, a plus in front or not
 abbrev pub number_in : ℕ → ℕ → List ℕ → Option ℕ
@@ -45,25 +45,30 @@ folder_in None = Some None
 folder_in (Some []) = None
 folder_in (Some (byte ∷ bytes)) = Some (Some (byte ∷ bytes))
 
--- after how many bytes backups cut files, the moment for marks and sweeps, the host of the filter `host`, the tag of the
--- filter `tagged`, how many snapshots the veto `few-drops` lets go, and the folder whose files the script is about
+-- after how many bytes backups cut files, the moment for marks and sweeps and the text of it, the host of the filter
+-- `host`, the tag of the filter `tagged`, how many snapshots the veto `few-drops` lets go, the folder whose files the
+-- script is about, and how many operators back up a file each behind it
 pub record OptionsData : Type 0 where
   pub cut : ℕ
   pub now : ℤ
+  pub time : List ℕ
   pub host : List ℕ
   pub tagged : List ℕ
   pub drops : ℕ
   pub folder : Option (List ℕ)
+  pub crew : ℕ
 
 -- the same without where the texts lie in memory
 abbrev pub options_view : Options → OptionsData
 options_view options = record {
   cut = options.cut;
   now = options.now;
+  time = options.time.now;
   host = options.host.now;
   tagged = options.tagged.now;
   drops = options.drops;
   folder = option_map (λ folder. folder.now) options.folder;
+  crew = options.crew;
 }
 
 -- what the command's matches say: each option's value, and its default where the words don't give it
@@ -73,13 +78,16 @@ options_in rows = do
   now ← moment_or_first (first_of (codes "now") rows)
   drops ← number_or 0 1048576 1 (first_of (codes "drops") rows)
   folder ← folder_in (first_of (codes "folder") rows)
+  crew ← number_or 0 8 0 (first_of (codes "crew") rows)
   Some (record {
     cut = cut;
     now = now;
+    time = unwrap_or (first_of (codes "now") rows) (codes "1970-01-01T00:00:00Z");
     host = unwrap_or (first_of (codes "host") rows) (codes "web");
     tagged = unwrap_or (first_of (codes "tagged") rows) (codes "keep");
     drops = drops;
     folder = folder;
+    crew = crew;
   })
 
 -- the words are options, and `--`, which clap takes where no word follows, isn't among them

@@ -3,6 +3,7 @@ ghost use Rattle.std.specs.Io.KnownBytes.{Appends};
 ghost use Rattle.keep_command.specs.Ending.{advice_on, code_of, told_text};
 ghost use Rattle.keep_script.specs.declared.status.Status.TheVariants as the_status;
 
+use crate::crew::NoCrew;
 use crate::options::BadOptions;
 use keep_folder::FolderError;
 use keep_opening::OpenError;
@@ -11,7 +12,7 @@ use std::fmt;
 use std::io::{self, Write};
 
 const USAGE: &str =
-    "usage: keepd [--cut N] [--now TIME] [--host H] [--tagged T] [--drops N] [--folder DIR] < SCRIPT";
+    "usage: keepd [--cut N] [--now TIME] [--host H] [--tagged T] [--drops N] [--folder DIR] [--crew N] < SCRIPT";
 
 /// Says on standard error why the program ended, unless each line was answered and the shelf never failed. Answers the
 /// exit status, which is the same where that can't be written, and whether it could.
@@ -36,6 +37,8 @@ pub enum Ending<'a> {
     BadOptions(Option<&'a str>),
     /// The folder isn't opened, for this cause. Nothing was read or written.
     NoFolder(FolderError),
+    /// The script was answered, and the crew was refused behind it, for this cause.
+    NoCrew(NoCrew),
 }
 
 impl Ending<'_> {
@@ -52,7 +55,7 @@ impl Ending<'_> {
             Ending::Ran(Status::ReadFailed | Status::ScriptTooLong) => 1,
             Ending::Ran(Status::WriteFailed | Status::NoMemory) => 1,
             Ending::Ran(Status::Faulted | Status::NotOpened(_)) => 1,
-            Ending::NoFolder(_) => 1,
+            Ending::NoFolder(_) | Ending::NoCrew(_) => 1,
             Ending::Ran(Status::BadLine(_, _)) | Ending::BadOptions(_) => 2,
         }
     }
@@ -87,6 +90,19 @@ impl From<FolderError> for Ending<'_> {
         match error {
             FolderError::Memory => Ending::Ran(Status::NoMemory),
             error => Ending::NoFolder(error),
+        }
+    }
+}
+
+impl From<NoCrew> for Ending<'_> {
+    ghost use Rattle.keep_command.specs.Ending.{ending_uncrewed};
+
+    ghost from_gives = { λ error ending. ending ≡ ending_uncrewed error };
+
+    fn from(error: NoCrew) -> Self {
+        match error {
+            NoCrew::Memory => Ending::Ran(Status::NoMemory),
+            NoCrew::NoPass => Ending::NoCrew(NoCrew::NoPass),
         }
     }
 }
@@ -127,6 +143,10 @@ impl fmt::Display for Ending<'_> {
                 )
             }
             Ending::NoFolder(FolderError::Memory) => f.write_str("keepd: no memory"),
+            Ending::NoCrew(NoCrew::NoPass) => {
+                f.write_str("keepd: cannot open: NoPass; run it with fewer operators")
+            }
+            Ending::NoCrew(NoCrew::Memory) => f.write_str("keepd: no memory"),
             Ending::BadOptions(None) => write!(f, "keepd: bad options; {USAGE}"),
             Ending::BadOptions(Some(word)) => write!(f, "keepd: bad options: {word}; {USAGE}"),
         }

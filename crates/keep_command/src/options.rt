@@ -19,6 +19,8 @@ pub struct Options<'a> {
     pub cut: u32,
     /// The moment for marks and sweeps: whole seconds since 1970-01-01T00:00:00Z.
     pub now: i64,
+    /// The same moment, as the words write it.
+    pub time: &'a str,
     /// The host whose snapshots the filter `host` takes. It may be empty.
     pub host: &'a str,
     /// The tag whose snapshots the filter `tagged` takes.
@@ -28,6 +30,8 @@ pub struct Options<'a> {
     /// The folder whose files the script is answered over. Where none is named, there are no files at first, and what
     /// the script leaves is let go.
     pub folder: Option<&'a str>,
+    /// How many operators back up a file each behind a script that was answered to its end without a fault: 0 to 8.
+    pub crew: u32,
 }
 
 /// Why no options are read.
@@ -68,6 +72,7 @@ impl From<clap::Error> for BadOptions {
 pub fn read_options<'a>(alloc: Global, words: &'a [&'a str]) -> Result<Options<'a>, BadOptions>
     ensures given { Reads (map (λ word. word.now) words.entry.now) result }
     ensures range { IfOk result (λ options. (1 ≤ options.cut) × (options.cut ≤ 8388608)) }
+    ensures few { IfOk result (λ options. options.crew ≤ 8) }
 {
     if has_dashes(words) {
         return Err(BadOptions::Refused);
@@ -115,6 +120,7 @@ fn command<'a>(alloc: Global) -> Result<Command<'a>, AllocError>
     let command = with_option(alloc, command, "tagged")?;
     let command = with_option(alloc, command, "drops")?;
     let command = with_option(alloc, command, "folder")?;
+    let command = with_option(alloc, command, "crew")?;
     Ok(command)
 }
 
@@ -134,20 +140,25 @@ fn with_option<'a>(
 fn options_in<'a>(matches: &ArgMatches<'a>) -> Result<Options<'a>, BadOptions>
     ensures said { Says (options.options_in (rows_of (found_of matches.now))) result }
     ensures range { IfOk result (λ options. (1 ≤ options.cut) × (options.cut ≤ 8388608)) }
+    ensures few { IfOk result (λ options. options.crew ≤ 8) }
 {
     let cut = CUTS.read(matches.get_str("cut"))?;
     let now = read_moment(matches.get_str("now"))?;
     let drops = DROPS.read(matches.get_str("drops"))?;
     let folder = read_folder(matches.get_str("folder"))?;
+    let crew = CREWS.read(matches.get_str("crew"))?;
+    let time = matches.get_str("now").unwrap_or("1970-01-01T00:00:00Z");
     let host = matches.get_str("host").unwrap_or("web");
     let tagged = matches.get_str("tagged").unwrap_or("keep");
     Ok(Options {
         cut,
         now,
+        time,
         host,
         tagged,
         drops,
         folder,
+        crew,
     })
 }
 
@@ -192,6 +203,12 @@ const DROPS: Numbers = Numbers {
     least: 0,
     most: 1_048_576,
     usual: 1,
+};
+
+const CREWS: Numbers = Numbers {
+    least: 0,
+    most: 8,
+    usual: 0,
 };
 
 impl Numbers {

@@ -4,29 +4,32 @@ ghost use Rattle.keep_answers.specs.Known.{WritesLines};
 ghost use Rattle.keep_script.specs.Line.{longest_script};
 ghost use Rattle.keep_script.specs.declared.status.Status.{Status};
 ghost use Rattle.keep_command.specs.Ending.{NamesBadWord, ending_after};
+ghost use Rattle.keep_command.specs.Following.{EndsBy, EndsWith};
 ghost use Rattle.keep_command.specs.Option.{options_of, options_view};
-ghost use Rattle.keep_command.specs.Running.{EndsBy, IsUntouched, KeepsLines, Runs, RunsWith};
+ghost use Rattle.keep_command.specs.Running.{IsUntouched, KeepsLines, stored};
 
+use crate::crew::Crew;
 use crate::ending::Ending;
 use crate::options::{BadOptions, Options, find_bad_word, read_options};
+use crate::serving::serve;
+use crate::terms::Terms;
 use keep_change::{Outline, What};
 use keep_filters::{AskFacts, Filter, Pick, has_tag};
-use keep_folder::FolderShelf;
 use keep_hooks::{
     AskOutline, CountOutline, Limit, Measure, Veto, Watch, files_written, snapshots_dropped,
 };
 use keep_jobs::Kit;
-use keep_script::{Setup, Status, run};
-use keep_shelf::{MemoryShelf, Shelf};
+use keep_script::Status;
 use keep_snap::SnapFacts;
 use std::alloc::{AllocError, Global};
-use std::fs::{File, Files};
 use std::io::{Read, Write};
 
 /// Answers the script that the reader gives, by the options that the words behind the program's name give: over what
-/// stands in the folder that they name, or over a shelf in memory with nothing on it.
-pub fn keepd<'a, F: Files<File = File> + Alloc<A = Global> + Clone + Drop, R: Read, W: Write>(
-    rt: F,
+/// stands in the folder that they name, or over a shelf in memory with nothing on it. Then it has the crew work that
+/// they ask for, where each line was answered and the shelf never failed.
+pub fn keepd<'a, C: Crew, R: Read, W: Write>(
+    rt: &HostRuntime,
+    crew: &C,
     words: &[&'a str],
     reader: &mut R,
     writer: &mut W,
@@ -45,21 +48,23 @@ pub fn keepd<'a, F: Files<File = File> + Alloc<A = Global> + Clone + Drop, R: Re
 {
     let alloc = rt.alloc();
     match read_options(alloc, &*words) {
-        Ok(options) => answer_by(rt, options, reader, writer),
+        Ok(options) => answer_by(rt, crew, options, reader, writer),
         Err(BadOptions::Refused) => refuse(alloc, words),
         Err(BadOptions::Memory) => Ending::Ran(Status::NoMemory),
     }
 }
 
 /// Answers the script by the options.
-fn answer_by<'a, F: Files<File = File> + Alloc<A = Global> + Clone + Drop, R: Read, W: Write>(
-    rt: F,
+fn answer_by<'a, C: Crew, R: Read, W: Write>(
+    rt: &HostRuntime,
+    crew: &C,
     options: Options<'_>,
     reader: &mut R,
     writer: &mut W,
 ) -> Ending<'a>
     requires some { 1 ≤ options.cut }
     requires most { options.cut ≤ 8388608 }
+    requires few { options.crew ≤ 8 }
     ensures ends { EndsBy (options_view options.entry) (R.remaining reader.old) (R.remaining reader.new)
         (W.contents writer.old) (W.contents writer.new) result }
     ensures whole { result ≢ Ending.Ran Status.WriteFailed →
@@ -68,66 +73,38 @@ fn answer_by<'a, F: Files<File = File> + Alloc<A = Global> + Clone + Drop, R: Re
         IfSome (R.remaining reader.old) (λ script. longest_script ≤ length script) }
 {
     let alloc = rt.alloc();
-    let Some(path) = options.folder else {
-        let shelf = MemoryShelf::new(alloc);
-        return end_of(answer(
-            Ground {
-                alloc,
-                options,
-                shelf,
-            },
-            reader,
-            writer,
-        ));
-    };
-    match FolderShelf::open(rt, path) {
-        Ok(shelf) => end_of(answer(
-            Ground {
-                alloc,
-                options,
-                shelf,
-            },
-            reader,
-            writer,
-        )),
-        Err(error) => Ending::from(error),
-    }
+    let terms = Terms { rt, alloc, options };
+    end_of(answer(crew, terms, reader, writer))
 }
 
-/// How the program ends whose run ended so, or had no memory.
-fn end_of<'a>(ran: Result<Status, AllocError>) -> Ending<'a>
-    ensures { result ≡ ending_after ran }
+/// How the program ends that was to end so, or had no memory.
+fn end_of<'a>(ended: Result<Ending<'a>, AllocError>) -> Ending<'a>
+    ensures { result ≡ ending_after ended.entry }
 {
-    match ran {
-        Ok(status) => Ending::Ran(status),
+    match ended {
+        Ok(ended) => ended,
         Err(AllocError) => Ending::Ran(Status::NoMemory),
     }
 }
 
-/// By which options a script is answered, over which shelf.
-#[derive(Drop)]
-struct Ground<'a, S: Shelf> {
-    alloc: Global,
-    options: Options<'a>,
-    shelf: S,
-}
-
 /// Answers the script, with the filters `all`, `host` and `tagged`.
-fn answer<S: Shelf, R: Read, W: Write>(
-    ground: Ground<'_, S>,
+fn answer<'a, C: Crew, R: Read, W: Write>(
+    crew: &C,
+    terms: Terms<'_>,
     reader: &mut R,
     writer: &mut W,
-) -> Result<Status, AllocError>
-    requires some { 1 ≤ ground.options.cut }
-    requires most { ground.options.cut ≤ 8388608 }
-    ensures runs { IfOk result (λ status. Runs (S.shelved ground.entry.shelf) (options_view ground.entry.options)
-        (R.remaining reader.old) (R.remaining reader.new) (W.contents writer.old) (W.contents writer.new) status
-        × KeepsLines (R.remaining reader.old) (W.contents writer.old) (W.contents writer.new) status) }
+) -> Result<Ending<'a>, AllocError>
+    requires some { 1 ≤ terms.options.cut }
+    requires most { terms.options.cut ≤ 8388608 }
+    requires few { terms.options.crew ≤ 8 }
+    ensures ends { IfOk result (λ ended. EndsBy (options_view terms.entry.options)
+        (R.remaining reader.old) (R.remaining reader.new) (W.contents writer.old) (W.contents writer.new) ended
+        × KeepsLines (R.remaining reader.old) (W.contents writer.old) (W.contents writer.new) ended) }
     ensures untouched { IfErr result (λ error.
         IsUntouched (R.remaining reader.old) (R.remaining reader.new) (W.contents writer.old) (W.contents writer.new)) }
 {
-    let alloc = ground.alloc;
-    let options = ground.options;
+    let alloc = terms.alloc;
+    let options = terms.options;
     let ask: AskFacts = Box::new(alloc, |_: &SnapFacts| true)?;
     let all = Filter::new(String::from_str(alloc, "all")?, Pick::Any, ask);
     let host = String::from_str(alloc, options.host)?;
@@ -142,27 +119,29 @@ fn answer<S: Shelf, R: Read, W: Write>(
     let ask: AskFacts = Box::new(alloc, move |facts: &SnapFacts| has_tag(facts, tag.as_str()))?;
     let by_tag = Filter::new(String::from_str(alloc, "tagged")?, rule, ask);
     let filters = vec![in alloc; all, by_host, by_tag]?;
-    answer_with(ground, filters, reader, writer)
+    answer_with(crew, terms, filters, reader, writer)
 }
 
 /// Answers the script, with these filters, the vetoes `few-drops` and `no-empty`, and the watches `events` and `files`.
-fn answer_with<S: Shelf, R: Read, W: Write>(
-    ground: Ground<'_, S>,
+fn answer_with<'a, C: Crew, R: Read, W: Write>(
+    crew: &C,
+    terms: Terms<'_>,
     filters: Vec<Filter>,
     reader: &mut R,
     writer: &mut W,
-) -> Result<Status, AllocError>
-    requires some { 1 ≤ ground.options.cut }
-    requires most { ground.options.cut ≤ 8388608 }
-    ensures runs { IfOk result (λ status. RunsWith (S.shelved ground.entry.shelf) (map named_rule filters.items)
-        (options_view ground.entry.options) (R.remaining reader.old) (R.remaining reader.new) (W.contents writer.old)
-        (W.contents writer.new) status
-        × KeepsLines (R.remaining reader.old) (W.contents writer.old) (W.contents writer.new) status) }
+) -> Result<Ending<'a>, AllocError>
+    requires some { 1 ≤ terms.options.cut }
+    requires most { terms.options.cut ≤ 8388608 }
+    requires few { terms.options.crew ≤ 8 }
+    ensures ends { IfOk result (λ ended. let options = options_view terms.entry.options in EndsWith
+        (stored (map named_rule filters.items) options.drops) options
+        (R.remaining reader.old) (R.remaining reader.new) (W.contents writer.old) (W.contents writer.new) ended
+        × KeepsLines (R.remaining reader.old) (W.contents writer.old) (W.contents writer.new) ended) }
     ensures untouched { IfErr result (λ error.
         IsUntouched (R.remaining reader.old) (R.remaining reader.new) (W.contents writer.old) (W.contents writer.new)) }
 {
-    let alloc = ground.alloc;
-    let options = ground.options;
+    let alloc = terms.alloc;
+    let options = terms.options;
     let most = u64::from(options.drops);
     let ask: AskOutline = Box::new(
         alloc,
@@ -185,12 +164,7 @@ fn answer_with<S: Shelf, R: Read, W: Write>(
         vetoes: vec![in alloc; few_drops, no_empty]?,
         watches: vec![in alloc; events, files]?,
     };
-    let setup = Setup {
-        alloc,
-        cut: options.cut,
-        now: options.now,
-    };
-    Ok(run(setup, ground.shelf, &mut kit, reader, writer))
+    Ok(serve(crew, terms, &mut kit, reader, writer))
 }
 
 /// The end where the words aren't options.

@@ -1,7 +1,11 @@
 //! The program `keepd`: answers the script on its standard input.
 #![tactic(auto)]
 
-use keep_command::{BadOptions, Ending, keepd, tell};
+mod desk;
+mod operators;
+
+use crate::operators::Operators;
+use keep_command::{BadOptions, Crew, Ending, keepd, tell};
 use keep_script::Status;
 use std::env;
 use std::io::{BufWriter, ErrorKind};
@@ -16,19 +20,22 @@ fn read_words(rt: &HostRuntime) -> Result<Vec<String>, BadOptions> {
     }
 }
 
-/// Runs the program between standard input and output.
-fn serve<'a>(rt: &HostRuntime, words: &'a [String]) -> Ending<'a> {
+/// Runs the program between standard input and output, with this crew.
+fn serve<'a, C: Crew>(rt: &HostRuntime, crew: &C, words: &'a [String]) -> Ending<'a> {
     let alloc = rt.alloc();
     let words: Result<Vec<&str>, _> = words.iter().map(|word| word.as_str()).collect(alloc);
     let (Ok(words), Ok(mut writer)) = (words, BufWriter::new(alloc, rt.stdout())) else {
         return Ending::Ran(Status::NoMemory);
     };
-    keepd(rt, words.as_slice(), &mut rt.stdin(), &mut writer)
+    keepd(rt, crew, words.as_slice(), &mut rt.stdin(), &mut writer)
 }
 
 fn main(rt: HostRuntime) -> ExitCode {
     let (code, _) = match read_words(&rt) {
-        Ok(words) => tell(serve(&rt, words.as_slice()), &mut rt.stderr()),
+        Ok(words) => {
+            let crew = Operators::new(&rt);
+            tell(serve(&rt, &crew, words.as_slice()), &mut rt.stderr())
+        }
         Err(error) => tell(Ending::from(error), &mut rt.stderr()),
     };
     ExitCode::from(code)

@@ -1,12 +1,12 @@
 use Rattle.std.proofs.Common.{◌≡◌, ◌∙◌, ap, map, rules, string_bytes}
 use Rattle.keep_jobs.specs.Kits.{named_rule}
-use Rattle.keep_command.proofs.StoredLemmas.{are-filters, runs-by}
+use Rattle.keep_command.proofs.StoredLemmas.{are-filters, ends-by}
 use Rattle.keep_command.specs.Option.{options_view}
 use Rattle.keep_command.specs.Running.{stored_filters}
 use Rattle.keep_command.proofs.program.answer.Goals as goal
 
-pub returns-clause-runs : goal.returns-clause-runs
-returns-clause-runs g c =
+pub returns-clause-ends : goal.returns-clause-ends
+returns-clause-ends g c =
     let host = c.in_ok-clone.field-0 in
     let tag = c.in_ok-clone-2.field-0 in
     let rows = are-filters (string_bytes c.new-all.result.name) (string_bytes c.new-by_host.result.name) (string_bytes c.new-by_tag.result.name) c.new-all.result.rule c.new-by_host.result.rule c.new-by_tag.result.rule host tag
@@ -14,4 +14,4 @@ returns-clause-runs g c =
     (ap string_bytes c.new-by_host.ensures.name ∙ c.in_ok-from_str-2.ensures.ok) c.new-by_host.ensures.rule
     (ap string_bytes c.new-by_tag.ensures.name ∙ c.in_ok-from_str-3.ensures.ok) c.new-by_tag.ensures.rule in
     let same : map named_rule c.in_ok-filters.filters.items ≡ stored_filters host tag = ap (λ filters. map named_rule filters) c.in_ok-filters.ensures.items ∙ rows in
-    runs-by c.answer_with.result (g.S.Shelf.shelved c.args.ground.shelf) (options_view c.args.ground.options) (map named_rule c.in_ok-filters.filters.items) host tag _ _ _ _ (search rules) (search rules) same c.answer_with.ensures.runs
+    ends-by c.answer_with.result (options_view c.args.terms.options) (map named_rule c.in_ok-filters.filters.items) host tag _ _ _ _ (search rules) (search rules) same c.answer_with.ensures.ends

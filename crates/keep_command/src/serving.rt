@@ -1,0 +1,147 @@
+ghost use Rattle.std.specs.Prelude.{◌≡◌, ◌≢◌, ◌≤◌, ◌↔◌, IsTrue};
+ghost use Rattle.keep_book.specs.Armed.{HasSums, hooks_of, ledger_of};
+ghost use Rattle.keep_jobs.specs.Job.{settings_view};
+ghost use Rattle.keep_jobs.specs.Kits.{kit_view};
+ghost use Rattle.keep_answers.specs.Known.{WritesLines};
+ghost use Rattle.keep_script.specs.Begun.{begun_over};
+ghost use Rattle.keep_script.specs.Run.{Ends};
+ghost use Rattle.keep_script.specs.declared.status.Status.{Status};
+ghost use Rattle.keep_command.specs.Following.{Crews, EndsWith, Follows, IsCrewDue, Serves};
+ghost use Rattle.keep_command.specs.NamedShelf.{shelved_of};
+ghost use Rattle.keep_command.specs.Option.{options_view};
+ghost use Rattle.keep_command.specs.Running.{KeepsLines, RunsWith, settings_of};
+
+use crate::crew::Crew;
+use crate::ending::Ending;
+use crate::named_shelf::NamedShelf;
+use crate::report::{Report, tell_tally};
+use crate::terms::Terms;
+use keep_book::Book;
+use keep_jobs::Kit;
+use keep_script::{Status, run_on};
+use std::io::{Read, Write};
+
+/// Answers the script over the shelf that the options name, with this kit, and has the crew work that they ask for.
+pub(crate) fn serve<'a, C: Crew, R: Read, W: Write>(
+    crew: &C,
+    terms: Terms<'_>,
+    kit: &mut Kit,
+    reader: &mut R,
+    writer: &mut W,
+) -> Ending<'a>
+    requires some { 1 ≤ terms.options.cut }
+    requires most { terms.options.cut ≤ 8388608 }
+    requires few { terms.options.crew ≤ 8 }
+    ensures ends { EndsWith (kit_view kit.old) (options_view terms.entry.options)
+        (R.remaining reader.old) (R.remaining reader.new) (W.contents writer.old) (W.contents writer.new) result }
+    ensures lines { KeepsLines (R.remaining reader.old) (W.contents writer.old) (W.contents writer.new) result }
+{
+    match NamedShelf::open(terms.rt, terms.options.folder) {
+        Ok(shelf) => serve_on(crew, terms, shelf, kit, reader, writer),
+        Err(error) => Ending::from(error),
+    }
+}
+
+/// Answers the script over the book that is opened of the shelf.
+fn serve_on<'a, C: Crew, R: Read, W: Write>(
+    crew: &C,
+    terms: Terms<'_>,
+    shelf: NamedShelf<'_>,
+    kit: &mut Kit,
+    reader: &mut R,
+    writer: &mut W,
+) -> Ending<'a>
+    requires some { 1 ≤ terms.options.cut }
+    requires most { terms.options.cut ≤ 8388608 }
+    requires few { terms.options.crew ≤ 8 }
+    ensures serves { let options = options_view terms.entry.options in Serves
+        (RunsWith (shelved_of shelf.entry) (kit_view kit.old) options (R.remaining reader.old) (R.remaining reader.new))
+        options (W.contents writer.old) (W.contents writer.new) result }
+    ensures lines { KeepsLines (R.remaining reader.old) (W.contents writer.old) (W.contents writer.new) result }
+{
+    match Book::open(terms.alloc, shelf) {
+        Ok(book) => serve_over(crew, terms, book, kit, reader, writer),
+        Err(error) => Ending::Ran(Status::from(error)),
+    }
+}
+
+/// Answers the script over this book, and has the crew work that is asked for.
+fn serve_over<'a, C: Crew, R: Read, W: Write>(
+    crew: &C,
+    terms: Terms<'_>,
+    mut book: Book<NamedShelf<'_>>,
+    kit: &mut Kit,
+    reader: &mut R,
+    writer: &mut W,
+) -> Ending<'a>
+    requires some { 1 ≤ terms.options.cut }
+    requires most { terms.options.cut ≤ 8388608 }
+    requires few { terms.options.crew ≤ 8 }
+    requires sums { HasSums book }
+    ensures serves { let options = options_view terms.entry.options in Serves
+        (Ends (begun_over (settings_of options) (kit_view kit.old) book.entry)
+        (R.remaining reader.old) (R.remaining reader.new))
+        options (W.contents writer.old) (W.contents writer.new) result }
+    ensures lines { KeepsLines (R.remaining reader.old) (W.contents writer.old) (W.contents writer.new) result }
+{
+    let status = run_on(terms.setup(), &mut book, kit, reader, writer);
+    follow(crew, terms, book, status, writer)
+}
+
+/// Has the crew work over the book, where it is due behind a run that ended so, and lets the book go where it isn't.
+fn follow<'a, C: Crew, W: Write>(
+    crew: &C,
+    terms: Terms<'_>,
+    book: Book<NamedShelf<'_>>,
+    status: Status,
+    writer: &mut W,
+) -> Ending<'a>
+    requires some { 1 ≤ terms.options.cut }
+    requires most { terms.options.cut ≤ 8388608 }
+    requires few { terms.options.crew ≤ 8 }
+    requires sums { HasSums book }
+    ensures follows { Follows (options_view terms.entry.options) (hooks_of book.entry).vetoes (ledger_of book.entry)
+        (W.contents writer.old) (W.contents writer.new) status result }
+    ensures whole { result ≢ Ending.Ran Status.WriteFailed →
+        WritesLines (W.contents writer.old) (W.contents writer.new) }
+{
+    if is_crew_due(terms.options.crew, &status) {
+        have_crew(crew, terms, book, writer)
+    } else {
+        Ending::Ran(status)
+    }
+}
+
+/// Whether a crew of this size is to work behind a run that ended so.
+fn is_crew_due(size: u32, status: &Status) -> bool
+    ensures { IsTrue result ↔ IsCrewDue size status.now }
+{
+    matches!(status, Status::Done) && size > 0
+}
+
+/// Has the crew work over the book, and says what it did.
+fn have_crew<'a, C: Crew, W: Write>(
+    crew: &C,
+    terms: Terms<'_>,
+    book: Book<NamedShelf<'_>>,
+    writer: &mut W,
+) -> Ending<'a>
+    requires some { 1 ≤ terms.options.cut }
+    requires most { terms.options.cut ≤ 8388608 }
+    requires one { 1 ≤ terms.options.crew }
+    requires few { terms.options.crew ≤ 8 }
+    requires sums { HasSums book }
+    ensures crews { let options = options_view terms.entry.options in Crews (hooks_of book.entry).vetoes
+        (settings_of options) options.time options.crew (ledger_of book.entry)
+        (W.contents writer.old) (W.contents writer.new) result }
+    ensures whole { result ≢ Ending.Ran Status.WriteFailed →
+        WritesLines (W.contents writer.old) (W.contents writer.new) }
+{
+    match crew.work(book, terms.order()) {
+        Ok(tally) => {
+            let size = terms.options.crew;
+            tell_tally(terms.alloc, Report { size, tally }, writer)
+        }
+        Err(error) => Ending::from(error),
+    }
+}

@@ -1,0 +1,2 @@
+pub mod Crewing
+pub mod Serving

@@ -1,0 +1,40 @@
+use crate::desk::crewed;
+use keep_book::Book;
+use keep_command::{Crew, NamedShelf, NoCrew, Order, Tally};
+use std::alloc::AllocError;
+use std::marker::PhantomData;
+use std::sync::Wait;
+use std::thread::Threads;
+
+/// Has operators work in threads.
+///
+/// It is the leave to start threads and to wait that a handle gives, without the handle: it has no bytes, and each
+/// thread may have it.
+pub(crate) struct Operators<R> {
+    of: PhantomData<R>,
+}
+
+impl<R: Wait + Threads> Operators<R> {
+    /// In threads that this handle gives leave to start.
+    pub fn new(_rt: &R) -> Operators<R> {
+        Operators { of: PhantomData }
+    }
+}
+
+impl<R> Clone for Operators<R> {
+    fn clone(&self) -> Result<Operators<R>, AllocError> {
+        Ok(*self)
+    }
+}
+
+impl<R> Copy for Operators<R> {}
+
+impl<R: Wait> Wait for Operators<R> {}
+
+impl<R: Threads> Threads for Operators<R> {}
+
+impl<R: Wait + Threads + Send + Sync> Crew for Operators<R> {
+    fn work(&self, book: Book<NamedShelf<'_>>, order: Order<'_>) -> Result<Tally, NoCrew> {
+        crewed(self, book, order)
+    }
+}
