@@ -1,6 +1,7 @@
 ghost use Rattle.std.specs.Prelude.{◌≡◌, [], ◌∷◌, ◌<◌, IfOk, length, map};
 ghost use Rattle.keep_docs.specs.Doc.{Answers};
-ghost use Rattle.keep_backup.specs.Backup.{facts_view};
+ghost use Rattle.keep_repo.specs.Repository.{empty_repository};
+ghost use Rattle.keep_backup.specs.Backup.{backup_change, facts_view};
 ghost use Rattle.keep_backup.specs.Files.{given_view};
 ghost use Rattle.keep_plan.specs.declared.plan_error.PlanError.TheVariants.{Memory};
 ghost use Rattle.keep_bench.specs.Backup.{backed_up_of, bench_facts, bench_file};
@@ -8,7 +9,7 @@ ghost use Rattle.keep_bench.specs.Backup as spec;
 
 use keep_backup::{BackupFacts, Cut, plan_backup};
 use keep_catalog::LiveRepo;
-use keep_change::Change;
+use keep_change::{Change, Planned};
 use keep_journal::History;
 use keep_names::Id;
 use keep_plan::PlanError;
@@ -30,13 +31,25 @@ pub(crate) struct BackedUp {
 pub(crate) fn back_up(alloc: Global, bytes: Vec<u8>) -> Result<BackedUp, PlanError>
     ensures { Answers Memory (λ told. told) (backed_up_of bytes.items) result }
 {
-    let live = LiveRepo::new(alloc, Repo::new(alloc));
-    let history = History::new(alloc, 0);
     let files = files_of(alloc, bytes)?;
     let facts = facts(alloc)?;
-    let view = View::without_events(&live, &history);
-    let plan = plan_backup(alloc, &view, &files, &facts, Cut::after(CUT))?;
+    let plan = plan_alone(alloc, &files, &facts)?;
     Ok(told_of(&plan.change))
+}
+
+/// Plans the backup of these files into an empty repository.
+fn plan_alone(
+    alloc: Global,
+    files: &[(String, Vec<u8>)],
+    facts: &BackupFacts,
+) -> Result<Planned, PlanError>
+    ensures { Answers Memory (λ planned. planned.change)
+        (backup_change empty_repository (facts_view facts.now) 1_048_576 (map given_view files.now)) result }
+{
+    let live = LiveRepo::new(alloc, Repo::new(alloc));
+    let history = History::new(alloc, 0);
+    let view = View::without_events(&live, &history);
+    plan_backup(alloc, &view, files, facts, Cut::after(CUT))
 }
 
 /// What is told of a change that adds files, the snapshot last.

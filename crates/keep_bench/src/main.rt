@@ -13,12 +13,12 @@ mod pack;
 mod task;
 mod undo;
 
-use crate::backup::back_up;
+use crate::backup::{BackedUp, back_up};
 use crate::document::measure;
 use crate::entry::is_written_so;
 use crate::forget::forget;
 use crate::input::read_all;
-use crate::pack::summarize;
+use crate::pack::{Summary, summarize};
 use crate::task::{Task, task_named};
 use crate::undo::{commits, undo_first};
 use anyhow::Result;
@@ -45,48 +45,70 @@ fn task_asked(rt: &HostRuntime) -> Result<Option<Task>> {
 
 /// Reads the input, and tells of it in a line.
 fn tell(rt: &HostRuntime, task: Task) -> Result<()> {
-    let alloc = rt.alloc();
-    let bytes = read_all(alloc, rt.stdin())?;
+    let bytes = read_all(rt.alloc(), rt.stdin())?;
     match task {
-        Task::Document => {
-            let count = measure(alloc, &bytes)?;
-            println!(rt; "read {count}")?;
-        }
-        Task::Pack => {
-            let summary = summarize(alloc, &bytes)?;
-            let count = bytes.len();
-            println!(rt;
-                "pack {} entries {} bytes {count}",
-                summary.id, summary.entries
-            )?;
-        }
-        Task::Backup => {
-            let told = back_up(alloc, bytes)?;
-            println!(rt; "snapshot {} adds {}", told.snapshot, told.adds)?;
-        }
-        Task::Forget => match forget(alloc, &bytes)? {
-            Some(count) => println!(rt; "dropped {count}")?,
-            None => println!(rt; "too many")?,
-        },
-        Task::Entry => {
-            drop(read_entry(alloc, ENTRY, &bytes)?);
-            let count = bytes.len();
-            println!(rt; "entry {count}")?;
-        }
-        Task::EntryAgain => {
-            let entry = read_entry(alloc, ENTRY, &bytes)?;
-            let same = is_written_so(alloc, &entry, &bytes)?;
-            println!(rt; "written so: {same}")?;
-        }
-        Task::Commits => {
-            let length = commits(alloc)?;
-            println!(rt; "length {length}")?;
-        }
-        Task::Undo => {
-            let told = undo_first(alloc)?;
-            println!(rt; "told {} at {}", told.number, told.at)?;
-        }
+        Task::Document => tell_document(rt, &bytes),
+        Task::Pack => tell_pack(rt, &bytes),
+        Task::Backup => tell_backup(rt, bytes),
+        Task::Forget => tell_forget(rt, &bytes),
+        Task::Entry => tell_entry(rt, &bytes),
+        Task::EntryAgain => tell_entry_again(rt, &bytes),
+        Task::Commits => tell_commits(rt),
+        Task::Undo => tell_undo(rt),
     }
+}
+
+fn tell_document(rt: &HostRuntime, bytes: &[u8]) -> Result<()> {
+    let count = measure(rt.alloc(), bytes)?;
+    println!(rt; "read {count}")?;
+    Ok(())
+}
+
+fn tell_pack(rt: &HostRuntime, bytes: &[u8]) -> Result<()> {
+    let Summary { id, entries } = summarize(rt.alloc(), bytes)?;
+    let count = bytes.len();
+    println!(rt; "pack {id} entries {entries} bytes {count}")?;
+    Ok(())
+}
+
+fn tell_backup(rt: &HostRuntime, bytes: Vec<u8>) -> Result<()> {
+    let BackedUp { snapshot, adds } = back_up(rt.alloc(), bytes)?;
+    println!(rt; "snapshot {snapshot} adds {adds}")?;
+    Ok(())
+}
+
+fn tell_forget(rt: &HostRuntime, bytes: &[u8]) -> Result<()> {
+    match forget(rt.alloc(), bytes)? {
+        Some(count) => println!(rt; "dropped {count}")?,
+        None => println!(rt; "too many")?,
+    }
+    Ok(())
+}
+
+fn tell_entry(rt: &HostRuntime, bytes: &[u8]) -> Result<()> {
+    drop(read_entry(rt.alloc(), ENTRY, bytes)?);
+    let count = bytes.len();
+    println!(rt; "entry {count}")?;
+    Ok(())
+}
+
+fn tell_entry_again(rt: &HostRuntime, bytes: &[u8]) -> Result<()> {
+    let alloc = rt.alloc();
+    let entry = read_entry(alloc, ENTRY, bytes)?;
+    let same = is_written_so(alloc, &entry, bytes)?;
+    println!(rt; "written so: {same}")?;
+    Ok(())
+}
+
+fn tell_commits(rt: &HostRuntime) -> Result<()> {
+    let length = commits(rt.alloc())?;
+    println!(rt; "length {length}")?;
+    Ok(())
+}
+
+fn tell_undo(rt: &HostRuntime) -> Result<()> {
+    let told = undo_first(rt.alloc())?;
+    println!(rt; "told {} at {}", told.number, told.at)?;
     Ok(())
 }
 

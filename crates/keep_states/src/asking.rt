@@ -16,21 +16,34 @@ pub(crate) fn answer(
     out: &mut String,
 ) -> Result<bool, Stop> {
     match verb {
-        "undo" => ask(state, Request::Undo(words::number(rest)?), out)?,
-        "redo" => ask(state, Request::Redo(words::number(rest)?), out)?,
-        "empty" => ask(state, Request::Empty(words::number(rest)?), out)?,
+        "undo" | "redo" | "empty" => ask_event(state, verb, rest, out)?,
         "length" => writeln!(out, "length {}", state.ground.view().length())?,
         "count" => count(state, out)?,
         "list" => show_repo(state.ground.live(), out)?,
-        "filled" => {
-            let facet = words::facet(rest)?;
-            let filled = state.ground.live().facet_filled(facet);
-            writeln!(out, "{facet} {}", yes(filled))?;
-        }
+        "filled" => filled(state, rest, out)?,
         "known" => known(state, out)?,
         _ => return Ok(false),
     }
     Ok(true)
+}
+
+/// Asks for an event of the change of this number.
+fn ask_event(state: &mut State, verb: &str, number: &str, out: &mut String) -> Result<(), Stop> {
+    let number = words::number(number)?;
+    let request = match verb {
+        "undo" => Request::Undo(number),
+        "redo" => Request::Redo(number),
+        _ => Request::Empty(number),
+    };
+    ask(state, request, out)
+}
+
+/// Writes whether the facet is filled.
+fn filled(state: &State, facet: &str, out: &mut String) -> Result<(), Stop> {
+    let facet = words::facet(facet)?;
+    let filled = state.ground.live().facet_filled(facet);
+    writeln!(out, "{facet} {}", yes(filled))?;
+    Ok(())
 }
 
 fn count(state: &State, out: &mut String) -> Result<(), AllocError> {

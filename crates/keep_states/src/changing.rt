@@ -3,7 +3,7 @@ use crate::state::{State, no_change};
 use crate::stop::Stop;
 use crate::words;
 use keep_change::{Change, Outline, Turn, What};
-use keep_ledger::Request;
+use keep_ledger::{Refusal, Request, Told};
 use keep_lines::{Accepted, Refused};
 use keep_repo::Repo;
 use std::alloc::{AllocError, Global};
@@ -17,23 +17,37 @@ pub(crate) fn answer(
     rest: &str,
     out: &mut String,
 ) -> Result<bool, Stop> {
-    let change = &state.held.change;
+    match verb {
+        "commit" => commit(state, out)?,
+        "outline" => show_outline(state.alloc, &state.held.change, rest, out)?,
+        _ => return Ok(tell(&state.held.change, state.ground.live(), verb, out)?),
+    }
+    Ok(true)
+}
+
+/// Commits the held change.
+fn commit(state: &mut State, out: &mut String) -> Result<(), Stop> {
+    let planned = mem::replace(&mut state.held, no_change(state.alloc));
+    ask(state, Request::Commit(planned), out)
+}
+
+/// Tells what the verb asks of the change where the repository is this, if it asks anything.
+fn tell(change: &Change, repo: &Repo, verb: &str, out: &mut String) -> Result<bool, AllocError> {
     match verb {
         "well-formed" => writeln!(out, "well-formed {}", yes(change.well_formed()))?,
         "facets" => writeln!(out, "facets {}", change.facet_count())?,
-        "meets" => match change.meets(state.ground.live()) {
-            Ok(()) => writeln!(out, "met")?,
-            Err(facet) => writeln!(out, "unmet {facet}")?,
-        },
-        "outline" => show_outline(state.alloc, change, rest, out)?,
-        "turn" => turn(change, state.ground.live(), out)?,
-        "commit" => {
-            let planned = mem::replace(&mut state.held, no_change(state.alloc));
-            ask(state, Request::Commit(planned), out)?;
-        }
+        "meets" => tell_met(change, repo, out)?,
+        "turn" => turn(change, repo, out)?,
         _ => return Ok(false),
     }
     Ok(true)
+}
+
+fn tell_met(change: &Change, repo: &Repo, out: &mut String) -> Result<(), AllocError> {
+    match change.meets(repo) {
+        Ok(()) => writeln!(out, "met"),
+        Err(facet) => writeln!(out, "unmet {facet}"),
+    }
 }
 
 pub(crate) fn yes(holds: bool) -> &'static str {
@@ -42,11 +56,16 @@ pub(crate) fn yes(holds: bool) -> &'static str {
 
 /// Writes what a ledger over the repository replies.
 pub(crate) fn ask(state: &mut State, request: Request, out: &mut String) -> Result<(), Stop> {
-    match state.ground.ask(state.alloc, request)? {
-        Ok(told) => writeln!(out, "{}", Accepted(told))?,
-        Err(refusal) => writeln!(out, "{}", Refused(refusal))?,
-    }
+    let reply = state.ground.ask(state.alloc, request)?;
+    show_reply(reply, out)?;
     Ok(())
+}
+
+fn show_reply(reply: Result<Told, Refusal>, out: &mut String) -> Result<(), AllocError> {
+    match reply {
+        Ok(told) => writeln!(out, "{}", Accepted(told)),
+        Err(refusal) => writeln!(out, "{}", Refused(refusal)),
+    }
 }
 
 fn show_outline(
@@ -56,13 +75,17 @@ fn show_outline(
     out: &mut String,
 ) -> Result<(), Stop> {
     let outline = Outline::of(alloc, What::Undo, words::number(number)?, change)?;
+    write_outline(&outline, out)?;
+    Ok(())
+}
+
+fn write_outline(outline: &Outline, out: &mut String) -> Result<(), AllocError> {
     let (number, undo) = (outline.number, yes(outline.what == What::Undo));
     writeln!(out, "outline {number} undo {undo}")?;
     show_names("adds", outline.adds.as_slice(), out)?;
     show_names("drops", outline.drops.as_slice(), out)?;
     show_ids("sets", outline.sets.as_slice(), out)?;
-    show_ids("clears", outline.clears.as_slice(), out)?;
-    Ok(())
+    show_ids("clears", outline.clears.as_slice(), out)
 }
 
 /// Makes the change and takes it back, if it can be made, and writes what the repository is in between and whether it

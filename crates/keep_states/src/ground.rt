@@ -52,13 +52,20 @@ impl Ground {
 
     /// Asks what a ledger over the repository replies.
     pub fn ask(&mut self, alloc: Global, request: Request) -> Result<Result<Told, Refusal>, Stop> {
-        if let Ground::Alone(alone) = self {
-            *self = Ground::Changed(ledger_over(alloc, alone.live.repo())?);
-        }
+        self.put_under_changes(alloc)?;
         match self {
             Ground::Alone(_) => Err(Stop::NoLine),
             Ground::Changed(ledger) => Ok(ledger.ask(&mut NoHooks {}, request)),
         }
+    }
+
+    // Puts a repository by itself under its changes.
+    fn put_under_changes(&mut self, alloc: Global) -> Result<(), Stop> {
+        if let Ground::Alone(alone) = self {
+            let ledger = ledger_over(alloc, alone.live.repo())?;
+            *self = Ground::Changed(ledger);
+        }
+        Ok(())
     }
 }
 

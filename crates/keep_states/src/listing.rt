@@ -10,20 +10,35 @@ use std::mem;
 /// Lists a member of the held change, if the line asks for it.
 pub(crate) fn answer(state: &mut State, verb: &str, rest: &str) -> Result<bool, Stop> {
     let alloc = state.alloc;
-    let change = &mut state.held.change;
     match verb {
         "change" => state.held = no_change(alloc),
+        "seen" => state.held.seen = words::number(rest)?,
+        _ => return list(alloc, &mut state.held.change, verb, rest),
+    }
+    Ok(true)
+}
+
+/// Lists a member of the change, if the line asks for it.
+fn list(alloc: Global, change: &mut Change, verb: &str, rest: &str) -> Result<bool, Stop> {
+    match verb {
         "adds" => push(alloc, &mut change.adds, file(alloc, rest)?)?,
         "drops" => push(alloc, &mut change.drops, file(alloc, rest)?)?,
         "sets" => push(alloc, &mut change.sets, words::pack_mark(rest)?)?,
         "clears" => push(alloc, &mut change.clears, words::pack_mark(rest)?)?,
+        _ => return ask_for(alloc, change, verb, rest),
+    }
+    Ok(true)
+}
+
+/// Lists a condition of the change, if the line asks for it.
+fn ask_for(alloc: Global, change: &mut Change, verb: &str, rest: &str) -> Result<bool, Stop> {
+    match verb {
         "present" => push(alloc, &mut change.present, words::name(rest)?)?,
         "absent" => push(alloc, &mut change.absent, words::name(rest)?)?,
         "marked" => push(alloc, &mut change.marked, words::id(rest)?)?,
         "unmarked" => push(alloc, &mut change.unmarked, words::id(rest)?)?,
         "absents" => change.absent = absents(alloc, words::short_number(rest)?)?,
         "strict" => change.strict = true,
-        "seen" => state.held.seen = words::number(rest)?,
         _ => return Ok(false),
     }
     Ok(true)

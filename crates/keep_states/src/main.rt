@@ -22,6 +22,7 @@ use keep_catalog::Catalog;
 use keep_filters::{AskFacts, Filter, Pick};
 use keep_jobs::Kit;
 use keep_snap::SnapFacts;
+use std::alloc::AllocError;
 use std::fmt::Write;
 use std::process::ExitCode;
 
@@ -32,6 +33,11 @@ type Answers = (String, Result<(), String>);
 fn answer(state: &mut State, line: &str, out: &mut String) -> Result<(), Stop> {
     let line = line.replace(state.alloc, "$", state.last.as_str())?;
     let (verb, rest) = line.split_once(' ').unwrap_or((line.as_str(), ""));
+    answer_verb(state, verb, rest, out)
+}
+
+/// Does what the verb asks for, and writes the answer.
+fn answer_verb(state: &mut State, verb: &str, rest: &str, out: &mut String) -> Result<(), Stop> {
     if filling::answer(state, verb, rest)? {
         return Ok(());
     }
@@ -56,10 +62,21 @@ fn answer(state: &mut State, line: &str, out: &mut String) -> Result<(), Stop> {
 /// Answers what is asked of the catalog.
 fn look_up(state: &State, verb: &str, rest: &str, out: &mut String) -> Result<(), Stop> {
     let catalog = Catalog::read_past(state.alloc, state.ground.live())?;
-    if placing::answer(state.alloc, &catalog, verb, rest, out)? {
+    answer_by(&catalog, state, verb, rest, out)
+}
+
+/// Answers by what the catalog has.
+fn answer_by(
+    catalog: &Catalog,
+    state: &State,
+    verb: &str,
+    rest: &str,
+    out: &mut String,
+) -> Result<(), Stop> {
+    if placing::answer(state.alloc, catalog, verb, rest, out)? {
         return Ok(());
     }
-    if reaching::answer(state.alloc, &catalog, verb, rest, out)? {
+    if reaching::answer(state.alloc, catalog, verb, rest, out)? {
         return Ok(());
     }
     match verb {
@@ -106,16 +123,33 @@ fn answers(rt: &HostRuntime) -> Result<Answers, Stop> {
 
 /// The same with what is stored.
 fn answers_with(rt: &HostRuntime, kit: Kit) -> Result<Answers, Stop> {
-    let alloc = rt.alloc();
-    let mut out = String::new(alloc);
-    let mut state = State::new(alloc, kit);
-    for line in rt.lines(alloc) {
+    answers_from(rt, &mut State::new(rt.alloc(), kit))
+}
+
+/// The same from this state on.
+fn answers_from(rt: &HostRuntime, state: &mut State) -> Result<Answers, Stop> {
+    let mut out = String::new(rt.alloc());
+    let end = answer_lines(rt, state, &mut out)?;
+    Ok((out, end))
+}
+
+/// Answers the lines. The text within is the line at which they end early, and why.
+fn answer_lines(
+    rt: &HostRuntime,
+    state: &mut State,
+    out: &mut String,
+) -> Result<Result<(), String>, Stop> {
+    for line in rt.lines(rt.alloc()) {
         let line = line?;
-        if let Err(stop) = step(&mut state, line.as_str(), &mut out) {
-            return Ok((out, Err(format!(in alloc; "{stop}: {line}")?)));
+        if let Err(stop) = step(state, line.as_str(), out) {
+            return Ok(Err(end_at(rt, &stop, line.as_str())?));
         }
     }
-    Ok((out, Ok(())))
+    Ok(Ok(()))
+}
+
+fn end_at(rt: &HostRuntime, stop: &Stop, line: &str) -> Result<String, AllocError> {
+    format!(in rt.alloc(); "{stop}: {line}")
 }
 
 fn main(rt: HostRuntime) -> ExitCode {

@@ -91,17 +91,21 @@ fn said_by(alloc: Global, line: &str) -> Result<JobLine, Stop> {
 
 /// What the job of the line is planned as.
 fn planned(state: &State, line: &str) -> Result<Result<Planned, PlanError>, Stop> {
-    let alloc = state.alloc;
-    let job = match resolve(alloc, &state.kit, said_by(alloc, line)?) {
-        Ok(job) => job,
-        Err(LineError::Memory) => return Err(Stop::Memory),
-        Err(LineError::Bad(_)) => return Err(Stop::NoLine),
-    };
+    let said = said_by(state.alloc, line)?;
+    plan_said(state, said)
+}
+
+/// What this job is planned as, with what the kit has for its names.
+fn plan_said(state: &State, said: JobLine) -> Result<Result<Planned, PlanError>, Stop> {
     let settings = Settings {
         cut: Cut::after(CUT),
         now: state.now,
     };
-    Ok(plan(alloc, &state.ground.view(), settings, &job))
+    match resolve(state.alloc, &state.kit, said) {
+        Ok(job) => Ok(plan(state.alloc, &state.ground.view(), settings, &job)),
+        Err(LineError::Memory) => Err(Stop::Memory),
+        Err(LineError::Bad(_)) => Err(Stop::NoLine),
+    }
 }
 
 /// Blobs by their types and texts.

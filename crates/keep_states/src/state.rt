@@ -5,6 +5,7 @@ use keep_jobs::Kit;
 use keep_names::{FileName, Id};
 use keep_repo::{Bytes, Mark, Repo};
 use std::alloc::{AllocError, Global};
+use std::mem;
 
 /// What the lines of a case work with.
 #[derive(Drop)]
@@ -27,6 +28,15 @@ pub(crate) struct State {
 pub(crate) fn no_change(alloc: Global) -> Planned {
     let change = Change::new(alloc);
     Planned { change, seen: 0 }
+}
+
+/// The kit that has nothing.
+fn no_kit(alloc: Global) -> Kit {
+    Kit {
+        filters: Vec::new(alloc),
+        vetoes: Vec::new(alloc),
+        watches: Vec::new(alloc),
+    }
 }
 
 /// The kit with this filter alone.
@@ -54,18 +64,15 @@ impl State {
 
     /// Begins a case, with an empty repository.
     pub fn begin(&mut self) {
-        self.ground = Ground::new(self.alloc, Repo::new(self.alloc));
-        self.held = no_change(self.alloc);
-        self.files = Vec::new(self.alloc);
-        self.now = 0;
-        self.last = String::new(self.alloc);
+        let kit = mem::replace(&mut self.kit, no_kit(self.alloc));
+        drop(mem::replace(self, State::new(self.alloc, kit)));
     }
 
     /// The repository by itself, with this file, too.
     pub fn put(&mut self, name: FileName, bytes: Bytes) -> Result<(), AllocError> {
         let mut repo = self.ground.live().copy()?;
         repo.insert_file(name, bytes)?;
-        self.ground = Ground::new(self.alloc, repo);
+        self.stand_on(repo);
         Ok(())
     }
 
@@ -73,7 +80,7 @@ impl State {
     pub fn mark(&mut self, pack: Id, moment: i64) -> Result<(), AllocError> {
         let mut repo = self.ground.live().copy()?;
         repo.insert_mark(pack, Mark { moment })?;
-        self.ground = Ground::new(self.alloc, repo);
+        self.stand_on(repo);
         Ok(())
     }
 
@@ -81,7 +88,12 @@ impl State {
     pub fn remove(&mut self, name: FileName) -> Result<(), AllocError> {
         let mut repo = self.ground.live().copy()?;
         repo.remove_file(name);
-        self.ground = Ground::new(self.alloc, repo);
+        self.stand_on(repo);
         Ok(())
+    }
+
+    // This repository by itself, without events.
+    fn stand_on(&mut self, repo: Repo) {
+        self.ground = Ground::new(self.alloc, repo);
     }
 }
