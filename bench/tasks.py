@@ -1,19 +1,37 @@
-"""The program keep_bench, which reads its standard input and does one task with it. Its start and its
-reading are in the time of a task."""
+"""The programs that measure. keep_bench reads its standard input and does one task with it: its start and its reading
+are in the time of a task."""
 import os, subprocess, sys
 
 TOP = os.path.realpath(os.path.join(os.path.dirname(os.path.realpath(__file__)), ".."))
-FOLDER = os.path.join(TOP, "crates", "keep_bench")
-PROGRAM = os.path.join(FOLDER, "out", "keep_bench")
 
 
-def build():
+def folder_of(crate):
+    return os.path.join(TOP, "crates", crate)
+
+
+def program_of(crate):
+    return os.path.join(folder_of(crate), "out", crate)
+
+
+PROGRAM = program_of("keep_bench")
+
+
+def stored(crate, name):
+    """What the run that stands beside the sources of the program is given, in a file of this name."""
+    path = os.path.join(folder_of(crate), name)
+    if not os.path.exists(path):
+        return b""
+    with open(path, "rb") as file:
+        return file.read()
+
+
+def build(crate="keep_bench"):
     """Proves and builds the program; where nothing changed since, that takes some seconds."""
-    with open(os.path.join(FOLDER, "stdin"), "rb") as small:
-        run = subprocess.run(["rt", "run", "--", "document"], cwd=FOLDER, stdin=small,
-                             stdout=subprocess.PIPE, stderr=subprocess.STDOUT)
+    words = stored(crate, "args").decode().splitlines()
+    run = subprocess.run(["rt", "run", "--", *words], cwd=folder_of(crate), input=stored(crate, "stdin"),
+                         stdout=subprocess.PIPE, stderr=subprocess.STDOUT)
     if run.returncode != 0:
-        sys.exit(run.stdout.decode() + "keep_bench can't be built")
+        sys.exit(run.stdout.decode() + f"{crate} can't be built")
 
 
 def run_task(task, path, wanted):

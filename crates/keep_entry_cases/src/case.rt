@@ -1,4 +1,5 @@
 use crate::facets::facets;
+use crate::mixing::{cuts, mixed};
 use crate::no::No;
 use crate::telling::tell;
 use keep_entries::{read_entry, write_entry};
@@ -43,6 +44,8 @@ fn answer_bytes(alloc: Global, word: &str, number: &str, bytes: &[u8]) -> Result
     match word {
         "entry" => told(alloc, number, bytes),
         "again" => written(alloc, number, bytes),
+        "cuts" => cuts(alloc, number, bytes),
+        "mixed" => mixed(alloc, number, bytes),
         "facets" => facets(alloc, number, count_in(bytes).ok_or(No::Case)?),
         _ => Err(No::Case),
     }

@@ -3,6 +3,7 @@
 
 mod case;
 mod facets;
+mod mixing;
 mod no;
 mod telling;
 

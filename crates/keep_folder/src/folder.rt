@@ -58,6 +58,7 @@ impl<R: Files<File = File> + Alloc<A = Global>> Folder<R> {
         self.require_sound()?;
         let source = self.spot(from)?;
         let target = self.spot(to)?;
+        self.require_folders(source.parent.as_str())?;
         self.make_folders(target.parent.as_str())?;
         fs::rename(&self.rt, source.file.as_str(), target.file.as_str())?;
         self.settle(target.folder.as_str());
@@ -69,6 +70,7 @@ impl<R: Files<File = File> + Alloc<A = Global>> Folder<R> {
     pub(crate) fn remove(&mut self, key: Key) -> io::Result<()> {
         self.require_sound()?;
         let spot = self.spot(key)?;
+        self.require_folders(spot.parent.as_str())?;
         fs::remove_file(&self.rt, spot.file.as_str())?;
         self.settle(spot.folder.as_str());
         Ok(())
@@ -97,6 +99,27 @@ impl<R: Files<File = File> + Alloc<A = Global>> Folder<R> {
         })
     }
 
+    /// Refuses a path below the root on which something else than a folder stands, a link to one too. At the root it may
+    /// be a link.
+    fn require_folders(&self, path: &str) -> io::Result<()> {
+        let alloc = self.rt.alloc();
+        let mut outer = String::from_str(alloc, self.root.as_str())?;
+        for name in path.split('/') {
+            let inner = format!(in alloc; "{outer}/{name}")?;
+            self.require_folder(outer.as_str(), inner.as_str())?;
+            outer = inner;
+        }
+        Ok(())
+    }
+
+    fn require_folder(&self, outer: &str, inner: &str) -> io::Result<()> {
+        if outer == self.root.as_str() || fs::symlink_metadata(&self.rt, inner)?.is_dir() {
+            Ok(())
+        } else {
+            Err(io::Error::from(ErrorKind::NotADirectory))
+        }
+    }
+
     /// Makes the folders on a path below the root that aren't there.
     fn make_folders(&mut self, path: &str) -> io::Result<()> {
         let alloc = self.rt.alloc();
@@ -116,7 +139,9 @@ impl<R: Files<File = File> + Alloc<A = Global>> Folder<R> {
                 self.settle(outer);
                 self.require_sound()
             }
-            Err(error) if error.kind() == ErrorKind::AlreadyExists => Ok(()),
+            Err(error) if error.kind() == ErrorKind::AlreadyExists => self.require_folder(
+                outer, inner,
+            ),
             Err(error) => Err(error),
         }
     }

@@ -6,6 +6,11 @@ from repository import Refused, trash, word
 from shelf import Fault, entry, moves, order
 
 LAST_CHANGE, LAST_EVENT = 1_048_576, 16_777_216
+# Which events a veto refuses, and what a watch counts of an event.
+VETOES = {"few-drops": lambda kind, change: kind != "empty" and sum(name[0] == 2 for name in change.drops) > 1,
+          "no-empty": lambda kind, change: kind == "empty"}
+WATCHES = {"events": lambda kind, change: 1,
+           "files": lambda kind, change: 0 if kind == "empty" else len(change.adds) + len(change.drops)}
 
 
 class Book:
@@ -17,7 +22,23 @@ class Book:
         self.shelf, self.opening, self.final, self.due = shelf, read.opening, read.final, read.due
         self.events, self.changes = read.events, read.changes
         self.state, _ = self.fold(self.kept())
+        self.vetoes, self.totals = [], {}
         self.finish()
+
+    def arm(self, name):
+        """Whether there is such a veto or watch."""
+        if name in self.vetoes or name in self.totals:
+            raise Refused("DoubleName")
+        if name in VETOES:
+            self.vetoes.append(name)
+        if name in WATCHES:
+            self.totals[name] = 0
+        return name in VETOES or name in WATCHES
+
+    def check_vetoes(self, kind, change):
+        for name in self.vetoes:
+            if VETOES[name](kind, change):
+                raise Refused(f"Vetoed {name}")
 
     def length(self):
         return self.events[-1][0] if self.events else 0
@@ -67,6 +88,7 @@ class Book:
             raise Refused("Fault")
         self.due = self.erasures(number) if kind == "empty" else moves(kind, number, change)
         self.enter(kind, number, change, at, state)
+        self.totals = {name: total + WATCHES[name](kind, change) for name, total in self.totals.items()}
         self.opening = opening or self.opening
         try:
             self.finish()
@@ -92,6 +114,7 @@ class Book:
             self.check_room(self.last_change())
             if change.strict and seen != self.length():
                 raise Refused(f"Stale {self.length()}")
+            self.check_vetoes(kind, change)
             unmet = change.unmet(self.state)
             if unmet:
                 raise Refused("Unmet " + (word(unmet[1]) if unmet[0] == 0 else f"mark {unmet[1]}"))
@@ -100,6 +123,8 @@ class Book:
         if kind != "empty" and (kind == "redo") == self.in_force(number):
             raise Refused("InForce" if kind == "redo" else "NotInForce")
         self.check_room()
+        if kind != "undo":
+            self.check_vetoes(kind, self.changes[number])
         if kind == "empty":
             return self.state, []
         others = [n for n in self.kept() if n != number]

@@ -1,64 +1,42 @@
 """What each command's change is."""
-import re, sys
+import re
 
-from repository import KINDS, Change, Refused, document, index_packs, listed, make_pack, named, pack_entries, sha
+from changes import NewBlobs, add_or_record, add_snapshots, reuse
+from labels import plan_forget, plan_rewrite, plan_tag
+from repository import KINDS, BadLine, Change, Refused, document, index_packs, listed, named, pack_entries
+from trees import grown, reached, stored, tree_of
 
 NOW = 1000
 
 
-class BadLine(Exception):
-    """A line is answered as a bad one."""
-
-
-def reuse(state, change, blob):
-    """Records what a blob that is there rests on."""
-    pack, _, _, index = state.places(blob)[0]
-    change.present |= {(0, pack), index}
-    change.unmarked.add(pack)
-
-
-def add_or_record(state, change, name, content):
-    if name in state.files:
-        change.present.add(name)
-    else:
-        change.adds[name] = content
-
-
 def plan_backup(book, words):
     state, change = book.state, Change()
-    host, time, files = words[0], words[1], sorted(word.rsplit("=", 1) for word in words[2:])
-    contents = [(path[1:], b"" if digits == "-" else bytes.fromhex(digits)) for path, digits in files]
+    host, time, files = words[0], words[1], [word.rsplit("=", 1) for word in words[2:]]
+    check_paths([path.split("/") for path, _ in files])
+    contents = [(path, b"" if digits == "-" else bytes.fromhex(digits)) for path, digits in files]
     if not re.fullmatch(r"\d{4}-\d\d-\d\dT\d\d:\d\d:\d\dZ", time):
         raise Refused("BadTime")
     state.check()
-    nodes = [{"content": [sha(content)] if content else [], "name": name, "type": "file"} for name, content in contents]
-    root, new = document({"nodes": nodes}), {0: [], 1: []}
-    for kind, blob in [(0, content) for _, content in contents if content] + [(1, root)]:
-        if state.places((kind, sha(blob))):
-            reuse(state, change, (kind, sha(blob)))
-        elif (kind, blob) not in new[kind]:
-            new[kind].append((kind, blob))
-    packs = [make_pack(blobs) for blobs in new.values() if blobs]
-    for pack in packs:
-        add_or_record(state, change, named("pack", pack), pack)
-        if sha(pack) in state.marks:
-            change.clears[sha(pack)] = state.marks[sha(pack)]
-        else:
-            change.unmarked.add(sha(pack))
-    if packs:
-        index = document({"packs": [listed(sha(pack), pack_entries(pack)) for pack in packs]})
-        add_or_record(state, change, named("index", index), index)
-    snapshot = document({"hostname": host, "paths": ["/"], "time": time, "tree": sha(root), "username": "keep"})
-    if named("snapshot", snapshot) in state.files:
-        raise Refused("SnapshotThere")
-    change.adds[named("snapshot", snapshot)] = snapshot
+    new = NewBlobs(state, change)
+    root = stored(grown(contents), new.offer)
+    new.add_packs()
+    value = {"hostname": host, "paths": ["/"], "time": time, "tree": root, "username": "keep"}
+    add_snapshots(state, change, [document(value)])
     return change
+
+
+def check_paths(paths):
+    if any(len(parts) < 2 or parts[0] or set(parts[1:]) & {"", ".", ".."} for parts in paths):
+        raise Refused("BadPath")
+    for at, one in enumerate(paths):
+        if any(other[:len(one)] == one for other in paths[:at] + paths[at + 1:]):
+            raise Refused("SamePathTwice")
 
 
 def plan_mark(book, words):
     state, change = book.state, Change()
     state.check()
-    used = state.used()
+    used = sorted({blob for name, _ in state.of("snapshot") for blob in reached(state, tree_of(state, name))})
     held = {state.places(blob)[0][0] for blob in used}
     change.sets = {name[1]: NOW for name, _ in state.of("pack") if name[1] not in state.marks and name[1] not in held}
     for blob in used:
@@ -71,18 +49,28 @@ def plan_mark(book, words):
 def plan_sweep(book, words):
     state, change = book.state, Change()
     state.check()
-    change.clears = dict(state.marks)
-    for pack in state.marks:
-        if (0, pack) in state.files:
-            change.drops[0, pack] = state.files[0, pack]
+    wait = int(words[0]) if words else 0
+    swept = {pack: moment for pack, moment in state.marks.items() if moment + wait <= NOW}
+    change.clears = swept
+    change.drops = {(0, pack): state.files[0, pack] for pack in swept if (0, pack) in state.files}
     left = []
     for name, content in state.of("index"):
-        if any(pack["id"] in state.marks for pack in index_packs(content)):
+        if any(pack["id"] in swept for pack in index_packs(content)):
             change.drops[name] = content
-            left += [pack for pack in index_packs(content) if pack["id"] not in state.marks]
+            left += [pack for pack in index_packs(content) if pack["id"] not in swept]
     if left:
-        sys.exit("a join of indexes isn't worked out here")
+        index = document({"packs": joined(left)})
+        add_or_record(state, change, named("index", index), index)
     return change
+
+
+def joined(packs):
+    """Packs in first-seen order, the blobs of one pack merged in first-seen order, none twice."""
+    blobs = {}
+    for pack in packs:
+        seen = blobs.setdefault(pack["id"], [])
+        seen += [blob for blob in pack["blobs"] if blob not in seen]
+    return [{"blobs": seen, "id": pack} for pack, seen in blobs.items()]
 
 
 def plan_repair(book, words):
@@ -111,7 +99,7 @@ def plan_drop(book, words):
 
 
 PLANS = {"add": plan_add, "drop": plan_drop, "backup": plan_backup, "mark": plan_mark, "sweep": plan_sweep,
-         "repair": plan_repair}
+         "repair": plan_repair, "tag": plan_tag, "forget": plan_forget, "rewrite": plan_rewrite}
 
 
 def target(book, kind, text):

@@ -9,6 +9,10 @@ class Refused(Exception):
     """A line is answered by `no` and these words."""
 
 
+class BadLine(Exception):
+    """A line is answered as a bad one."""
+
+
 def sha(content):
     return hashlib.sha256(content).hexdigest()
 
@@ -100,23 +104,16 @@ class State:
         return sorted(found)
 
     def content(self, blob):
+        if not self.places(blob):
+            raise Refused(f"MissingBlob {blob[1]}")
         pack, offset, length, _ = self.places(blob)[0]
         return self.files[0, pack][offset:offset + length]
-
-    def reach(self, snapshot):
-        """The blobs that a snapshot reaches, where all are there and no folder is in the root."""
-        root = (1, json.loads(self.files[snapshot])["tree"])
-        nodes = json.loads(self.content(root))["nodes"]
-        return [root] + [(0, piece) for node in nodes for piece in node["content"]]
 
     def check(self):
         """Refuses the first index or snapshot that is no document."""
         for name, content in self.of("index") + self.of("snapshot"):
             if not is_document(content):
                 raise Refused(f"NotJson {word(name)}")
-
-    def used(self):
-        return sorted({blob for snapshot, _ in self.of("snapshot") for blob in self.reach(snapshot)})
 
 
 class Change:

@@ -1,6 +1,6 @@
 use crate::plan::Plan;
 use keep_shelf::MemoryShelf;
-use std::alloc::Global;
+use std::alloc::{AllocError, Global};
 
 /// Which calls of a case fail.
 #[derive(Clone, Copy)]
@@ -35,7 +35,12 @@ pub(crate) struct Case {
     pub counted: usize,
     /// Whether the shelf is to be opened.
     pub opened: bool,
+    /// Whether the lines are one script, whose run opens the shelf. Else each is a script of its own.
+    pub is_script: bool,
+    /// The scripts.
     pub lines: Vec<String>,
+    /// In which ways the shelf at the beginning is damaged, each by itself.
+    pub damages: Vec<String>,
 }
 
 impl Case {
@@ -48,7 +53,9 @@ impl Case {
             stops: Stops::Nowhere,
             counted: 0,
             opened: false,
+            is_script: false,
             lines: Vec::new(alloc),
+            damages: Vec::new(alloc),
         }
     }
 
@@ -59,6 +66,18 @@ impl Case {
         } else {
             Stops::AtEachCall
         };
+    }
+
+    /// Adds a line.
+    pub fn add_line(&mut self, line: &str) -> Result<(), AllocError> {
+        match self.lines.last_mut() {
+            Some(script) if self.is_script => {
+                script.push('\n')?;
+                script.push_str(line)?;
+            }
+            _ => self.lines.push(String::from_str(self.alloc, line)?)?,
+        }
+        Ok(())
     }
 
     /// The calls from the next step on fail so.

@@ -2,8 +2,11 @@
 //! it tells of each line of the script the answer, and the calls that it made.
 #![tactic(auto)]
 
+mod answering;
 mod call;
 mod case;
+mod damages;
+mod kit;
 mod logged;
 mod plan;
 mod running;

@@ -1,18 +1,24 @@
+ghost use Rattle.std.specs.Prelude.{◌<◌, ◌≤◌};
 ghost use Rattle.keep_book.specs.Armed.{HasSums};
 
+use crate::answering::{answer_on, answer_over};
 use crate::case::{Case, Failing, Stops};
+use crate::damages::show_damages;
+use crate::kit::run_with_kit;
 use crate::logged::Logged;
 use crate::plan::Plan;
-use crate::showing::{Form, show_calls, show_line};
+use crate::showing::{Form, show_calls, show_line, show_script};
 use crate::stop::Stop;
 use crate::stops::show_stops;
 use keep_book::Book;
+use keep_filters::Filter;
 use keep_jobs::Kit;
 use keep_recording::RecordingShelf;
-use keep_script::{Setup, Status, run_on};
+use keep_script::{Setup, Status};
 use keep_shelf::{FailingShelf, MemoryShelf};
 use std::alloc::Global;
 use std::fmt::Write;
+use std::mem;
 
 /// The shelf that a case is run over.
 pub(crate) type CaseShelf = Logged<FailingShelf<RecordingShelf<MemoryShelf>>>;
@@ -36,9 +42,26 @@ pub(crate) struct Answered<'a> {
 
 /// How many calls came before those that are counted, and how many of these there were.
 #[derive(Clone, Copy)]
-struct Counts {
+pub(crate) struct Counts {
     before: usize,
     counted: usize,
+}
+
+/// What the counts are where nothing is counted.
+const NO_COUNTS: Counts = Counts {
+    before: 0,
+    counted: 0,
+};
+
+/// One run of a case.
+#[derive(Clone, Copy)]
+pub(crate) struct Trial<'a> {
+    pub case: &'a Case,
+    /// Which calls fail.
+    plan: Plan,
+    form: Form,
+    /// Whether its lines are run as one script that opens the shelf.
+    pub as_script: bool,
 }
 
 /// Writes the answer to the case.
@@ -49,57 +72,107 @@ pub(crate) fn answer(case: &Case, out: &mut String) -> Result<(), Stop> {
     writeln!(out, "= {}", case.name)?;
     match case.failing {
         Failing::Nothing => {
-            run(case, NO_FAILURE, Form::Whole, out)?;
+            show(case, NO_FAILURE, Form::Whole, out)?;
         }
         Failing::Chosen(plan) => {
             let mut unshown = String::new(case.alloc);
-            let counts = run(case, NO_FAILURE, Form::Brief, &mut unshown)?;
-            run(case, plan.after(counts.before), Form::Whole, out)?;
+            let counts = show(case, NO_FAILURE, Form::Brief, &mut unshown)?;
+            show(case, plan.after(counts.before), Form::Whole, out)?;
         }
-        Failing::Each => run_each(case, out)?,
+        Failing::Each => show_each(case, out)?,
+    }
+    show_damages(case, out)
+}
+
+/// Runs the case, and then once more for each of its counted calls: that one fails alone, and then all that follow too.
+fn show_each(case: &Case, out: &mut String) -> Result<(), Stop> {
+    let counts = show(case, NO_FAILURE, Form::Whole, out)?;
+    if case.is_script {
+        return show_each_of_script(case, out);
+    }
+    for number in 0..counts.counted as u64 {
+        for plan in [Plan::Once(number + 1), Plan::Onward(number + 1)] {
+            writeln!(out, "{plan}")?;
+            show(case, plan.after(counts.before), Form::Brief, out)?;
+        }
     }
     Ok(())
 }
 
-/// Runs the case, and then once more for each of its counted calls: that one fails alone, and then all that follow too.
-fn run_each(case: &Case, out: &mut String) -> Result<(), Stop> {
-    let counts = run(case, NO_FAILURE, Form::Whole, out)?;
-    for number in 0..counts.counted as u64 {
-        for plan in [Plan::Once(number + 1), Plan::Onward(number + 1)] {
-            writeln!(out, "{plan}")?;
-            run(case, plan.after(counts.before), Form::Brief, out)?;
+/// The same of a script, whose run keeps the shelf: a call that fails shows in what it answers, so the first number at
+/// which nothing does is past the last call.
+fn show_each_of_script(case: &Case, out: &mut String) -> Result<(), Stop> {
+    let mut right = String::new(case.alloc);
+    show(case, NO_FAILURE, Form::Brief, &mut right)?;
+    for number in 1..u64::MAX {
+        let mut text = String::new(case.alloc);
+        show(case, Plan::Once(number), Form::Brief, &mut text)?;
+        if text == right {
+            break;
         }
+        write!(out, "{}\n{text}", Plan::Once(number))?;
+        writeln!(out, "{}", Plan::Onward(number))?;
+        show(case, Plan::Onward(number), Form::Brief, out)?;
     }
     Ok(())
 }
 
 /// Runs the case where calls fail by the plan.
-fn run(case: &Case, plan: Plan, form: Form, out: &mut String) -> Result<Counts, Stop> {
-    match run_opened(case, plan, form, out) {
+fn show(case: &Case, plan: Plan, form: Form, out: &mut String) -> Result<Counts, Stop> {
+    let trial = Trial {
+        case,
+        plan,
+        form,
+        as_script: case.is_script,
+    };
+    match run_with_kit(trial, out) {
         Err(Stop::NotOpened(error)) => {
             writeln!(out, "{}", Stop::NotOpened(error))?;
-            Ok(Counts {
-                before: 0,
-                counted: 0,
-            })
+            Ok(NO_COUNTS)
         }
         other => other,
     }
 }
 
-/// Runs the case over the book that is opened, if one is.
-fn run_opened(case: &Case, plan: Plan, form: Form, out: &mut String) -> Result<Counts, Stop> {
-    let shelf = shelf_over(case.alloc, case.shelf.copy()?, plan)?;
-    let mut book = Book::open(case.alloc, shelf)?;
+/// Makes the trial line by line, over one book. The lines can name these filters.
+pub(crate) fn run_lines(
+    trial: Trial<'_>,
+    mut filters: Vec<Filter>,
+    out: &mut String,
+) -> Result<Counts, Stop> {
+    let alloc = trial.case.alloc;
+    let shelf = shelf_over(alloc, trial.case.shelf.copy()?, trial.plan)?;
+    let mut book = Book::open(alloc, shelf)?;
     let opening = recording(&book).calls();
-    let counts = answer_lines(case, form, &mut book, out)?;
-    let first = match (form, case.stops) {
+    let counts = answer_lines(trial.case, trial.form, &mut filters, &mut book, out)?;
+    let first = match (trial.form, trial.case.stops) {
         (Form::Brief, _) | (Form::Whole, Stops::Nowhere) => return Ok(counts),
         (Form::Whole, Stops::AtEachCall) => 0,
         (Form::Whole, Stops::AfterOpening) => opening,
     };
-    show_stops(case.alloc, recording(&book), first, out)?;
+    show_stops(alloc, recording(&book), first, out)?;
     Ok(counts)
+}
+
+/// Makes the trial with its lines as one script, whose run opens the shelf. They can name what is in the kit.
+pub(crate) fn run_script(
+    trial: Trial<'_>,
+    kit: &mut Kit,
+    out: &mut String,
+) -> Result<Counts, Stop> {
+    let alloc = trial.case.alloc;
+    let shelf = shelf_over(alloc, trial.case.shelf.copy()?, trial.plan)?;
+    let script = match trial.case.lines.first() {
+        Some(script) => script.as_str(),
+        None => "",
+    };
+    let mut text = Vec::new(alloc);
+    let status = answer_over(setup(alloc), shelf, kit, script, &mut text);
+    if let Status::NotOpened(error) = status {
+        return Err(Stop::NotOpened(error));
+    }
+    show_script(trial.form, script, &text, &status, out)?;
+    Ok(NO_COUNTS)
 }
 
 /// A shelf with this on it, whose calls are noted and fail by the plan.
@@ -121,6 +194,7 @@ pub(crate) fn recording(book: &Book<CaseShelf>) -> &RecordingShelf<MemoryShelf> 
 fn answer_lines(
     case: &Case,
     form: Form,
+    filters: &mut Vec<Filter>,
     book: &mut Book<CaseShelf>,
     out: &mut String,
 ) -> Result<Counts, Stop>
@@ -140,7 +214,7 @@ fn answer_lines(
         if number + 1 == case.counted {
             before = calls(book)?;
         }
-        let answered = answer_line(case.alloc, line.as_str(), book)?;
+        let answered = answer_line(case.alloc, line.as_str(), filters, book)?;
         if number + 1 >= first_shown {
             show_line(case.alloc, form, &answered, book, out)?;
         }
@@ -151,33 +225,42 @@ fn answer_lines(
     })
 }
 
+/// What each script goes by.
+fn setup(alloc: Global) -> Setup
+    ensures some { 0 < result.cut }
+    ensures most { result.cut ≤ 8_388_608 }
+{
+    Setup {
+        alloc,
+        cut: CUT,
+        now: NOW,
+    }
+}
+
 /// How many calls were made of the shelf.
 fn calls(book: &Book<CaseShelf>) -> Result<usize, Stop> {
     Ok(book.ledger().shelf().calls()?.len())
 }
 
-/// Answers the line as a script of its own.
+/// Answers the line as a script of its own, which can name these filters.
 fn answer_line<'a>(
     alloc: Global,
     line: &'a str,
+    filters: &mut Vec<Filter>,
     book: &mut Book<CaseShelf>,
 ) -> Result<Answered<'a>, Stop>
     requires { HasSums book.old }
     ensures { HasSums book.new }
 {
     let before = calls(book)?;
-    let setup = Setup {
-        alloc,
-        cut: CUT,
-        now: NOW,
-    };
+    let mut text = Vec::new(alloc);
     let mut kit = Kit {
-        filters: Vec::new(alloc),
+        filters: mem::replace(filters, Vec::new(alloc)),
         vetoes: Vec::new(alloc),
         watches: Vec::new(alloc),
     };
-    let mut text = Vec::new(alloc);
-    let status = run_on(setup, book, &mut kit, &mut line.as_bytes(), &mut text);
+    let status = answer_on(setup(alloc), book, &mut kit, line, &mut text);
+    *filters = kit.filters;
     Ok(Answered {
         line,
         text,

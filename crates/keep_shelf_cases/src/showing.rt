@@ -50,6 +50,35 @@ pub(crate) fn show_line(
     Ok(())
 }
 
+/// Writes the script, in whole, what it was answered, and how its run ended.
+pub(crate) fn show_script(
+    form: Form,
+    script: &str,
+    text: &[u8],
+    status: &Status,
+    out: &mut String,
+) -> Result<(), Stop> {
+    let Ok(text) = str::from_utf8(text) else {
+        return Err(Stop::NoEnd);
+    };
+    let ended = word_of(status).ok_or(Stop::NoEnd)?;
+    match form {
+        Form::Whole => {
+            for line in script.lines() {
+                writeln!(out, "| {line}")?;
+            }
+            writeln!(out, "{text}-> {ended}")?;
+        }
+        Form::Brief => {
+            for part in text.lines() {
+                write!(out, "{part}; ")?;
+            }
+            writeln!(out, "{ended}")?;
+        }
+    }
+    Ok(())
+}
+
 pub(crate) fn show_calls(
     alloc: Global,
     calls: &[Call],
@@ -61,7 +90,7 @@ pub(crate) fn show_calls(
     Ok(())
 }
 
-/// How a line's run ended, if a line can end one so.
+/// How the run of a script ended that was opened, if it can end so.
 fn word_of(status: &Status) -> Option<&'static str> {
     match status {
         Status::Done => Some("Done"),

@@ -24,8 +24,8 @@ pub(crate) fn show_stops(
     show_stop(alloc, recording.content_at(last)?, out)
 }
 
-/// Opens what a call left, and writes what the book has, or why it isn't opened.
-fn show_stop(alloc: Global, content: MemoryShelf, out: &mut String) -> Result<(), Stop> {
+/// Opens this as a book, and writes what the book has, or why it isn't opened.
+pub(crate) fn show_stop(alloc: Global, content: MemoryShelf, out: &mut String) -> Result<(), Stop> {
     match show_opened(alloc, content, out) {
         Err(Stop::NotOpened(error)) => {
             writeln!(out, "{}", Stop::NotOpened(error))?;

@@ -22,12 +22,17 @@ pub(crate) fn take(case: &mut Case, row: &str, out: &mut String) -> Result<(), S
         }
         "put" => put(case, rest)?,
         "text" => put_text(case, rest)?,
+        "cut" | "copy" | "swap" | "gone" => case.damages.push(String::from_str(alloc, row)?)?,
         "stops" => case.stop(),
         "once" => case.fail(Failing::Chosen(Plan::Once(number(rest)?))),
         "onward" => case.fail(Failing::Chosen(Plan::Onward(number(rest)?))),
         "each" => case.fail(Failing::Each),
         "open" => case.opened = true,
-        "|" if case.opened => case.lines.push(String::from_str(alloc, rest)?)?,
+        "run" => {
+            case.opened = true;
+            case.is_script = true;
+        }
+        "|" if case.opened => case.add_line(rest)?,
         _ => return Err(Stop::NoRow),
     }
     Ok(())

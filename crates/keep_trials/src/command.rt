@@ -1,6 +1,6 @@
 use crate::readers::{Endless, Slow};
 use crate::writers::Flushed;
-use keep_command::{BadOptions, Ending, keepd};
+use keep_command::{BadOptions, Ending, NoOperators, keepd};
 use keep_ledger::OpenError;
 use keep_script::Status;
 use std::alloc::Global;
@@ -60,7 +60,7 @@ fn failures_give_their_status(rt: HostRuntime) {
         cause: "keepd: cannot read the script",
     };
     let mut writer = unread.writer(alloc);
-    let ending = keepd(&rt, &[], &mut broken, &mut writer);
+    let ending = keepd(&rt, &NoOperators, &[], &mut broken, &mut writer);
     unread.expect(&rt, alloc, &ending, &writer);
     let too_long = Failure {
         room: 0,
@@ -69,7 +69,7 @@ fn failures_give_their_status(rt: HostRuntime) {
         cause: "keepd: the script has more than 67,108,863 bytes",
     };
     let mut writer = too_long.writer(alloc);
-    let ending = keepd(&rt, &[], &mut Endless, &mut writer);
+    let ending = keepd(&rt, &NoOperators, &[], &mut Endless, &mut writer);
     too_long.expect(&rt, alloc, &ending, &writer);
     for (room, flushes, answers) in [(9, 99, ""), (99, 2, ANSWER)] {
         let unwritten = Failure {
@@ -79,7 +79,13 @@ fn failures_give_their_status(rt: HostRuntime) {
             cause: "keepd: cannot write the answers",
         };
         let mut writer = unwritten.writer(alloc);
-        let ending = keepd(&rt, &[], &mut b"count\n".as_slice(), &mut writer);
+        let ending = keepd(
+            &rt,
+            &NoOperators,
+            &[],
+            &mut b"count\n".as_slice(),
+            &mut writer,
+        );
         unwritten.expect(&rt, alloc, &ending, &writer);
     }
 }
@@ -90,7 +96,7 @@ fn unread_options_give_their_status(rt: HostRuntime) -> Result<(), Fail> {
         (BadOptions::Memory, "keepd: no memory", 1),
         (
             BadOptions::Refused,
-            "keepd: bad options; usage: keepd [--cut N] [--now TIME] [--host H] [--tagged T] [--drops N] [--folder DIR] < SCRIPT",
+            "keepd: bad options; usage: keepd [--cut N] [--now TIME] [--host H] [--tagged T] [--drops N] [--folder DIR] [--crew N] < SCRIPT",
             2,
         ),
     ] {

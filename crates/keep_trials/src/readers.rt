@@ -44,6 +44,27 @@ impl Read for Endless {
     }
 }
 
+/// Gives bytes without end, and no line end among them.
+#[derive(Drop)]
+pub struct EndlessLine;
+
+impl Read for EndlessLine {
+    fn read(&mut self, buf: &mut [u8]) -> io::Result<usize> {
+        buf.fill(b'#');
+        Ok(buf.len())
+    }
+}
+
+/// Is interrupted without end.
+#[derive(Drop)]
+pub struct Interrupted;
+
+impl Read for Interrupted {
+    fn read(&mut self, _buf: &mut [u8]) -> io::Result<usize> {
+        Err(io::Error::from(ErrorKind::Interrupted))
+    }
+}
+
 /// Gives one line a read.
 #[derive(Drop)]
 pub struct LineByLine<'a> {

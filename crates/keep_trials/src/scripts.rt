@@ -1,4 +1,4 @@
-use crate::readers::{Endless, LineByLine, Slow};
+use crate::readers::{Endless, EndlessLine, Interrupted, LineByLine, Slow};
 use crate::writers::{ByLine, Flushed, Narrow};
 use keep_jobs::Kit;
 use keep_lines::Mistake;
@@ -155,60 +155,72 @@ fn a_line_of_single_bytes_is_read_on(rt: HostRuntime) -> Result<(), Fail> {
     Ok(())
 }
 
+#[test]
+fn a_line_without_end_is_a_bad_one(rt: HostRuntime) {
+    let mut writer = Vec::new(rt.alloc());
+    let ended = end_of(rt.alloc(), &mut EndlessLine, &mut writer);
+    assert!(rt; ended == Status::BadLine(1, Mistake::TooLong));
+    assert!(rt; writer.as_slice() == b"bad line 1\n".as_slice());
+}
+
+#[test]
+fn a_reader_that_is_always_interrupted_is_given_up(rt: HostRuntime) {
+    let mut writer = Vec::new(rt.alloc());
+    let ended = end_of(rt.alloc(), &mut Interrupted, &mut writer);
+    assert!(rt; ended == Status::ReadFailed);
+    assert!(rt; writer.is_empty());
+}
+
 /// A script of two lines, of which the last lacks its end, and its answers.
 const TWO_ADDS: &str = "add index 61\nadd index 62";
 
 const TWO_ADDED: &str = "ok 1 at 1 +1 -0 *0 ~0\nok 2 at 2 +1 -0 *0 ~0\n";
 
+/// The reader fails behind each byte. The line that was whole before is answered.
 #[test]
 fn a_failed_read_ends_the_run(rt: HostRuntime) {
     let alloc = rt.alloc();
-    let mut failing = Slow {
-        bytes: TWO_ADDS.as_bytes(),
-        interrupted: false,
-        fails: true,
-    };
-    let mut writer = Vec::new(alloc);
-    let ended = end_of(alloc, &mut failing, &mut writer);
-    assert!(rt; ended == Status::ReadFailed);
-    assert!(rt; writer.as_slice() == b"ok 1 at 1 +1 -0 *0 ~0\n".as_slice());
+    for read in 0..=TWO_ADDS.len() {
+        let mut failing = Slow {
+            bytes: &TWO_ADDS.as_bytes()[..read],
+            interrupted: false,
+            fails: true,
+        };
+        let mut writer = Vec::new(alloc);
+        let ended = end_of(alloc, &mut failing, &mut writer);
+        let answers = if read <= "add index 61".len() {
+            ""
+        } else {
+            "ok 1 at 1 +1 -0 *0 ~0\n"
+        };
+        assert!(rt; ended == Status::ReadFailed, "after {read}");
+        assert!(rt; writer.as_slice() == answers.as_bytes(), "after {read}");
+    }
 }
 
-/// A script, what is answered, and how many bytes the writer has room for.
-const NARROW: [(&str, &str, usize); 13] = [
-    (TWO_ADDS, TWO_ADDED, 0),
-    (TWO_ADDS, TWO_ADDED, 1),
-    (TWO_ADDS, TWO_ADDED, 30),
-    (TWO_ADDS, TWO_ADDED, 43),
-    (TWO_ADDS, TWO_ADDED, 44),
-    (TWO_ADDS, TWO_ADDED, 99),
-    (LISTING, LISTED, 44),
-    (LISTING, LISTED, 60),
-    (LISTING, LISTED, 116),
-    (LISTING, LISTED, 150),
-    (LISTING, LISTED, 189),
-    (LISTING, LISTED, 216),
-    (LISTING, LISTED, 240),
-];
-
-/// Listings may break off in the midst of a line.
+/// The writer has room for each number of bytes. Listings may break off in the midst of a line.
 #[test]
 fn a_failed_write_ends_the_run(rt: HostRuntime) {
     let alloc = rt.alloc();
-    for (script, answers, room) in NARROW {
-        let mut writer = Narrow {
-            held: Vec::new(alloc),
-            room,
-        };
-        let ended = end_of(alloc, &mut script.as_bytes(), &mut writer);
-        let status = if answers.len() <= room {
-            Status::Done
-        } else {
-            Status::WriteFailed
-        };
-        assert!(rt; ended == status, "at {room}");
-        let held = &answers.as_bytes()[..room.min(answers.len())];
-        assert!(rt; writer.held.as_slice() == held, "at {room}");
+    for (script, answers) in [(TWO_ADDS, TWO_ADDED), (LISTING, LISTED)] {
+        for room in 0..=answers.len() {
+            let mut writer = Narrow {
+                held: Vec::new(alloc),
+                room,
+                interrupted: false,
+            };
+            let ended = end_of(alloc, &mut script.as_bytes(), &mut writer);
+            let status = if room < answers.len() {
+                Status::WriteFailed
+            } else {
+                Status::Done
+            };
+            assert!(rt; ended == status, "at {room}");
+            assert!(rt;
+                writer.held.as_slice() == &answers.as_bytes()[..room],
+                "at {room}"
+            );
+        }
     }
 }
 

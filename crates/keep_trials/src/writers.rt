@@ -1,14 +1,19 @@
 use std::io::{self, ErrorKind, Write};
 
-/// Takes one byte a call, and no more than it has room for.
+/// Takes one byte a call, each after a call that was interrupted, and no more than it has room for.
 #[derive(Drop)]
 pub struct Narrow {
     pub held: Vec<u8>,
     pub room: usize,
+    pub interrupted: bool,
 }
 
 impl Write for Narrow {
     fn write(&mut self, buf: &[u8]) -> io::Result<usize> {
+        self.interrupted = !self.interrupted;
+        if self.interrupted {
+            return Err(io::Error::from(ErrorKind::Interrupted));
+        }
         if buf.is_empty() || self.room == 0 {
             return Ok(0);
         }
