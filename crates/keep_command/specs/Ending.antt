@@ -18,7 +18,8 @@ use Rattle.keep_command.specs.declared.ending.Ending.TheVariants as ending
 use Rattle.keep_command.specs.declared.options.BadOptions.{BadOptions}
 use Rattle.keep_command.specs.declared.options.BadOptions.TheVariants.{Memory, Refused}
 
--- the exit status: 0 where the script was answered and the shelf never failed, 1 where it did or the run failed, 2 where a line isn't of the language or the words aren't options
+-- the exit status: 0 where the script was answered and the shelf never failed, 1 where it did or the run failed, 2
+-- where a line isn't of the language or the words aren't options
 abbrev pub code_of : Ending → ℕ
 code_of (ending.Ran Done) = 0
 code_of (ending.Ran Faulted) = 1

@@ -8,7 +8,8 @@ use Rattle.keep_view.specs.Shown.{Shown}
 use Rattle.keep_crew.specs.declared.plans.NotPlanned.{NotPlanned}
 use Rattle.keep_crew.specs.declared.plans.NotPlanned.TheVariants.{NoView, Refused}
 
--- the change that is due on what is shown, with the length there; or why there is none: the refusal that is due, or want of memory; or nothing was shown
+-- the change that is due on what is shown, with the length there; or why there is none: the refusal that is due, or
+-- want of memory; or nothing was shown
 abbrev pub IsPlanned : Result Change PlanError → Shown → Result Planned NotPlanned → Type 0
 IsPlanned due shown (Ok planned) = (due ≡ Ok planned.change) × (planned.seen ≡ shown.length)
 IsPlanned due shown (Err (Refused error)) = error ≢ Memory → due ≡ Err error

@@ -111,8 +111,8 @@ impl<B: Naming, R: Wait + Drop, K: Keeper> Desk<B, Locked<B, R, K>> {
     /// Takes the change back with all that leans on it, from the greatest number down, each by an undo of its own that
     /// is published before the next is asked for. No other pass can ask in between.
     ///
-    /// Where an undo is refused or late, or its change is left unsettled, no more are asked for. `LeanedOn` is no refusal
-    /// of any: what leans on a change is taken back before it.
+    /// Where an undo is refused or late, or its change is left unsettled, no more are asked for. `LeanedOn` is no
+    /// refusal of any: what leans on a change is taken back before it.
     pub fn undo_with<W: Wait>(&self, rt: &W, pass: &mut Pass<B>, n: u64) -> TakenBack
         ensures taken_back { IsTakenBack B.opening n pass.old pass.new result }
         ensures begins { IsPrefix pass.old.seen pass.new.seen }

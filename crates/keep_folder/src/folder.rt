@@ -99,8 +99,8 @@ impl<R: Files<File = File> + Alloc<A = Global>> Folder<R> {
         })
     }
 
-    /// Refuses a path below the root on which something else than a folder stands, a link to one too. At the root it may
-    /// be a link.
+    /// Refuses a path below the root on which something else than a folder stands, a link to one too. At the root
+    /// it may be a link.
     fn require_folders(&self, path: &str) -> io::Result<()> {
         let alloc = self.rt.alloc();
         let mut outer = String::from_str(alloc, self.root.as_str())?;

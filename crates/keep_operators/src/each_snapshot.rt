@@ -6,7 +6,8 @@ use keep_snap::SnapFacts;
 use keep_view::View;
 use std::alloc::Global;
 
-/// The filter that takes each snapshot. It holds no question, so that a job that goes by it can be handed to any thread.
+/// The filter that takes each snapshot. It holds no question, so that a job that goes by it can be handed to any
+/// thread.
 #[derive(Clone, Copy)]
 pub struct EachSnapshot;
 

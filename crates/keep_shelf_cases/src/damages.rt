@@ -7,8 +7,8 @@ use keep_shelf::{Key, MemoryShelf, Shelf};
 use std::alloc::Global;
 use std::fmt::Write;
 
-/// Opens what stands on the shelf at the beginning, damaged in each of the ways that the case has, as a book of its own,
-/// and writes what the book has.
+/// Opens what stands on the shelf at the beginning, damaged in each of the ways that the case has, as a book of its
+/// own, and writes what the book has.
 pub(crate) fn show_damages(case: &Case, out: &mut String) -> Result<(), Stop> {
     for damage in &case.damages {
         let mut content = case.shelf.copy()?;
