@@ -4,4 +4,3 @@ pub mod Members
 pub mod Refusal
 pub mod Shape
 pub mod Spelling
-pub mod Tokens

@@ -1,10 +1,16 @@
--- The members of a commit before others, group by group, in the order in which they are written.
-use Rattle.std.specs.Prelude.{ℕ, codes}
-use Rattle.serde_json.specs.Data.{Members, boolean, member, number, string, unsigned}
+-- The members of a commit before others, group by group, in the order in which they are written, and what their lists hold.
+use Rattle.std.specs.Prelude.{ℕ, List, codes, false}
+use Rattle.serde_json.specs.Data.{Data, Members, boolean, member, number, string, unsigned}
+use Rattle.serde_json.specs.View.{items_of}
+use Rattle.serde_json.specs.Written.{items_text}
 use Rattle.keep_docs.specs.Lists.{ids_data}
 use Rattle.keep_change.specs.declared.change.Change.{Change}
 use Rattle.keep_entries.specs.Spelling.{files_data, form_number, marks_data, names_data}
 use Rattle.keep_entries.specs.declared.form.Form.{Form}
+
+-- what a list holds, with its closing bracket
+abbrev pub list_text : List Data → List ℕ
+list_text ds = items_text false (items_of ds)
 
 -- those from `absent` to `drops`
 abbrev pub first_members : Form → Change → Members → Members

@@ -1,9 +1,6 @@
 ghost use Rattle.std.specs.Prelude.{◌≡◌};
 ghost use Rattle.keep_entries.specs.Shape.{form_numbered};
 
-/// The number of the form in which entries are written.
-pub(crate) const FORM: u64 = 2;
-
 /// What an entry says of marks.
 #[derive(Clone, Copy)]
 pub(crate) enum Form {

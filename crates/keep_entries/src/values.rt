@@ -1,128 +1,176 @@
-ghost use Rattle.std.specs.Prelude.{◌≡◌, ◌++◌, OnOk};
+ghost use Rattle.std.specs.Prelude.{◌≡◌, ◌++◌, codes, decimal, map, OnOk};
 ghost use Rattle.std.specs.List.{AllByRecursion};
+ghost use Rattle.hex.specs.Hex.{encode_lower};
+ghost use Rattle.json.specs.Print.{escape};
+ghost use Rattle.serde_json.specs.Written.{comma_if, compact_text};
 ghost use Rattle.keep_docs.specs.Fields.{id_data};
-ghost use Rattle.keep_docs.specs.Lists.{ids_data};
-ghost use Rattle.keep_names.specs.Id.{IsDigest};
+ghost use Rattle.keep_names.specs.FileName.{kind_text};
+ghost use Rattle.keep_names.specs.Id.{IsDigest, id_text};
 ghost use Rattle.keep_entries.specs.Entry.{FitsFile, FitsMark, FitsName};
-ghost use Rattle.keep_entries.specs.Spelling.{file_data, files_data, mark_data, marks_data, name_data, names_data};
-ghost use Rattle.keep_entries.specs.Tokens.{value_tokens};
+ghost use Rattle.keep_entries.specs.Members.{list_text};
+ghost use Rattle.keep_entries.specs.Spelling.{file_data, mark_data, name_data};
 ghost use Rattle.keep_entries.specs.declared.form.Form.TheVariants.{Moments};
 
-use json::Writer;
 use keep_change::{PackMark, StoredFile};
-use keep_names::{FileName, Id, print_id};
+use keep_names::{FileName, Id, Kind};
 use std::alloc::{AllocError, Global};
 
-/// Writes a list of names.
-pub(crate) fn put_names(
-    alloc: Global,
-    out: &mut Writer,
-    names: &[FileName],
-) -> Result<(), AllocError>
-    ensures tokens { OnOk result (out.new.tokens ≡ out.old.tokens ++ value_tokens (names_data names.now)) }
-    ensures before { out.new.before ≡ out.old.before }
+/// Writes the names that a list holds, without its brackets.
+pub(crate) fn put_names(out: &mut Vec<u8>, names: &[FileName]) -> Result<(), AllocError>
+    ensures text { OnOk result (out.new.items ++ codes "]" ≡ out.old.items ++ list_text (map name_data names.now)) }
     ensures fit { OnOk result (AllByRecursion FitsName names.now) }
 {
-    out.begin_array()?;
+    let mut later = false;
     for name in names {
-        put_name(alloc, out, *name)?;
+        put_comma(out, later)?;
+        put_name(out, *name)?;
+        later = true;
     }
-    out.end_array()
+    Ok(())
 }
 
-/// Writes a list of files.
+/// Writes the files that a list holds, without its brackets.
 pub(crate) fn put_files(
     alloc: Global,
-    out: &mut Writer,
+    out: &mut Vec<u8>,
     files: &[StoredFile],
 ) -> Result<(), AllocError>
-    ensures tokens { OnOk result (out.new.tokens ≡ out.old.tokens ++ value_tokens (files_data files.now)) }
-    ensures before { out.new.before ≡ out.old.before }
+    ensures text { OnOk result (out.new.items ++ codes "]" ≡ out.old.items ++ list_text (map file_data files.now)) }
     ensures fit { OnOk result (AllByRecursion FitsFile files.now) }
 {
-    out.begin_array()?;
+    let mut later = false;
     for file in files {
+        put_comma(out, later)?;
         put_file(alloc, out, file)?;
+        later = true;
     }
-    out.end_array()
+    Ok(())
 }
 
-/// Writes a list of marks.
-pub(crate) fn put_marks(
-    alloc: Global,
-    out: &mut Writer,
-    marks: &[PackMark],
-) -> Result<(), AllocError>
-    ensures tokens { OnOk result (out.new.tokens ≡ out.old.tokens ++ value_tokens (marks_data Moments marks.now)) }
-    ensures before { out.new.before ≡ out.old.before }
+/// Writes the marks that a list holds, without its brackets.
+pub(crate) fn put_marks(out: &mut Vec<u8>, marks: &[PackMark]) -> Result<(), AllocError>
+    ensures text { OnOk result (out.new.items ++ codes "]"
+        ≡ out.old.items ++ list_text (map (mark_data Moments) marks.now)) }
     ensures fit { OnOk result (AllByRecursion FitsMark marks.now) }
 {
-    out.begin_array()?;
+    let mut later = false;
     for mark in marks {
-        put_mark(alloc, out, *mark)?;
+        put_comma(out, later)?;
+        put_mark(out, *mark)?;
+        later = true;
     }
-    out.end_array()
+    Ok(())
 }
 
-/// Writes a list of packs.
-pub(crate) fn put_packs(alloc: Global, out: &mut Writer, packs: &[Id]) -> Result<(), AllocError>
-    ensures tokens { OnOk result (out.new.tokens ≡ out.old.tokens ++ value_tokens (ids_data packs.now)) }
-    ensures before { out.new.before ≡ out.old.before }
+/// Writes the packs that a list holds, without its brackets.
+pub(crate) fn put_packs(out: &mut Vec<u8>, packs: &[Id]) -> Result<(), AllocError>
+    ensures text { OnOk result (out.new.items ++ codes "]" ≡ out.old.items ++ list_text (map id_data packs.now)) }
     ensures fit { OnOk result (AllByRecursion IsDigest packs.now) }
 {
-    out.begin_array()?;
+    let mut later = false;
     for pack in packs {
-        put_pack(alloc, out, *pack)?;
+        put_comma(out, later)?;
+        put_pack(out, *pack)?;
+        later = true;
     }
-    out.end_array()
+    Ok(())
+}
+
+/// Writes a number.
+pub(crate) fn put_number(out: &mut Vec<u8>, number: u64) -> Result<(), AllocError>
+    ensures { OnOk result (out.new.items ≡ out.old.items ++ decimal number) }
+{
+    let mut digits = itoa::Buffer::new();
+    put(out, digits.format(number).as_bytes())
+}
+
+/// Writes a piece of text.
+pub(crate) fn put(out: &mut Vec<u8>, piece: &[u8]) -> Result<(), AllocError>
+    ensures { OnOk result (out.new.items ≡ out.old.items ++ piece.now) }
+{
+    out.extend_from_slice(piece)
+}
+
+// Writes the comma before what isn't the first.
+fn put_comma(out: &mut Vec<u8>, later: bool) -> Result<(), AllocError>
+    ensures { OnOk result (out.new.items ≡ out.old.items ++ comma_if later) }
+{
+    if later {
+        return put(out, b",");
+    }
+    Ok(())
 }
 
 // Writes a file's name.
-fn put_name(alloc: Global, out: &mut Writer, name: FileName) -> Result<(), AllocError>
-    ensures tokens { OnOk result (out.new.tokens ≡ out.old.tokens ++ value_tokens (name_data name)) }
-    ensures before { out.new.before ≡ out.old.before }
+fn put_name(out: &mut Vec<u8>, name: FileName) -> Result<(), AllocError>
+    ensures text { OnOk result (out.new.items ≡ out.old.items ++ compact_text (name_data name)) }
     ensures fit { OnOk result (FitsName name) }
 {
-    let text = format!(in alloc; "{}/{}", name.kind, name.id)?;
-    out.string(&text)
+    put(out, opening_of(name.kind))?;
+    put_digits(out, name.id)?;
+    put(out, b"\"")
+}
+
+// What stands before the digits of a name: the quote, the word for the kind, and the slash.
+fn opening_of(kind: Kind) -> &'static [u8]
+    ensures { result.now ≡ codes "\"" ++ (kind_text kind ++ codes "/") }
+{
+    match kind {
+        Kind::Pack => b"\"pack/",
+        Kind::Index => b"\"index/",
+        Kind::Snapshot => b"\"snapshot/",
+    }
 }
 
 // Writes a file: its bytes in hex, and its name.
-fn put_file(alloc: Global, out: &mut Writer, file: &StoredFile) -> Result<(), AllocError>
-    ensures tokens { OnOk result (out.new.tokens ≡ out.old.tokens ++ value_tokens (file_data file.now)) }
-    ensures before { out.new.before ≡ out.old.before }
+fn put_file(alloc: Global, out: &mut Vec<u8>, file: &StoredFile) -> Result<(), AllocError>
+    ensures text { OnOk result (out.new.items ≡ out.old.items ++ compact_text (file_data file.now)) }
     ensures fit { OnOk result (FitsFile file.now) }
 {
     let bytes = file.bytes().as_slice();
-    let digits = hex::encode(alloc, bytes)?;
-    out.begin_object()?;
-    out.key("bytes")?;
-    out.string(&digits)?;
-    out.key("file")?;
-    put_name(alloc, out, file.name())?;
-    out.end_object()
+    put(out, b"{\"bytes\":\"")?;
+    put_hex(alloc, out, bytes)?;
+    put(out, b"\",\"file\":")?;
+    put_name(out, file.name())?;
+    put(out, b"}")
 }
 
 // Writes a mark with its moment.
-fn put_mark(alloc: Global, out: &mut Writer, mark: PackMark) -> Result<(), AllocError>
-    ensures tokens { OnOk result (out.new.tokens ≡ out.old.tokens ++ value_tokens (mark_data Moments mark)) }
-    ensures before { out.new.before ≡ out.old.before }
+fn put_mark(out: &mut Vec<u8>, mark: PackMark) -> Result<(), AllocError>
+    ensures text { OnOk result (out.new.items ≡ out.old.items ++ compact_text (mark_data Moments mark)) }
     ensures fit { OnOk result (FitsMark mark) }
 {
-    out.begin_object()?;
-    out.key("id")?;
-    put_pack(alloc, out, mark.pack)?;
-    out.key("moment")?;
-    out.i64(mark.mark.moment)?;
-    out.end_object()
+    let mut moment = itoa::Buffer::new();
+    put(out, b"{\"id\":\"")?;
+    put_digits(out, mark.pack)?;
+    put(out, b"\",\"moment\":")?;
+    put(out, moment.format(mark.mark.moment).as_bytes())?;
+    put(out, b"}")
 }
 
 // Writes a pack's id.
-fn put_pack(alloc: Global, out: &mut Writer, pack: Id) -> Result<(), AllocError>
-    ensures tokens { OnOk result (out.new.tokens ≡ out.old.tokens ++ value_tokens (id_data pack)) }
-    ensures before { out.new.before ≡ out.old.before }
+fn put_pack(out: &mut Vec<u8>, pack: Id) -> Result<(), AllocError>
+    ensures text { OnOk result (out.new.items ≡ out.old.items ++ compact_text (id_data pack)) }
     ensures fit { OnOk result (IsDigest pack) }
 {
-    let text = print_id(alloc, pack)?;
-    out.string(&text)
+    put(out, b"\"")?;
+    put_digits(out, pack)?;
+    put(out, b"\"")
+}
+
+// Writes an id's digits, which stand between quotes as they are.
+fn put_digits(out: &mut Vec<u8>, id: Id) -> Result<(), AllocError>
+    ensures { OnOk result (out.new.items ≡ out.old.items ++ escape (id_text id)) }
+{
+    let mut digits = [0u8; 64];
+    hex::encode_to_slice(id.0, &mut digits).unwrap();
+    put(out, &digits)
+}
+
+// Writes bytes in hex, which stands between quotes as it is.
+fn put_hex(alloc: Global, out: &mut Vec<u8>, bytes: &[u8]) -> Result<(), AllocError>
+    ensures { OnOk result (out.new.items ≡ out.old.items ++ escape (encode_lower bytes.now)) }
+{
+    let digits = hex::encode(alloc, bytes)?;
+    put(out, digits.as_bytes())
 }

@@ -1,14 +1,17 @@
-use Rattle.std.proofs.Common.{◌∙◌}
-use Rattle.keep_docs.specs.Lists.{ids_data}
-use Rattle.keep_entries.proofs.Appended.{alike, on_ok, token_more, tokens_more, two_more}
-use Rattle.keep_entries.specs.Tokens.{object_tokens}
+use Rattle.std.proofs.Common.{◌∙◌, codes, decimal, true}
+use Rattle.std.specs.Fmt.{digits}
+use Rattle.json.specs.Print.{escape_byte}
+use Rattle.serde_json.specs.Written.{members_text}
+use Rattle.keep_docs.specs.Fields.{id_data}
+use Rattle.keep_entries.proofs.Appended.{list_more, on_ok, piece_more}
 use Rattle.keep_entries.proofs.members.put_middle.Goals as goal
 
-pub returns-clause-tokens : goal.returns-clause-tokens
-returns-clause-tokens c =
+pub returns-clause-text : goal.returns-clause-text
+unfolding escape_byte digits
+returns-clause-text c =
     on_ok c.put_number.result
-    (λ last ms. two_more _ _ _ (object_tokens ms) last
-    ∙ tokens_more _ _ _ (alike ids_data _ c.as_slice.ensures c.in_ok-put_packs.ensures.tokens)
-    ∙ token_more _ _ _ c.in_ok-key.ensures.ok ∙ two_more _ _ _ _ c.in_ok-put_form.ensures.tokens
-    ∙ two_more _ _ _ _ c.in_ok-put_word.ensures.tokens)
-    c.put_number.ensures.tokens
+    (λ last ms. piece_more _ (decimal c.args.number) (members_text true ms) last
+    ∙ piece_more _ (codes "],\"number\":") _ c.in_ok-put-2.ensures
+    ∙ list_more id_data _ c.put_packs.new.out.items _ c.as_slice.ensures c.in_ok-put_packs.ensures.text
+    ∙ piece_more c.args.out.now.items (codes ",\"event\":\"commit\",\"form\":2,\"marked\":[") _ c.in_ok-put.ensures)
+    c.put_number.ensures
