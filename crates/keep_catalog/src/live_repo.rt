@@ -19,9 +19,9 @@ use std::marker::Model;
 
 /// A repository that changes, and lends the catalog of what it holds.
 ///
-/// Its files are read when it is made. From then on each change costs what its own files hold, and a catalog reads
-/// none. Where there is no memory for that, the change is made all the same: a catalog then reads all files itself,
-/// until a change finds the memory to read them anew.
+/// Its files are read when it is made. From then on each change costs at most what its own files hold, and a catalog
+/// reads none: where less is left than goes, what is left is read anew. Where there is no memory for that, the change is
+/// made all the same: a catalog then reads all files itself, until a change finds the memory to read them anew.
 #[derive(Drop)]
 pub struct LiveRepo {
     alloc: Global,
@@ -125,7 +125,7 @@ impl LiveRepo {
         ensures { self.new ≡ completed_of (turned turn change.now) self.old }
     {
         change.complete(turn, &mut self.repo);
-        self.tables = went(self.tables.take(), change.going_files(turn));
+        self.tables = went(self.tables.take(), change.going_files(turn), &self.repo);
         self.refresh();
     }
 
@@ -137,7 +137,7 @@ impl LiveRepo {
             → self.old ≡ begun_of (turned turn change.now) before → self.new ≡ before }
     {
         change.abandon(turn, &mut self.repo);
-        self.tables = went(self.tables.take(), change.coming_files(turn));
+        self.tables = went(self.tables.take(), change.coming_files(turn), &self.repo);
         self.refresh();
     }
 
@@ -174,14 +174,44 @@ fn came(tables: Option<Tables>, files: &[StoredFile]) -> Option<Tables>
     }
 }
 
-// The tables after these files went, none where memory ran out.
-fn went(tables: Option<Tables>, files: &[StoredFile]) -> Option<Tables>
+// The tables after these files went, none where memory ran out, or where less is left.
+fn went(tables: Option<Tables>, files: &[StoredFile], left: &Repo) -> Option<Tables>
     ensures { (r : Repository) → AreThere files.now r.files
         → IfSome tables (IsKept r) → IfSome result (IsKept (without_files files.now r)) }
 {
+    if is_less(left, files) {
+        return None;
+    }
     let mut tables = tables?;
     match tables.drop_files(files) {
         Ok(()) => Some(tables),
         Err(_) => None,
     }
+}
+
+// Whether the repository has fewer files than these, and fewer bytes in them.
+fn is_less(repo: &Repo, files: &[StoredFile]) -> bool {
+    repo.file_count() < files.len() && size_of_repo(repo) < size_of_files(files)
+}
+
+// The bytes of all files of the repository, or the most where there is no memory to list them.
+fn size_of_repo(repo: &Repo) -> usize {
+    let Ok((names, _packs)) = repo.list() else {
+        return usize::MAX;
+    };
+    let mut size: usize = 0;
+    for name in &names {
+        if let Some(bytes) = repo.get(*name) {
+            size = size.saturating_add(bytes.as_slice().len());
+        }
+    }
+    size
+}
+
+fn size_of_files(files: &[StoredFile]) -> usize {
+    let mut size: usize = 0;
+    for file in files {
+        size = size.saturating_add(file.bytes().as_slice().len());
+    }
+    size
 }
