@@ -7,6 +7,9 @@ use std::alloc::Global;
 use std::fmt::Display;
 use std::io::{ErrorKind, Write};
 
+/// Room for most answers.
+const ROOM: usize = 64;
+
 /// Writes what the answer prints as a line: the whole line is made before any of it is written.
 pub fn put_line<T: Display, W: Write>(alloc: Global, answer: &T, writer: &mut W) -> Result<(), Halt>
     ensures puts { IfSome (T.output answer.now) (λ text.
@@ -14,7 +17,8 @@ pub fn put_line<T: Display, W: Write>(alloc: Global, answer: &T, writer: &mut W)
     ensures whole { IfSome (T.output answer.now) (λ _.
         result ≢ Err Halt.WriteFailed → WritesLines (W.contents writer.old) (W.contents writer.new)) }
 {
-    let text = format!(in alloc; "{answer}\n")?;
+    let mut text = String::with_capacity(alloc, ROOM)?;
+    writeln!(text, "{answer}")?;
     put(writer, text.as_str().as_bytes())
 }
 

@@ -49,7 +49,8 @@ fn names_added(alloc: Global, event: &Event) -> Result<Option<Listed<FileName>>,
 {
     match &event.kind {
         EventKind::Commit(change) => {
-            let names = file_names(alloc, change.as_change().adds.as_slice())?;
+            let mut names = file_names(alloc, change.as_change().adds.as_slice())?;
+            names.shrink_to_fit();
             Ok(Some(Listed::from_vec(names)))
         }
         EventKind::Undo | EventKind::Redo | EventKind::Empty(_) => Ok(None),

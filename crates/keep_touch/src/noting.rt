@@ -114,7 +114,7 @@ impl Touch {
             list.push(mention)?;
             return Ok(());
         }
-        let mut list = Vec::new(self.alloc);
+        let mut list = Vec::with_capacity(self.alloc, 1)?;
         list.push(mention)?;
         self.lists.insert(facet, list)?;
         Ok(())

@@ -19,4 +19,4 @@ returns-clause-ok c =
     c.args.facet c.push-2.new.self
     (λ q. c.in_ok-insert.ensures.updates.0 q ∙ ap (λ lists. cond (same_key c.args.facet q) (Some c.push-2.new.self) (get same_key lists q)) c.get_mut.follows.holds-at-none)
     c.args.mention
-    (c.in_ok-push-2.ensures.items ∙ ap (λ ms. ms ++ c.args.mention ∷ []) (c.new-list.ensures.items ∙ ap (listed (λ list. list.items)) c.in_default.ensures.value))
+    (c.in_ok-push-2.ensures.items ∙ ap (λ ms. ms ++ c.args.mention ∷ []) (c.in_ok-list.ensures.items ∙ ap (listed (λ list. list.items)) c.in_default.ensures.value))
