@@ -20,6 +20,7 @@ use keep_book::Book;
 use keep_jobs::Kit;
 use keep_script::{Status, run_on};
 use std::io::{Read, Write};
+use std::mem;
 
 /// Answers the script over the shelf that the options name, with this kit, and has the crew work that they ask for.
 pub(crate) fn serve<'a, C: Crew, R: Read, W: Write>(
@@ -88,7 +89,7 @@ fn serve_over<'a, C: Crew, R: Read, W: Write>(
     follow(crew, terms, book, status, writer)
 }
 
-/// Has the crew work over the book, where it is due behind a run that ended so, and lets the book go where it isn't.
+/// Has the crew work over the book, where it is due behind a run that ended so, and leaves the book where it isn't.
 fn follow<'a, C: Crew, W: Write>(
     crew: &C,
     terms: Terms<'_>,
@@ -108,7 +109,17 @@ fn follow<'a, C: Crew, W: Write>(
     if is_crew_due(terms.options.crew, &status) {
         have_crew(crew, terms, book, writer)
     } else {
+        leave(book, terms.options.folder);
         Ending::Ran(status)
+    }
+}
+
+/// Lets go of a book in a folder. What a book holds in memory alone is left to the system, which takes it back at once
+/// when the program ends: giving it back block by block takes a tenth of a long run.
+fn leave(book: Book<NamedShelf<'_>>, folder: Option<&str>) {
+    match folder {
+        Some(_) => drop(book),
+        None => mem::forget(book),
     }
 }
 
