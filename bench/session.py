@@ -13,10 +13,10 @@ def build():
 
 
 class Session:
-    def __init__(self, program=PROGRAM, environment=None, errors=None):
-        self.program = subprocess.Popen([program], stdin=subprocess.PIPE, stdout=subprocess.PIPE, stderr=errors,
-                                        env=environment)
-        self.ask("count\n", "files 0 marks 0\n")  # the start is over, and isn't timed
+    def __init__(self, program=PROGRAM, environment=None, errors=None, options=(), files=0):
+        self.program = subprocess.Popen([program, *options], stdin=subprocess.PIPE, stdout=subprocess.PIPE,
+                                        stderr=errors, env=environment)
+        self.ask("count\n", f"files {files} marks 0\n")  # the start is over, and isn't timed
 
     def ask(self, lines, wanted):
         """Seconds until the lines are answered, as is wanted."""
