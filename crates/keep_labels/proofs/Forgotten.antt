@@ -23,7 +23,7 @@ use Rattle.keep_labels.specs.Edits.{is_empty}
 use Rattle.keep_labels.specs.Forgetting.{forget_change, forgetting, forgetting_of, has_no_rule}
 use Rattle.keep_labels.specs.Keeping.{PolicyData, dropped_names, keeps}
 use Rattle.keep_labels.specs.Swapping.{snapshot_files, swapping}
-use Rattle.keep_labels.proofs.Ordered.{rise_kept}
+use Rattle.keep_plan.proofs.Rising.{rise_kept}
 use Rattle.keep_labels.proofs.Swapped.{CanBeSwapped, swap_met, swap_well_formed}
 use Rattle.keep_labels.proofs.Taken.{files_rise, files_there, taken_rise}
 

@@ -7,7 +7,6 @@ pub mod Kept
 pub mod Lists
 pub mod Numbered
 pub mod Once
-pub mod Ordered
 pub mod Ranks
 pub mod Sorting
 pub mod Swapped

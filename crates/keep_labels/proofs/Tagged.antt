@@ -28,7 +28,7 @@ use Rattle.keep_snap.specs.Snap.{SnapData}
 use Rattle.keep_labels.specs.Edits.{EditData, Tags, are_same, edited, is_empty}
 use Rattle.keep_labels.specs.Swapping.{snapshot_files, swapping}
 use Rattle.keep_labels.specs.Tagging.{bad_edit, changed_by, retagged_file, retagged_files, tag_change, tagged_file, tagging_of}
-use Rattle.keep_labels.proofs.Ordered.{rise_kept}
+use Rattle.keep_plan.proofs.Rising.{rise_kept}
 use Rattle.keep_labels.proofs.Swapped.{CanBeSwapped, swap_met, swap_well_formed}
 use Rattle.keep_labels.proofs.Taken.{files_rise, files_there, names_of, taken_rise}
 

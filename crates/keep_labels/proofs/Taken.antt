@@ -24,7 +24,7 @@ use Rattle.keep_filters.specs.Picks.{picks}
 use Rattle.keep_filters.specs.Taking.{named_facts, taken_in}
 use Rattle.keep_filters.specs.declared.pick.Pick.{Pick}
 use Rattle.keep_labels.specs.Swapping.{snapshot_file, snapshot_files}
-use Rattle.keep_labels.proofs.Ordered.{rise_kept, rise_made}
+use Rattle.keep_plan.proofs.Rising.{rise_kept, rise_made}
 
 -- ---- taken snapshots
 

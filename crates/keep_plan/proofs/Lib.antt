@@ -3,6 +3,7 @@ pub mod Made
 pub mod Ordered
 pub mod Outcomes
 pub mod Recorded
+pub mod Rising
 pub mod Sets
 pub mod Settled
 pub mod Taken

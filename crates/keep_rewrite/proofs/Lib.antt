@@ -6,7 +6,6 @@ pub mod Listed
 pub mod Made
 pub mod Nodes
 mod OneNode
-mod Ordered
 pub mod Picked
 pub mod Planned
 mod Remembered

@@ -30,7 +30,7 @@ use Rattle.keep_backup.specs.Blobs.{BlobData, names_once}
 use Rattle.keep_backup.specs.Stored.{built, index_file, pack_file, packs_built, stored_of}
 use Rattle.keep_rewrite.specs.Rewriting.{Retreed, change_of, new_files, old_file, old_files, old_names, retreed_file}
 use Rattle.keep_rewrite.proofs.Listed.{IsBefore, IsOfSnapshot, absent_present, adds_before, all_append, all_by, apart_so, before_snapshots, names_both, never_both, none_sorted, present_before, sorted_both}
-use Rattle.keep_rewrite.proofs.Ordered.{rise_made}
+use Rattle.keep_plan.proofs.Rising.{rise_made}
 
 -- ---- the old files
 

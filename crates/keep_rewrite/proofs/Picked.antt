@@ -26,7 +26,7 @@ use Rattle.keep_filters.specs.declared.pick.Pick.{Pick}
 use Rattle.keep_plan.proofs.Ordered.{All-entries}
 use Rattle.keep_rewrite.specs.Walking.{AreReached}
 use Rattle.keep_rewrite.proofs.Kept.{passed}
-use Rattle.keep_rewrite.proofs.Ordered.{rise_kept, rise_made}
+use Rattle.keep_plan.proofs.Rising.{rise_kept, rise_made}
 
 -- what the snapshot of these facts says
 pub record IsPicked (r : Repository) (s : FactsData) : Type 0 where

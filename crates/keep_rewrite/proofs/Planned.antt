@@ -40,7 +40,7 @@ use Rattle.keep_rewrite.specs.Walking.{AreReached}
 use Rattle.keep_rewrite.proofs.Kept.{passed}
 use Rattle.keep_rewrite.proofs.Listed.{all_by}
 use Rattle.keep_rewrite.proofs.Made.{AreOld, IsThere, rewrite_met, rewrite_well_formed, snap_there}
-use Rattle.keep_rewrite.proofs.Ordered.{rise_kept}
+use Rattle.keep_plan.proofs.Rising.{rise_kept}
 use Rattle.keep_rewrite.proofs.Picked.{IsPicked, all_picked, all_reached, picked_rise}
 
 -- ---- what is stored of trees is stored of those that stand for them

@@ -16,9 +16,10 @@ use Rattle.keep_catalog.proofs.Ordered.{keys_in_order}
 use Rattle.keep_catalog.specs.Files.{ids_in}
 use Rattle.keep_change.specs.Lists.{file_names}
 use Rattle.keep_change.specs.NamedBytes.{NamedBytes}
+use Rattle.keep_plan.proofs.Rising.{rise_made}
 use Rattle.keep_upkeep.specs.Reindexing.{file_there, files_there}
 use Rattle.keep_upkeep.proofs.EachSo.{each_made, each_passes, each_so}
-use Rattle.keep_upkeep.proofs.Rising.{rise_left, rise_made}
+use Rattle.keep_upkeep.proofs.Rising.{rise_left}
 
 -- the repository has the file, with its bytes
 abbrev pub IsThere : Repository → NamedBytes → Type 0

@@ -33,13 +33,14 @@ use Rattle.keep_plan.specs.Refusal.{unless, unread_first}
 use Rattle.keep_plan.specs.Settling.{pack_mark, settled}
 use Rattle.keep_plan.specs.declared.plan_error.PlanError.{PlanError}
 use Rattle.keep_plan.specs.declared.plan_error.PlanError.TheVariants.{Memory, NothingToDo}
+use Rattle.keep_plan.proofs.Rising.{rise_kept}
 use Rattle.keep_upkeep.specs.Reindexing.{files_there, other_indexes, reindexing}
 use Rattle.keep_upkeep.specs.Sweep.{has_waited, left_files, listing, lists_gone, names_of, packs_left, sweep_change, sweep_of, sweeping, swept_files, waited_marks}
 use Rattle.keep_upkeep.proofs.EachSo.{each_always, each_kept, each_mapped, each_passes, each_so, never_at}
 use Rattle.keep_upkeep.proofs.FilesThere.{IsThere, each_there, files_rise, ids_rise, pack_before_index}
 use Rattle.keep_upkeep.proofs.OtherIndexes.{all_there, kinds_are, others_apart, others_rise}
 use Rattle.keep_upkeep.proofs.Remade.{CanBeRemade, WhatIsSettledCanBeMade, new_indexes, new_named, remade_met, remade_well_formed}
-use Rattle.keep_upkeep.proofs.Rising.{all_append, none_rise, rise_append, rise_kept, rise_keyed, rise_left}
+use Rattle.keep_upkeep.proofs.Rising.{all_append, none_rise, rise_append, rise_keyed, rise_left}
 
 -- ---- the marks
 
