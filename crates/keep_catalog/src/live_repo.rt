@@ -19,9 +19,9 @@ use std::marker::Model;
 
 /// A repository that changes, and lends the catalog of what it holds.
 ///
-/// Its files are read when it is made. From then on each change costs at most what its own files hold, and a catalog
-/// reads none: where less is left than goes, what is left is read anew. Where there is no memory for that, the change is
-/// made all the same: a catalog then reads all files itself, until a change finds the memory to read them anew.
+/// Its files are read when it is made. From then on a catalog reads none, and each change costs at most what its own
+/// files hold: where less is left than goes, what is left is read anew. Where there is no memory for that, the change
+/// is made all the same: a catalog then reads all files itself, until a change finds the memory to read them anew.
 #[derive(Drop)]
 pub struct LiveRepo {
     alloc: Global,

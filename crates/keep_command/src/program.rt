@@ -26,7 +26,8 @@ use std::io::{Read, Write};
 
 /// Answers the script that the reader gives, by the options that the words behind the program's name give: over what
 /// stands in the folder that they name, or over a shelf in memory with nothing on it. Then it has the crew work that
-/// they ask for, where each line was answered and the shelf never failed.
+/// they ask for, where each line was answered and the shelf never failed. It is a program's last call: what it held in
+/// memory alone isn't given back, where no crew worked.
 pub fn keepd<'a, C: Crew, R: Read, W: Write>(
     rt: &HostRuntime,
     crew: &C,

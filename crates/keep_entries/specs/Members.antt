@@ -1,4 +1,5 @@
--- The members of a commit before others, group by group, in the order in which they are written, and what their lists hold.
+-- The members of a commit before others, group by group, in the order in which they are written, and the text of what
+-- a list holds.
 use Rattle.std.specs.Prelude.{ℕ, List, codes, false}
 use Rattle.serde_json.specs.Data.{Data, Members, boolean, member, number, string, unsigned}
 use Rattle.serde_json.specs.View.{items_of}
