@@ -1,4 +1,5 @@
 pub mod Answered
+pub mod Begun
 pub mod Behind
 pub mod Built
 pub mod Each

@@ -1,3 +1,4 @@
+pub mod Begun
 pub mod Behind
 pub mod Config
 pub mod Doc

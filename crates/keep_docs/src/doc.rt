@@ -1,10 +1,11 @@
-ghost use Rattle.std.specs.Prelude.{◌≡◌, ◌≤◌, ℕ, List, false, IfOk, IsUtf8};
+ghost use Rattle.std.specs.Prelude.{◌≡◌, ◌≤◌, ℕ, List, false, IfOk, IsUtf8, None};
 ghost use Rattle.serde_json.specs.Data.{Data, depth};
 ghost use Rattle.serde_json.specs.Find as find;
-ghost use Rattle.serde_json.specs.Read.{max_depth};
+ghost use Rattle.serde_json.specs.Read.{max_depth, read};
 ghost use Rattle.serde_json.specs.View.{items_view, members_view, number_view, view};
 ghost use Rattle.serde_json.specs.Written.{compact_text};
 ghost use Rattle.serde_json.specs.Written as written;
+ghost use Rattle.keep_docs.specs.Begun.{begins_text};
 ghost use Rattle.keep_docs.specs.Doc.{Answers, doc_of};
 ghost use Rattle.keep_docs.specs.Readable.{AreReadable, HasReadable, IsReadable, IsWhole};
 ghost use Rattle.keep_docs.specs.declared.doc.DocError.TheVariants.{Memory};
@@ -63,6 +64,9 @@ pub fn read_doc(alloc: Global, bytes: &[u8]) -> Result<Value, DocError>
     ensures read { Answers Memory view (doc_of bytes.now) result }
     ensures readable { IfOk result (λ value. IsReadable (view value)) }
 {
+    if !may_begin(bytes) {
+        return Err(DocError::NotJson);
+    }
     let value = match Value::from_slice(alloc, bytes) {
         Ok(value) => value,
         Err(error) => {
@@ -76,6 +80,26 @@ pub fn read_doc(alloc: Global, bytes: &[u8]) -> Result<Value, DocError>
         return Err(DocError::BadNumber);
     }
     Ok(value)
+}
+
+// Whether a document may begin so. Most bytes that are none are told by their first one, without a reader made ready.
+fn may_begin(bytes: &[u8]) -> bool
+    ensures { result ≡ false → read bytes.now ≡ None }
+{
+    match bytes.first() {
+        Some(byte) => begins_text(*byte),
+        None => true,
+    }
+}
+
+// Whether a JSON text may begin with the byte (RFC 8259, sections 2 and 3).
+fn begins_text(byte: u8) -> bool
+    ensures { result ≡ begins_text byte }
+{
+    matches!(
+        byte,
+        b' ' | b'\t' | b'\n' | b'\r' | b'{' | b'[' | b'"' | b'-' | b'0'..=b'9' | b't' | b'f' | b'n'
+    )
 }
 
 /// The text of a document: compact, the keys of each object in byte order, numbers in decimal.
