@@ -24,7 +24,7 @@ use Rattle.keep_catalog.specs.declared.tables.Tables.{Tables}
 use Rattle.keep_catalog.proofs.Coming.{re_marked}
 use Rattle.keep_catalog.proofs.Growing.{no_id}
 use Rattle.keep_catalog.proofs.Ids.{id_refl}
-use Rattle.keep_catalog.proofs.Ordered.{keys_in_order}
+use Rattle.keep_repo.proofs.Rising.{keys_in_order}
 use Rattle.keep_catalog.proofs.Replaced.{file_put, lists_own, name_eq_refl, snap_by, stored_own}
 
 -- the tables are of a repository from which putting the rest makes what putting all makes of the first

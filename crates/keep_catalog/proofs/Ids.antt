@@ -18,7 +18,7 @@ use Rattle.keep_repo.specs.Repository.{Repository}
 use Rattle.keep_repo.specs.Kinds.{ids_among, kind_eq}
 use Rattle.keep_catalog.specs.Files.{file_in, ids_in}
 use Rattle.keep_catalog.specs.Orders.{same_id}
-use Rattle.keep_catalog.proofs.Ordered.{first_of_both, less, second_of_both}
+use Rattle.keep_repo.proofs.Rising.{first_of_both, less, second_of_both}
 
 pub id_refl : (id : Id) → same_id id id ≡ true
 id_refl id = ap is_eq (tied_itself id_total id)

@@ -14,7 +14,7 @@ use Rattle.keep_catalog.specs.Chosen.{IsChosen, IsOpenPlace}
 use Rattle.keep_catalog.specs.Orders.{spot_cmp}
 use Rattle.keep_catalog.specs.Places.{chosen_listing, is_honest, is_open, is_unmarked, spots_of}
 use Rattle.keep_catalog.specs.declared.spot.Spot.{Spot}
-use Rattle.keep_catalog.proofs.Ordered.{first_of_both, less, second_of_both}
+use Rattle.keep_repo.proofs.Rising.{first_of_both, less, second_of_both}
 use Rattle.keep_catalog.proofs.SpotOrders.{spot_exact, spot_less, spot_total}
 use Rattle.keep_catalog.proofs.Spots.{spot_kept, spot_least, spot_listed, spot_stored}
 

@@ -1,47 +1,18 @@
 -- Lists of entries and of keys, and the finite maps that they make.
-use Rattle.std.proofs.Common.{◌≡◌, Bool, true, false, ◌&&◌, ◌||◌, cond, List, [], ◌∷◌, ◌++◌, map, Option, None, Some, is_some, refl, sym, ap, ◌∙◌, T, Ordering, Less, Equal, Greater}
+use Rattle.std.proofs.Common.{◌≡◌, Bool, true, false, ◌||◌, cond, List, [], ◌∷◌, ◌++◌, map, Option, None, Some, is_some, refl, sym, ap, ◌∙◌, Ordering}
 use Rattle.std.specs.Cmp.{IsTotalOrder}
-use Rattle.std.specs.FinMap.{FinMap, contains_key-keys, entries_sorted, entries, find, from_entries, get, get-from_entries, is_sorted, keys}
-use Rattle.std.specs.FinMap.Entries.{below_all}
-use Rattle.std.specs.List.{AllByRecursion, list_any}
-use Rattle.std.specs.List.Sorted.{IsStrictlySortedBy}
+use Rattle.std.specs.FinMap.{contains_key-keys, find, from_entries, get, get-from_entries}
+use Rattle.std.specs.List.{list_any}
 use Rattle.std.specs.Map.{keys_of}
 use Rattle.std.specs.Option.{option_or}
-use Rattle.std.specs.Ordering.{eq_by_cmp, is_lt}
+use Rattle.std.specs.Ordering.{eq_by_cmp}
 use Rattle.keep_catalog.specs.Ordered.{in_order, keyed}
-
-pub first_of_both : (a b : Bool) → T (a && b) → T a
-first_of_both true b h = tt
-first_of_both false b h = h
-
-pub second_of_both : (a b : Bool) → T (a && b) → T b
-second_of_both true b h = h
-second_of_both false b h = absurd h
 
 -- two tests that hold alike are one
 pub same_test : (a b : Bool) → (a ≡ true → b ≡ true) → (b ≡ true → a ≡ true) → a ≡ b
 same_test true b f g = sym (f refl)
 same_test false true f g = g refl
 same_test false false f g = refl
-
-pub less : (o : Ordering) → T (is_lt o) → o ≡ Less
-less Less h = refl
-less Equal h = absurd h
-less Greater h = absurd h
-
-module _ {K X : Type 0} (R : K → K → Ordering) where
-  pub all_above : (k : K) (es : List (K × X)) → T (below_all R k es) → AllByRecursion (λ y. R k y ≡ Less) (keys_of es)
-  all_above k [] h = tt
-  all_above k (e ∷ es) h = (less (R k e.0) (first_of_both (is_lt (R k e.0)) (below_all R k es) h), all_above k es (second_of_both (is_lt (R k e.0)) (below_all R k es) h))
-
-  keys_rise : (es : List (K × X)) → T (is_sorted R es) → IsStrictlySortedBy R (keys_of es)
-  unfolding IsStrictlySortedBy
-  keys_rise [] h = tt
-  keys_rise (e ∷ es) h = (all_above e.0 es (first_of_both (below_all R e.0 es) (is_sorted R es) h), keys_rise es (second_of_both (below_all R e.0 es) (is_sorted R es) h))
-
-  -- the keys of a map are in order
-  pub keys_in_order : (m : FinMap R X) → IsStrictlySortedBy R (keys m)
-  keys_in_order m = keys_rise (entries m) (entries_sorted m)
 
 -- ---- entries one after the other
 

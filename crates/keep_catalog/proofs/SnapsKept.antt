@@ -25,7 +25,7 @@ use Rattle.keep_catalog.specs.declared.unread.FileError.{FileError}
 use Rattle.keep_catalog.specs.declared.unread.Unread.{Unread}
 use Rattle.keep_catalog.proofs.Gathered.{found_all, gathered, map_gathered}
 use Rattle.keep_catalog.proofs.Ids.{id_there}
-use Rattle.keep_catalog.proofs.Ordered.{keys_in_order}
+use Rattle.keep_repo.proofs.Rising.{keys_in_order}
 
 -- ---- snapshots
 

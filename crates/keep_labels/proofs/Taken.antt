@@ -18,7 +18,7 @@ use Rattle.keep_snap.specs.Snap.{SnapData}
 use Rattle.keep_snap.specs.Time.{time_in}
 use Rattle.keep_snap.specs.declared.snap.SnapError.TheVariants.{BadTime}
 use Rattle.keep_snap.specs.declared.time.Time.{Time}
-use Rattle.keep_catalog.proofs.Ordered.{keys_in_order}
+use Rattle.keep_repo.proofs.Rising.{keys_in_order}
 use Rattle.keep_catalog.specs.Files.{snaps_in}
 use Rattle.keep_filters.specs.Picks.{picks}
 use Rattle.keep_filters.specs.Taking.{named_facts, taken_in}

@@ -10,7 +10,7 @@ use Rattle.std.specs.Ordering.{eq_by_cmp}
 use Rattle.std.proofs.lemmas.List.Elements.{All-from_recursion, recursion_from_All}
 use Rattle.keep_catalog.specs.Ordered.{in_order, keyed}
 use Rattle.keep_catalog.specs.Places.{is_unmarked}
-use Rattle.keep_catalog.proofs.Ordered.{keys_in_order}
+use Rattle.keep_repo.proofs.Rising.{keys_in_order}
 use Rattle.keep_change.specs.Form.{AreNamedByBytes}
 use Rattle.keep_change.specs.Lists.{file_names, marked_packs}
 use Rattle.keep_change.specs.NamedBytes.{NamedBytes}

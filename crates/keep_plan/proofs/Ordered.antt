@@ -6,7 +6,7 @@ use Rattle.std.specs.FinMap.Entries.{below_all, by_order}
 use Rattle.std.specs.List.{AllByRecursion}
 use Rattle.std.specs.Ordering.{eq_by_cmp, is_eq, ordering_reverse}
 use Rattle.keep_repo.proofs.Maps.{no_entries}
-use Rattle.keep_catalog.proofs.Ordered.{all_above, first_of_both, second_of_both}
+use Rattle.keep_repo.proofs.Rising.{all_above, first_of_both, second_of_both}
 
 -- what each of the entries is that a map is made of, each of its own is
 module _ {K X : Type 0} {R : K → K → Ordering} (total : IsTotalOrder R) (exact : IsAntisymmetric R) (P : K × X → Type 0) where

@@ -28,7 +28,8 @@ use Rattle.keep_reach.specs.Used.{names_or_none, reached_by, reached_from, reach
 use Rattle.keep_reach.specs.Walk.{Knows, Walked}
 use Rattle.keep_reach.specs.declared.found.Found.{Found}
 use Rattle.keep_catalog.specs.declared.reach_error.ReachError.{ReachError}
-use Rattle.keep_catalog.proofs.Ordered.{in_order-same, is_some-keyed, keys_in_order, same_test}
+use Rattle.keep_repo.proofs.Rising.{keys_in_order}
+use Rattle.keep_catalog.proofs.Ordered.{in_order-same, is_some-keyed, same_test}
 use Rattle.keep_reach.proofs.Reached.{SomeOf, name_there, owing_is_there, some_name, some_named}
 use Rattle.keep_catalog.proofs.SpotOrders.{blob_eq_refl, blob_eq_same}
 use Rattle.keep_reach.proofs.Walking.{in_first, in_one}

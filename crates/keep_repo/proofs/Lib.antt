@@ -3,4 +3,5 @@ pub mod Maps
 pub mod OfKind
 pub mod Orders
 pub mod Parts
+pub mod Rising
 pub mod Same

@@ -16,7 +16,7 @@ use Rattle.keep_snap.specs.Snap.{SnapData}
 use Rattle.keep_snap.specs.Time.{time_in}
 use Rattle.keep_snap.specs.declared.snap.SnapError.TheVariants.{BadTime}
 use Rattle.keep_snap.specs.declared.time.Time.{Time}
-use Rattle.keep_catalog.proofs.Ordered.{keys_in_order}
+use Rattle.keep_repo.proofs.Rising.{keys_in_order}
 use Rattle.keep_catalog.specs.Files.{ids_in, named_snap, snap_in, snaps_in}
 use Rattle.keep_reach.specs.Snapshots.{refusal_from, refusal_of, refusals_of, root_of}
 use Rattle.keep_catalog.specs.declared.reach_error.ReachError.{ReachError}

@@ -12,7 +12,7 @@ use Rattle.keep_names.specs.declared.file_name.Kind.TheVariants.{Index, Pack, Sn
 use Rattle.keep_names.specs.declared.id.Id.{Id}
 use Rattle.keep_repo.specs.Kinds.{kind_eq}
 use Rattle.keep_repo.specs.Repository.{Repository}
-use Rattle.keep_catalog.proofs.Ordered.{keys_in_order}
+use Rattle.keep_repo.proofs.Rising.{keys_in_order}
 use Rattle.keep_catalog.specs.Files.{ids_in}
 use Rattle.keep_change.specs.Lists.{file_names}
 use Rattle.keep_change.specs.NamedBytes.{NamedBytes}

@@ -28,7 +28,8 @@ use Rattle.keep_change.specs.Lists.{AreApart, SortedListsAreWellFormed, WhatIsAs
 use Rattle.keep_change.specs.NamedBytes.{NamedBytes}
 use Rattle.keep_change.specs.declared.change.Change.{Change}
 use Rattle.keep_change.specs.declared.change.PackMark.{PackMark}
-use Rattle.keep_catalog.proofs.Ordered.{in_order-same, keys_in_order}
+use Rattle.keep_repo.proofs.Rising.{keys_in_order}
+use Rattle.keep_catalog.proofs.Ordered.{in_order-same}
 use Rattle.keep_catalog.specs.Files.{ids_in}
 use Rattle.keep_catalog.specs.Ordered.{in_order, keyed}
 use Rattle.keep_catalog.specs.Places.{is_unmarked}

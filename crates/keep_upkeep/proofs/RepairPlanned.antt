@@ -22,7 +22,8 @@ use Rattle.keep_change.specs.NamedBytes.{NamedBytes}
 use Rattle.keep_change.specs.declared.change.Change.{Change}
 use Rattle.keep_catalog.specs.Files.{header_view, ids_in, indexes_in, packs_view}
 use Rattle.keep_catalog.specs.Ordered.{in_order, keyed}
-use Rattle.keep_catalog.proofs.Ordered.{in_order-same, keys_in_order}
+use Rattle.keep_repo.proofs.Rising.{keys_in_order}
+use Rattle.keep_catalog.proofs.Ordered.{in_order-same}
 use Rattle.keep_plan.specs.Settling.{is_there, settled}
 use Rattle.keep_plan.specs.declared.plan_error.PlanError.{PlanError}
 use Rattle.keep_plan.specs.declared.plan_error.PlanError.TheVariants.{NothingToDo}

@@ -27,7 +27,7 @@ use Rattle.keep_change.specs.NamedBytes.{NamedBytes}
 use Rattle.keep_change.specs.declared.change.Change.{Change}
 use Rattle.keep_change.specs.declared.change.PackMark.{PackMark}
 use Rattle.keep_catalog.specs.Files.{ids_in, index_in, indexes_in, readable}
-use Rattle.keep_catalog.proofs.Ordered.{keys_in_order}
+use Rattle.keep_repo.proofs.Rising.{keys_in_order}
 use Rattle.keep_plan.proofs.Ordered.{entries_there}
 use Rattle.keep_plan.specs.Refusal.{unless, unread_first}
 use Rattle.keep_plan.specs.Settling.{pack_mark, settled}
