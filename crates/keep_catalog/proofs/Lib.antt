@@ -20,3 +20,4 @@ pub mod SnapsKept
 pub mod Slices
 pub mod SpotOrders
 pub mod Spots
+pub mod Unreadable

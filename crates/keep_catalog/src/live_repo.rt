@@ -17,11 +17,15 @@ use keep_repo::Repo;
 use std::alloc::{AllocError, Global};
 use std::marker::Model;
 
+// So many files that go are worth a look at how many are left.
+const MANY: usize = 64;
+
 /// A repository that changes, and lends the catalog of what it holds.
 ///
 /// Its files are read when it is made. From then on a catalog reads none, and each change costs at most what its own
-/// files hold: where less is left than goes, what is left is read anew. Where there is no memory for that, the change
-/// is made all the same: a catalog then reads all files itself, until a change finds the memory to read them anew.
+/// files hold: where many go, and less is left, what is left is read anew. Where there is no memory for that, the
+/// change is made all the same: a catalog then reads all files itself, until a change finds the memory to read them
+/// anew.
 #[derive(Drop)]
 pub struct LiveRepo {
     alloc: Global,
@@ -189,9 +193,10 @@ fn went(tables: Option<Tables>, files: &[StoredFile], left: &Repo) -> Option<Tab
     }
 }
 
-// Whether the repository has fewer files than these, and fewer bytes in them.
+// Whether the files are many, and the repository has fewer, and fewer bytes in them.
 fn is_less(repo: &Repo, files: &[StoredFile]) -> bool {
-    repo.file_count() < files.len() && size_of_repo(repo) < size_of_files(files)
+    let count = files.len();
+    count >= MANY && repo.file_count() < count && size_of_repo(repo) < size_of_files(files)
 }
 
 // The bytes of all files of the repository, or the most where there is no memory to list them.

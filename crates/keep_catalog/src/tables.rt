@@ -155,9 +155,11 @@ impl Tables {
             OnOk result ((r : Repository) → finite.get r.files name ≡ Some bytes.now → IsKept r self.old
             → IsKept (without_file r name) self.new) }
     {
+        if self.unread.remove(&FileName::pack(pack)).is_some() {
+            return Ok(());
+        }
         let (entries, _why) = read_pack(self.alloc, bytes)?;
         unstore(&mut self.stored, pack, &entries);
-        self.unread.remove(&FileName::pack(pack));
         Ok(())
     }
 
@@ -166,9 +168,11 @@ impl Tables {
             OnOk result ((r : Repository) → finite.get r.files name ≡ Some bytes.now → IsKept r self.old
             → IsKept (without_file r name) self.new) }
     {
+        if self.unread.remove(&FileName::index(index)).is_some() {
+            return Ok(());
+        }
         let (packs, _why) = read_listed(self.alloc, bytes)?;
         unlist(&mut self.listed, index, &packs)?;
-        self.unread.remove(&FileName::index(index));
         Ok(())
     }
 

@@ -1,4 +1,4 @@
-use Rattle.std.proofs.Common.{◌&&◌, cond, false, None, map, refl, ap, ◌∙◌}
+use Rattle.std.proofs.Common.{◌&&◌, cond, false, None, is_some, map, refl, sym, ap, ◌∙◌}
 use Rattle.std.specs.List.{flat_map}
 use Rattle.keep_index.specs.Index.{pack_view}
 use Rattle.keep_names.specs.declared.file_name.FileName.{FileName}
@@ -6,7 +6,18 @@ use Rattle.keep_catalog.specs.Kept.{lists_at}
 use Rattle.keep_catalog.specs.Orders.{name_eq, same_id}
 use Rattle.keep_catalog.specs.Places.{at, is_among, listed_of}
 use Rattle.keep_catalog.proofs.Coming.{index_goes, noted_at}
+use Rattle.keep_catalog.proofs.Unreadable.{index_lists_none}
 use Rattle.keep_catalog.proofs.tables.Tables.drop_index.Goals as goal
+
+pub returns-then-is_some : goal.returns-then-is_some
+returns-then-is_some c r present kept =
+    let old = c.args.self.now in
+    let index = c.args.index in
+    let refused = ap is_some (sym (kept.unread _) ∙ ap (noted_at old) (sym c.index.ensures) ∙ sym c.remove.ensures.value) ∙ sym c.is_some.ensures ∙ c.if-is_some.true in
+    index_goes r old _ kept index c.args.bytes.now present
+    (index_lists_none r c.args.bytes.now index present refused old.listed)
+    (λ q. c.remove.ensures.updates.0 q ∙ ap (λ (n : FileName). cond (name_eq n q) None (noted_at old q)) c.index.ensures)
+    refl refl
 
 pub returns : goal.returns
 returns c r present kept =
