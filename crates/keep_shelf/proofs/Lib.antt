@@ -1,3 +1,4 @@
+pub mod Hashed
 pub mod Nearer
 pub mod Orders
 pub mod Shifting

@@ -4,7 +4,7 @@ use keep_names::FileName;
 ///
 /// Live files come before the trash, and the trash before the entries: files by name, the trash by the number of the
 /// change and then by name, entries by their number.
-#[derive(Clone, Copy, Debug, PartialEq, Eq, PartialOrd, Ord)]
+#[derive(Clone, Copy, Debug, PartialEq, Eq, PartialOrd, Ord, Hash)]
 pub enum Key {
     /// A file of the repository.
     Live(FileName),

@@ -3,16 +3,16 @@ ghost use Rattle.std.specs.FinMap as map;
 ghost use Rattle.keep_shelf.specs.Shelved.{Content, shifted};
 
 use crate::key::Key;
+use indexmap::IndexMap;
 use keep_repo::Bytes;
 use std::alloc::{AllocError, Global};
-use std::collections::BTreeMap;
 use std::marker::Model;
 
-/// Bytes by key, in memory.
+/// Bytes by key, in memory, found by the key's hash.
 #[derive(Drop)]
 pub struct Stock {
     alloc: Global,
-    bytes: BTreeMap<Key, Bytes>,
+    bytes: IndexMap<Key, Bytes>,
 }
 
 impl Model for Stock {
@@ -33,7 +33,7 @@ impl Stock {
     {
         Stock {
             alloc,
-            bytes: BTreeMap::new(alloc),
+            bytes: IndexMap::new(alloc),
         }
     }
 
@@ -64,14 +64,18 @@ impl Stock {
         }
     }
 
-    /// The keys under which there is something, in order.
+    /// The keys under which there is something, in order. It takes n log n steps for n keys.
     pub fn keys(&self) -> Result<Vec<Key>, AllocError>
         ensures { IfOk result (λ keys. keys.items ≡ map.keys self.now) }
     {
-        self.bytes.keys().copied().collect(self.alloc)
+        let mut keys: Vec<Key> = self.bytes.keys().copied().collect(self.alloc)?;
+        keys.sort_unstable();
+        Ok(keys)
     }
 
-    /// Puts the bytes under the key, and answers what was there. In the place of others they take no memory.
+    /// Puts the bytes under the key, and answers what was there.
+    ///
+    /// In the place of others they take no memory, and else they may take memory for more places.
     pub fn write(&mut self, key: Key, bytes: Bytes) -> Result<Option<Bytes>, AllocError>
         ensures was { IfOk result (λ was. was ≡ map.get self.old key) }
         ensures ok { OnOk result (self.new ≡ map.insert self.old key bytes) }
@@ -107,10 +111,22 @@ impl Stock {
         Ok(())
     }
 
-    /// Takes away what is under the key.
+    /// Takes away what is under the key. Where few places are in use then, it gives back memory.
     pub fn erase(&mut self, key: Key)
         ensures { self.new ≡ map.remove self.old key }
     {
-        self.bytes.remove(&key);
+        self.bytes.swap_remove(&key);
+        self.give_back();
+    }
+
+    // Gives back the memory of places where fewer than a quarter are in use. At least twice as many as are in use stay,
+    // so that erasing one by one takes the same time for each on average.
+    fn give_back(&mut self)
+        ensures { self.new ≡ self.old }
+    {
+        let used = self.bytes.len();
+        if used < self.bytes.capacity() / 4 {
+            self.bytes.shrink_to(2 * used);
+        }
     }
 }
