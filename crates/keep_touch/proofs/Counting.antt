@@ -12,8 +12,9 @@ use Rattle.keep_repo.specs.declared.facet.Facet.TheVariants.{File, Mark}
 use Rattle.keep_change.specs.Form.{HasNoFacetTwice}
 use Rattle.keep_change.specs.Touch.{facets, touches, writes, written_facets}
 use Rattle.keep_change.specs.declared.change.Change.{Change}
+use Rattle.keep_touch.specs.Followed.{without_last}
 use Rattle.keep_touch.specs.Mentions.{mention_of, mentions, NotesOneMore, NoteTheSame}
-use Rattle.keep_touch.specs.Noting.{asked_facets, times, without_last, Forgets, Notes}
+use Rattle.keep_touch.specs.Noting.{asked_facets, times, Forgets, Notes}
 use Rattle.keep_touch.specs.declared.mention.Mention.{Mention}
 use Rattle.keep_touch.specs.declared.touch.Touch.{Touch}
 use Rattle.keep_touch.proofs.Listing.{asked_listed, written_listed}
@@ -23,14 +24,14 @@ use Rattle.keep_touch.proofs.Listing.{asked_listed, written_listed}
 pub without_none : {X : Type 0} (xs : List X) → without_last 0 xs ≡ xs
 without_none xs = take_all (length xs - 0) xs (omega arith)
 
-without_more : {X : Type 0} (a b : ℕ) (xs : List X) → without_last b (without_last a xs) ≡ without_last (a + b) xs
+pub without_more : {X : Type 0} (a b : ℕ) (xs : List X) → without_last b (without_last a xs) ≡ without_last (a + b) xs
 without_more a b xs =
     let shorter : length (take (length xs - a) xs) ≡ length xs - a = length-take (length xs - a) xs ∙ omega arith in
     ap (λ n. take (n - b) (take (length xs - a) xs)) shorter
     ∙ take-take ((length xs - a) - b) (length xs - a) xs (omega arith)
     ∙ ap (λ n. take n xs) (omega arith)
 
-without_end : {X : Type 0} (n : ℕ) (xs ys : List X) → length ys ≡ n → without_last n (xs ++ ys) ≡ xs
+pub without_end : {X : Type 0} (n : ℕ) (xs ys : List X) → length ys ≡ n → without_last n (xs ++ ys) ≡ xs
 without_end n xs ys is_n =
     let longer : length (xs ++ ys) ≡ length xs + n = length-append xs ys ∙ ap (λ l. length xs + l) is_n in
     ap (λ l. take (l - n) (xs ++ ys)) longer ∙ take_at xs ys (length xs + n - n) (omega arith)

@@ -1,5 +1,7 @@
+pub mod Alone
 pub mod Counting
 pub mod Cutting
+pub mod Followed
 pub mod Listing
 pub mod Picking
 pub mod Putting

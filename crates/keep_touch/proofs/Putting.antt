@@ -8,7 +8,8 @@ use Rattle.keep_repo.specs.contracts.facet.FacetPartialEq.TheImpl as the_facet_e
 use Rattle.keep_repo.specs.declared.facet.Facet.{Facet}
 use Rattle.keep_repo.proofs.Orders.{facet_eq_same}
 use Rattle.keep_change.proofs.Records.{facet_eq_symm}
-use Rattle.keep_touch.specs.Noting.{times, without_last}
+use Rattle.keep_touch.specs.Followed.{without_last}
+use Rattle.keep_touch.specs.Noting.{times}
 use Rattle.keep_touch.specs.declared.mention.Mention.{Mention}
 use Rattle.keep_touch.proofs.Counting.{without_none}
 
@@ -45,6 +46,14 @@ module _ {V : Type 0} (items : V → List Mention) where
         one false is =
             at_facet q false is ∙ sym (append-nil (listed (old q)))
             ∙ ap (λ b. listed (old q) ++ replicate (0 + cond b 1 0) m) (sym is)
+
+    -- the list has the same mentions
+    pub put_same : items list ≡ listed (old facet) → (q : Facet) → listed (new q) ≡ listed (old q)
+    put_same same q = one (facet_eq q facet) refl
+      where
+        one : (b : Bool) → facet_eq q facet ≡ b → listed (new q) ≡ listed (old q)
+        one true is = at_facet q true is ∙ same ∙ ap (λ f. listed (old f)) (sym (facet_eq_same q facet is))
+        one false is = at_facet q false is
 
     -- the list has its last mention no more
     pub take_one : items list ≡ without_last 1 (listed (old facet))

@@ -1,4 +1,5 @@
 pub mod Finding
+pub mod Followed
 pub mod Following
 pub mod Mentions
 pub mod Noting

@@ -1,20 +1,24 @@
 -- What is noted of each facet.
-use Rattle.std.specs.Prelude.{◌≡◌, List, [], ◌++◌, Option, Some, None, if◌then◌else◌}
+use Rattle.std.specs.Prelude.{◌≡◌, ℕ, nat_eq, Bool, List, ◌++◌, Option, Some, None, if◌then◌else◌}
 use Rattle.std.specs.List.{filter_map}
-use Rattle.std.specs.Option.{option_map_or, option_to_list}
-use Rattle.indexmap.specs.IndexMap.{get}
-use Rattle.keep_repo.specs.contracts.facet.FacetPartialEq.TheImpl as the_facet_eq
+use Rattle.std.specs.Option.{option_to_list}
+use Rattle.indexmap.specs.IndexSet.{contains}
 use Rattle.keep_repo.specs.declared.facet.Facet.{Facet}
 use Rattle.keep_change.specs.Fold.{Numbered}
 use Rattle.keep_change.specs.Touch.{touches, writes}
 use Rattle.keep_journal.specs.History.{committed}
 use Rattle.keep_journal.specs.Journal.{Journal}
+use Rattle.keep_touch.specs.Followed.{list_of}
 use Rattle.keep_touch.specs.declared.mention.Mention.{Mention}
 use Rattle.keep_touch.specs.declared.touch.Touch.{Touch}
 
 -- the mentions of the facet
 unfoldable pub mentions : Touch → Facet → List Mention
-mentions touch facet = option_map_or (λ list. list.items) (get (the_facet_eq.ghosts).eq touch.lists facet) []
+mentions touch facet = list_of touch.lists facet
+
+-- whether change n is among the followed
+abbrev pub is_followed : Touch → ℕ → Bool
+is_followed touch n = contains nat_eq touch.followed n
 
 -- what is noted of the change at the facet, if it touches the facet
 abbrev pub mention_of : Facet → Numbered → Option Mention

@@ -1,9 +1,10 @@
 -- How the notes of a change are made, list by list, and taken back.
-use Rattle.std.specs.Prelude.{◌≡◌, ℕ, ◌-◌, List, ◌++◌, count_by, length, map, replicate, take}
+use Rattle.std.specs.Prelude.{◌≡◌, ℕ, List, ◌++◌, count_by, map, replicate}
 use Rattle.keep_repo.specs.Facet.{facet_eq}
 use Rattle.keep_repo.specs.declared.facet.Facet.{Facet}
 use Rattle.keep_change.specs.Change.{asked}
 use Rattle.keep_change.specs.declared.change.Change.{Change}
+use Rattle.keep_touch.specs.Followed.{without_last}
 use Rattle.keep_touch.specs.Mentions.{mentions}
 use Rattle.keep_touch.specs.declared.mention.Mention.{Mention}
 use Rattle.keep_touch.specs.declared.touch.Touch.{Touch}
@@ -20,10 +21,6 @@ times facet facets = count_by (facet_eq facet) facets
 abbrev pub Notes : Mention → List Facet → Touch → Touch → Type 0
 Notes mention facets old new =
     (facet : Facet) → mentions new facet ≡ mentions old facet ++ replicate (times facet facets) mention
-
--- the list without its last n
-abbrev pub without_last : {X : Type 0} → ℕ → List X → List X
-without_last n xs = take (length xs - n) xs
 
 -- the last mention is taken from the list of each of these facets
 abbrev pub Forgets : List Facet → Touch → Touch → Type 0

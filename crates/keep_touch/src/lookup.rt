@@ -1,4 +1,4 @@
-ghost use Rattle.std.specs.Prelude.{◌≡◌, ◌&&◌, filter, map, nat_lt, reverse};
+ghost use Rattle.std.specs.Prelude.{◌≡◌, ◌&&◌, false, filter, map, nat_lt, reverse, true};
 ghost use Rattle.std.specs.List.{find};
 ghost use Rattle.std.specs.Option.{option_map};
 ghost use Rattle.keep_change.specs.Change.{Holding};
@@ -6,8 +6,8 @@ ghost use Rattle.keep_change.specs.Fold.{first_leaning};
 ghost use Rattle.keep_change.specs.Holdings.{value_at};
 ghost use Rattle.keep_journal.specs.History.{IsNumbered};
 ghost use Rattle.keep_journal.specs.Kept.{earlier, later};
-ghost use Rattle.keep_touch.specs.Finding.{first_among, first_toucher, first_writer, in_force, last_writer, sooner, told_by};
-ghost use Rattle.keep_touch.specs.Mentions.{mentions, AreNoted};
+ghost use Rattle.keep_touch.specs.Finding.{first_among, first_toucher, first_writer, in_force, last_writer, sooner, told_by, StandsAlone};
+ghost use Rattle.keep_touch.specs.Mentions.{is_followed, mentions, AreNoted};
 
 use crate::mention::{Mention, above, below};
 use crate::touch::Touch;
@@ -71,6 +71,18 @@ impl Touch {
             return &[];
         }
         above(self.list(facet), n)
+    }
+
+    /// Whether a later change may touch what change n touches. Where it answers no, none that is in force does.
+    ///
+    /// It takes a search by number, and none where n is the last change. Where no note was taken back, it answers yes
+    /// only where a later change, be it in force or not, touches the same.
+    pub fn is_followed(&self, history: &History, n: u64) -> bool
+        requires { AreNoted self.now history.now.journal }
+        ensures alone { result ≡ false → StandsAlone history.now.journal n }
+        ensures noted { result ≡ true → is_followed self.now n ≡ true }
+    {
+        n < history.last_change() && self.followed.contains(&n)
     }
 
     fn first_of<M: Member>(&self, history: &History, n: u64, members: &[M]) -> Option<u64>

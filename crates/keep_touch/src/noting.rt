@@ -1,10 +1,12 @@
 ghost use Rattle.std.specs.Prelude.{◌≡◌, ◌++◌, ◌∷◌, [], map, OnOk, OnErr};
 ghost use Rattle.keep_change.specs.Touch.{written_facets};
-ghost use Rattle.keep_touch.specs.Mentions.{NoteTheSame};
+ghost use Rattle.keep_touch.specs.Followed.{KeepsFollowed, LastIsFollowed};
+ghost use Rattle.keep_touch.specs.Mentions.{mentions, NoteTheSame};
 ghost use Rattle.keep_touch.specs.Noting.{asked_facets, Forgets, Notes};
 
 use crate::mention::Mention;
 use crate::touch::Touch;
+use indexmap::IndexSet;
 use keep_change::{Change, Member};
 use keep_repo::Facet;
 use std::alloc::AllocError;
@@ -110,10 +112,19 @@ impl Touch {
         ensures ok { OnOk result (Notes mention (facet ∷ []) self.old self.new) }
         ensures err { OnErr result (NoteTheSame self.old self.new) }
     {
-        if let Some(list) = self.lists.get_mut(&facet) {
-            list.push(mention)?;
-            return Ok(());
+        match self.lists.get_mut(&facet) {
+            Some(list) => put_last(list, &mut self.followed, mention),
+            None => self.note_first(facet, mention),
         }
+    }
+
+    /// Makes the list of a facet that has none.
+    #[tactic(auto, unfolding(crate::specs::Mentions::mentions))]
+    fn note_first(&mut self, facet: Facet, mention: Mention) -> Result<(), AllocError>
+        requires { mentions self.old facet ≡ [] }
+        ensures ok { OnOk result (Notes mention (facet ∷ []) self.old self.new) }
+        ensures err { OnErr result (NoteTheSame self.old self.new) }
+    {
         let mut list = Vec::with_capacity(self.alloc, 1)?;
         list.push(mention)?;
         self.lists.insert(facet, list)?;
@@ -128,4 +139,22 @@ impl Touch {
             list.pop();
         }
     }
+}
+
+/// Puts the mention at the end of the list. The change of the one before it is followed from now on.
+fn put_last(
+    list: &mut Vec<Mention>,
+    followed: &mut IndexSet<u64>,
+    mention: Mention,
+) -> Result<(), AllocError>
+    ensures put { OnOk result (list.new.items ≡ list.old.items ++ mention ∷ []) }
+    ensures followed { OnOk result (LastIsFollowed list.old.items followed.old followed.new) }
+    ensures same { OnErr result (list.new.items ≡ list.old.items) }
+    ensures kept { KeepsFollowed followed.old followed.new }
+{
+    if let Some(last) = list.last() {
+        followed.insert(last.number)?;
+    }
+    list.push(mention)?;
+    Ok(())
 }

@@ -1,10 +1,9 @@
 ghost use Rattle.std.specs.Prelude.{[], ℕ, OnOk, OnErr};
 ghost use Rattle.keep_change.specs.Form.{HasNoFacetTwice};
-ghost use Rattle.keep_touch.specs.Mentions.{NotesAre, NotesOneMore, NoteTheSame};
-ghost use Rattle.keep_touch.specs.declared.touch.Touch.{Touch};
+ghost use Rattle.keep_touch.specs.Followed.{AreFollowed};
 
 use crate::mention::Mention;
-use indexmap::IndexMap;
+use indexmap::{IndexMap, IndexSet};
 use keep_change::Change;
 use keep_repo::Facet;
 use std::alloc::{AllocError, Global};
@@ -19,9 +18,16 @@ pub struct Touch {
     pub(crate) alloc: Global,
     /// By facet, in the order of numbers. No list and an empty one are the same.
     pub(crate) lists: IndexMap<Facet, Vec<Mention>>,
+    /// The numbers of the changes that are followed: some facet of theirs has a later mention. Where a note was taken
+    /// back it may hold more.
+    pub(crate) followed: IndexSet<u64>,
+    ghost complete: { AreFollowed lists followed },
 }
 
 impl Touch {
+    ghost use Rattle.keep_touch.specs.Mentions.{NotesAre, NotesOneMore, NoteTheSame};
+    ghost use Rattle.keep_touch.specs.declared.touch.Touch.{Touch};
+
     /// Nothing is noted yet.
     #[tactic(auto, unfolding(crate::specs::Mentions::mentions))]
     pub fn new(alloc: Global) -> Touch
@@ -30,6 +36,7 @@ impl Touch {
         Touch {
             alloc,
             lists: IndexMap::new(alloc),
+            followed: IndexSet::new(alloc),
         }
     }
 
