@@ -1,6 +1,5 @@
 -- Content that is made of the entries of an `IndexMap`, which tells keys apart by `==`.
-use Rattle.std.proofs.Common.{◌≡◌, ◌+◌, Bool, false, cond, List, [], ◌∷◌, get_or, Some, None, is_some, IsPermutation, Ordering, Less, Equal, Greater, refl, sym, ap, ◌∙◌, arith}
-use Rattle.std.proofs.lemmas.List.Sorted.{list_any-IsPermutation}
+use Rattle.std.proofs.Common.{◌≡◌, ◌+◌, Bool, false, cond, List, [], ◌∷◌, get_or, Option, is_some, IsPermutation, Ordering, Less, Equal, Greater, refl, sym, ap, ◌∙◌, arith}
 use Rattle.std.proofs.lemmas.Map.Keys.{IsDistinct-IsPermutation, apart_from_distinct, sorted_from_all_adjacent}
 use Rattle.std.proofs.lemmas.Map.Lookups.{btree_set_from_contains}
 use Rattle.std.proofs.lemmas.Map.Made.{is_some-lookup}
@@ -8,11 +7,11 @@ use Rattle.std.specs.BTreeMap.{is_at}
 use Rattle.std.specs.Cmp.{eq_by_cmp_equiv}
 use Rattle.std.specs.FinMap as finite
 use Rattle.std.specs.FinMap.{FinMap, contains_key-keys, from_entries}
-use Rattle.std.specs.List.{IsDistinct}
+use Rattle.std.specs.List.{IsDistinct, list_any}
 use Rattle.std.specs.List.Sorted.{IsSorted, IsStrictlySortedBy}
 use Rattle.std.specs.Map.{keys_of, lookup}
 use Rattle.std.specs.Ordering.{eq_by_cmp, is_eq, is_lt, ordering_reverse}
-use Rattle.keep_repo.proofs.Maps.{get_made, one_put, one_removed}
+use Rattle.keep_repo.proofs.Maps.{get_made}
 use Rattle.keep_repo.proofs.Rising.{keys_in_order}
 use Rattle.keep_shelf.proofs.Orders.{key_exact, key_total}
 use Rattle.keep_shelf.specs.Key.{key_cmp}
@@ -39,17 +38,13 @@ module _ {X : Type 0} where
   pub get_hashed : (es : List (Key × X)) (q : Key) → finite.get (content_of es) q ≡ lookup (same_key q) es
   get_hashed es q = get_made key_total es q ∙ sym (found_alike es q)
 
-  -- entries that differ at one key make contents that differ so: it has a value there
-  pub one_put_hashed : (es fs : List (Key × X)) (k : Key) (v : X) → ((q : Key) → lookup (same_key q) fs ≡ cond (same_key k q) (Some v) (lookup (same_key q) es)) → content_of fs ≡ finite.insert (content_of es) k v
-  one_put_hashed es fs k v h = one_put key_total key_exact es fs k v (λ q.
-      sym (found_alike fs q) ∙ h q
-      ∙ ap (λ same. cond (same k q) (Some v) (lookup (same q) es)) same_as_order)
-
-  -- it has none there
-  pub one_removed_hashed : (es fs : List (Key × X)) (k : Key) → ((q : Key) → lookup (same_key q) fs ≡ cond (same_key k q) None (lookup (same_key q) es)) → content_of fs ≡ finite.remove (content_of es) k
-  one_removed_hashed es fs k h = one_removed key_total key_exact es fs k (λ q.
-      sym (found_alike fs q) ∙ h q
-      ∙ ap (λ same. cond (same k q) None (lookup (same q) es)) same_as_order)
+  -- entries that differ at one key make contents that differ so
+  pub differs_hashed : (es fs : List (Key × X)) (k : Key) (w : Option X) → ((q : Key) → lookup (same_key q) fs ≡ cond (same_key k q) w (lookup (same_key q) es))
+      → (q : Key) → finite.get (content_of fs) q ≡ cond (eq_by_cmp key_cmp k q) w (finite.get (content_of es) q)
+  differs_hashed es fs k w h q =
+      get_hashed fs q ∙ h q
+      ∙ ap (λ same. cond (same k q) w (lookup (same_key q) es)) same_as_order
+      ∙ ap (cond (eq_by_cmp key_cmp k q) w) (sym (get_hashed es q))
 
 -- ---- sorted keys
 
@@ -71,22 +66,25 @@ rise (x ∷ xs) distinct sorted = sorted_from_all_adjacent key_total (x ∷ xs) 
     (sym (ap (λ same. same (get_or (x ∷ xs) k x) (get_or (x ∷ xs) (k + 1) x)) same_as_order)
     ∙ apart_from_distinct same_key (x ∷ xs) k (k + 1) x distinct (omega arith) below))
 
-module _ {X : Type 0} where
-  -- sorted, the keys of the entries are those of the content
-  pub keys_hashed : (es : List (Key × X)) (ks : List Key) → IsDistinct same_key (keys_of es) → IsPermutation (keys_of es) ks → IsSorted key_cmp ks → ks ≡ finite.keys (content_of es)
-  keys_hashed es ks distinct moved sorted =
-      btree_set_from_contains key_total (record { keys = ks }) (record { keys = finite.keys content })
-      (rise ks (IsDistinct-IsPermutation same_key flips (keys_of es) ks moved distinct) sorted)
-      (keys_in_order key_cmp content)
-      (λ q. sym (list_any-IsPermutation (is_at (key_cmp q)) (keys_of es) ks moved)
-      ∙ sym (is_some-lookup (is_at (key_cmp q)) es) ∙ ap is_some (sym (get_made key_total es q))
-      ∙ contains_key-keys content q)
-      key_exact
-    where
-      content : FinMap key_cmp X
-      content = content_of es
+same_flips : (x y : Key) → same_key x y ≡ same_key y x
+same_flips x y =
+    ap (λ same. same x y) same_as_order ∙ (eq_by_cmp_equiv key_total).symm x y
+    ∙ sym (ap (λ same. same y x) same_as_order)
 
-      flips : (x y : Key) → same_key x y ≡ same_key y x
-      flips x y =
-          ap (λ same. same x y) same_as_order ∙ (eq_by_cmp_equiv key_total).symm x y
-          ∙ sym (ap (λ same. same y x) same_as_order)
+-- of keys that differ, the sorted ones rise
+pub sorted_rise : (js ks : List Key) → IsDistinct same_key js → IsPermutation js ks → IsSorted key_cmp ks → IsStrictlySortedBy key_cmp ks
+sorted_rise js ks distinct moved sorted = rise ks (IsDistinct-IsPermutation same_key same_flips js ks moved distinct) sorted
+
+module _ {X : Type 0} where
+  -- a test by the order finds what the entries have as the content has it
+  pub contains_made : (es : List (Key × X)) (q : Key) → finite.contains_key (content_of es) q ≡ list_any (is_at (key_cmp q)) (keys_of es)
+  contains_made es q = ap is_some (get_made key_total es q) ∙ is_some-lookup (is_at (key_cmp q)) es
+
+  -- keys that rise, and are those of the entries, are those of the content
+  pub keys_rising : (es : List (Key × X)) (ks : List Key) → IsStrictlySortedBy key_cmp ks → ((q : Key) → list_any (is_at (key_cmp q)) ks ≡ list_any (is_at (key_cmp q)) (keys_of es)) → ks ≡ finite.keys (content_of es)
+  keys_rising es ks rises alike =
+      btree_set_from_contains key_total (record { keys = ks }) (record { keys = finite.keys (content_of es) })
+      rises
+      (keys_in_order key_cmp (content_of es))
+      (λ q. alike q ∙ sym (contains_made es q) ∙ contains_key-keys (content_of es) q)
+      key_exact

@@ -6,24 +6,32 @@ use crate::key::Key;
 use indexmap::IndexMap;
 use keep_repo::Bytes;
 use std::alloc::{AllocError, Global};
+use std::collections::BTreeMap;
 use std::marker::Model;
 
-/// Bytes by key, in memory, found by the key's hash.
+/// Bytes by key, in memory. Files are found by the key's hash, and entries by their number.
+///
+/// Entries are as many as events, and would make the table of the files' hashes large: they stand apart from it.
 #[derive(Drop)]
 pub struct Stock {
     alloc: Global,
-    bytes: IndexMap<Key, Bytes>,
+    /// Live files and the trash.
+    files: IndexMap<Key, Bytes>,
+    /// Entries by number.
+    entries: BTreeMap<u64, Bytes>,
 }
 
 impl Model for Stock {
-    ghost use Rattle.std.specs.FinMap as map;
     ghost use Rattle.keep_shelf.specs.Shelved.{Content, coded_content};
+    ghost use Rattle.keep_shelf.specs.Stocked.{HasNoEntry, files_and_entries};
 
     ghost Value = { Content };
 
     ghost coded = { coded_content };
 
-    ghost view = { λ s. map.from_entries s.bytes.entries };
+    ghost view = { λ s. files_and_entries s.files.entries s.entries.entries };
+
+    ghost invariant = { λ s. HasNoEntry s.files.entries };
 }
 
 impl Stock {
@@ -33,7 +41,8 @@ impl Stock {
     {
         Stock {
             alloc,
-            bytes: IndexMap::new(alloc),
+            files: IndexMap::new(alloc),
+            entries: BTreeMap::new(alloc),
         }
     }
 
@@ -43,7 +52,8 @@ impl Stock {
     {
         Ok(Stock {
             alloc: self.alloc,
-            bytes: self.bytes.clone()?,
+            files: self.files.clone()?,
+            entries: self.entries.clone()?,
         })
     }
 
@@ -51,7 +61,10 @@ impl Stock {
     pub fn get(&self, key: Key) -> Option<&Bytes>
         ensures { option_copied result ≡ map.get self.now key }
     {
-        self.bytes.get(&key)
+        match key {
+            Key::Entry(at) => self.entries.get(&at),
+            _ => self.files.get(&key),
+        }
     }
 
     /// What is under the key, with another holder.
@@ -68,8 +81,9 @@ impl Stock {
     pub fn keys(&self) -> Result<Vec<Key>, AllocError>
         ensures { IfOk result (λ keys. keys.items ≡ map.keys self.now) }
     {
-        let mut keys: Vec<Key> = self.bytes.keys().copied().collect(self.alloc)?;
+        let mut keys: Vec<Key> = self.files.keys().copied().collect(self.alloc)?;
         keys.sort_unstable();
+        keys.extend(self.entries.keys().map(|at| Key::Entry(*at)))?;
         Ok(keys)
     }
 
@@ -82,7 +96,10 @@ impl Stock {
         ensures err { OnErr result (self.new ≡ self.old) }
         ensures absent { OnErr result (map.get self.old key ≡ None) }
     {
-        Ok(self.bytes.insert(key, bytes)?)
+        match key {
+            Key::Entry(at) => Ok(self.entries.insert(at, bytes)?),
+            _ => Ok(self.files.insert(key, bytes)?),
+        }
     }
 
     /// Takes back that bytes were put under the key, where this was there before.
@@ -111,22 +128,29 @@ impl Stock {
         Ok(())
     }
 
-    /// Takes away what is under the key. Where few places are in use then, it gives back memory.
+    /// Takes away what is under the key. Where few of the files' places are in use then, it gives back memory.
     pub fn erase(&mut self, key: Key)
         ensures { self.new ≡ map.remove self.old key }
     {
-        self.bytes.swap_remove(&key);
-        self.give_back();
+        match key {
+            Key::Entry(at) => {
+                self.entries.remove(&at);
+            }
+            _ => {
+                self.files.swap_remove(&key);
+                self.give_back();
+            }
+        }
     }
 
-    // Gives back the memory of places where fewer than a quarter are in use. At least twice as many as are in use stay,
-    // so that erasing one by one takes the same time for each on average.
+    // Gives back the memory of files' places where fewer than a quarter are in use. At least twice as many as are in
+    // use stay, so that erasing one by one takes the same time for each on average.
     fn give_back(&mut self)
         ensures { self.new ≡ self.old }
     {
-        let used = self.bytes.len();
-        if used < self.bytes.capacity() / 4 {
-            self.bytes.shrink_to(2 * used);
+        let used = self.files.len();
+        if used < self.files.capacity() / 4 {
+            self.files.shrink_to(2 * used);
         }
     }
 }
