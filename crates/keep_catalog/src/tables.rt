@@ -28,13 +28,25 @@ use std::collections::BTreeMap;
 
 // What the files of a repository say, by what it is asked for. It holds no repository, and follows any by the files
 // that come and go. After want of memory it may say anything, and is to be let go.
-#[derive(Drop)]
 pub(crate) struct Tables {
     alloc: Global,
     pub(crate) stored: Stored,
     pub(crate) listed: Listed,
     pub(crate) snaps: BTreeMap<Id, Snap>,
     pub(crate) unread: BTreeMap<FileName, FileError>,
+}
+
+// One call drops it, where each `?` would else drop each part of it, which is long to prove.
+impl Drop for Tables {
+    fn drop(self) {
+        let Tables {
+            alloc: _,
+            stored: _,
+            listed: _,
+            snaps: _,
+            unread: _,
+        } = self;
+    }
 }
 
 impl Tables {

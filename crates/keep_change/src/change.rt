@@ -14,7 +14,6 @@ pub struct PackMark {
 }
 
 /// What one command does to a repository, and what it relied on.
-#[derive(Drop)]
 pub struct Change {
     /// Files to be put where there are none.
     pub adds: Listed<StoredFile>,
@@ -34,6 +33,23 @@ pub struct Change {
     pub unmarked: Listed<Id>,
     /// Whether it may be committed only where nothing happened since it was planned.
     pub strict: bool,
+}
+
+// One call drops it, where each `?` would else drop each part of it, which is long to prove.
+impl Drop for Change {
+    fn drop(self) {
+        let Change {
+            adds: _,
+            drops: _,
+            sets: _,
+            clears: _,
+            present: _,
+            absent: _,
+            marked: _,
+            unmarked: _,
+            strict: _,
+        } = self;
+    }
 }
 
 impl Change {

@@ -19,7 +19,6 @@ pub enum What {
 
 /// An event without bytes: its kind, the change's number, and what the change writes. The lists
 /// are empty for an emptying of the trash.
-#[derive(Drop)]
 pub struct Outline {
     pub what: What,
     pub number: u64,
@@ -27,6 +26,20 @@ pub struct Outline {
     pub drops: Listed<FileName>,
     pub sets: Listed<Id>,
     pub clears: Listed<Id>,
+}
+
+// One call drops it, where each `?` would else drop each part of it, which is long to prove.
+impl Drop for Outline {
+    fn drop(self) {
+        let Outline {
+            what: _,
+            number: _,
+            adds: _,
+            drops: _,
+            sets: _,
+            clears: _,
+        } = self;
+    }
 }
 
 impl Outline {

@@ -29,7 +29,6 @@ pub enum Status {
 ///
 /// Of a final change it holds the names of the files that it added, and no bytes. The entries are told whole for
 /// clauses alone: they take no memory.
-#[derive(Drop)]
 pub struct History {
     /// What is told of each event.
     notices: Vec<Notice>,
@@ -42,6 +41,21 @@ pub struct History {
     final_number: u64,
     last_change: u64,
     entries: Log<Entry>,
+}
+
+// One call drops it, where each `?` would else drop each part of it, which is long to prove.
+impl Drop for History {
+    fn drop(self) {
+        let History {
+            notices: _,
+            names: _,
+            standings: _,
+            base: _,
+            final_number: _,
+            last_change: _,
+            entries: _,
+        } = self;
+    }
 }
 
 impl Model for History {

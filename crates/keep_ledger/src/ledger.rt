@@ -44,7 +44,6 @@ use std::marker::Model;
 ///
 /// The live repository and the history are in memory too. Where a call of the shelf fails after an event is in, the
 /// moves that are left of it are due, and whatever changes the ledger next begins with them.
-#[derive(Drop)]
 pub struct Ledger<S: Shelf> {
     pub(crate) alloc: Global,
     /// What the changes that can still be undone make of the opening.
@@ -57,6 +56,21 @@ pub struct Ledger<S: Shelf> {
     /// How many of them were made. The others are due.
     pub(crate) made: usize,
     pub(crate) shelf: S,
+}
+
+// One call drops it, where each `?` would else drop each part of it, which is long to prove.
+impl<S: Shelf> Drop for Ledger<S> {
+    fn drop(self) {
+        let Ledger {
+            alloc: _,
+            live: _,
+            history: _,
+            touch: _,
+            moves: _,
+            made: _,
+            shelf: _,
+        } = self;
+    }
 }
 
 impl<S: Shelf> Model for Ledger<S> {
