@@ -1,4 +1,4 @@
-ghost use Rattle.std.specs.Prelude.{◌≡◌, ◌^◌, ◌<◌, ◌↔◌, [], ◌∷◌, ◌++◌, fold, length, IfOk, IsTrue, OnErr, OnOk};
+ghost use Rattle.std.specs.Prelude.{◌≡◌, ◌^◌, ◌<◌, ◌↔◌, [], ◌∷◌, ◌++◌, drop, fold, length, IfOk, IsTrue, OnErr, OnOk};
 ghost use Rattle.keep_register.specs.Pages.{IsPage, page_after};
 
 use core::mem::replace_with;
@@ -87,17 +87,30 @@ impl<B: Naming, R: Wait + Drop> Press<B, R> {
         ensures ok { OnOk result (self.new.pending ≡ []) }
         ensures err { OnErr result (self.new ≡ self.old) }
     {
-        replace_with(
-            &mut self.writer,
-            &self.rt,
-            |writer, rt| writer.publish_as::<Shows<B>, R>(rt),
-        )
+        replace_with(&mut self.writer, &self.rt, published::<B, R>)
     }
 
     /// One more reader.
     pub(crate) fn reader(&self) -> Result<Reader<Page, (), Published<B>>, AllocError> {
         self.writer.factory().reader()
     }
+}
+
+// The writer once the steps that wait are published, or as it was. A function of its own says so in few words, where what
+// follows of a closure has each page with all its parts.
+fn published<B: Naming, R: Wait>(
+    writer: Writer<Page, Step, (), Published<B>>,
+    rt: &R,
+) -> (Writer<Page, Step, (), Published<B>>, Result<(), AllocError>)
+    requires shown { IsPage B.book B.hooks.vetoes B.opening writer.desk.shown.value }
+    requires next { IsPage B.book B.hooks.vetoes B.opening (fold page_after writer.desk.shown.value (drop writer.behind writer.log.items)) }
+    ensures shows { IsPage B.book B.hooks.vetoes B.opening result.0.desk.shown.value }
+    ensures ok { OnOk result.1 ((result.0.desk.shown.value ≡ fold page_after writer.desk.shown.value (drop writer.behind writer.log.items))
+        × (drop result.0.behind result.0.log.items ≡ [])) }
+    ensures err { OnErr result.1 ((result.0.desk.shown.value ≡ writer.desk.shown.value)
+        × (drop result.0.behind result.0.log.items ≡ drop writer.behind writer.log.items)) }
+{
+    writer.publish_as::<Shows<B>, R>(rt)
 }
 
 impl<B: Naming, R: Wait + Drop> Drop for Press<B, R> {
