@@ -1,6 +1,13 @@
+use Rattle.std.proofs.Common.{sym, ap, ◌∙◌}
 use Rattle.std.proofs.lemmas.Result.{err_from_is_err_and}
+use Rattle.keep_catalog.specs.Places.{chosen_listing}
+use Rattle.keep_repo.specs.Repository.{Repository}
 use Rattle.keep_upkeep.proofs.MarkAsked.{none_unknown, reach_refused, unread_refused}
 use Rattle.keep_upkeep.proofs.mark.reached.Goals as goal
+
+pub returns-clause-places : goal.returns-clause-places
+returns-clause-places c blob found there =
+    ap (λ (r : Repository). chosen_listing r blob) (sym c.in_ok-catalog.ensures.catalog) ∙ c.in_ok-reached.ensures.places blob found there
 
 pub returns-clause-known : goal.returns-clause-known
 returns-clause-known c =
