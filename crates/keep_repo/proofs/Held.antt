@@ -1,5 +1,5 @@
 -- What the facets of a repository hold: it says what the repository is, and a write changes it at one facet.
-use Rattle.std.proofs.Common.{◌≡◌, ℕ, Bool, true, false, cond, List, refl, ap, ◌∙◌, is_some, Ordering}
+use Rattle.std.proofs.Common.{◌≡◌, ℕ, Bool, true, false, cond, List, refl, ap, ◌∙◌, Ordering}
 use Rattle.std.specs.Prelude.{Option, Some, None}
 use Rattle.std.specs.Cmp.{IsTotalOrder, eq_by_cmp_equiv}
 use Rattle.std.specs.Ordering.{eq_by_cmp}
@@ -9,17 +9,10 @@ use Rattle.keep_names.proofs.Orders.{id_exact, id_total, name_exact, name_total}
 use Rattle.keep_names.specs.declared.file_name.FileName.{FileName}
 use Rattle.keep_names.specs.declared.id.Id.{Id}
 use Rattle.keep_repo.specs.Facet.{Content, Marked, Stored, facet_eq}
-use Rattle.keep_repo.specs.Repository.{Repository, held, is_filled}
+use Rattle.keep_repo.specs.Repository.{Repository, held}
 use Rattle.keep_repo.specs.declared.facet.Facet.{Facet}
 use Rattle.keep_repo.specs.declared.facet.Facet.TheVariants.{File, Mark}
 use Rattle.keep_repo.specs.declared.facet.Mark as the_mark
-
-is_some-option_map : {A B : Type 0} (f : A → B) (o : Option A) → is_some (option_map f o) ≡ is_some o
-is_some-option_map f None = refl
-is_some-option_map f (Some x) = refl
-
-pub is_filled-File : (r : Repository) (name : FileName) → is_filled r (File name) ≡ is_some (map.get r.files name)
-is_filled-File r name = is_some-option_map Stored (map.get r.files name)
 
 same_bytes : (a b : Option (List ℕ)) → option_map Stored a ≡ option_map Stored b → a ≡ b
 same_bytes None None h = refl

@@ -1,6 +1,8 @@
+pub mod ByName
+pub mod Hashed
 pub mod Held
+pub mod InOrder
 pub mod Maps
-pub mod OfKind
 pub mod Orders
 pub mod Parts
 pub mod Rising

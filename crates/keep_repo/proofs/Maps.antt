@@ -1,5 +1,5 @@
--- Finite maps that are made of the entries of a `BTreeMap`, whose keys an exact order tells apart.
-use Rattle.std.proofs.Common.{◌≡◌, cond, List, [], ◌∷◌, length, refl, sym, ap, ◌∙◌, Ordering, Less}
+-- Look-ups in entries, and finite maps that are made of the entries of a `BTreeMap`, whose keys an exact order tells apart.
+use Rattle.std.proofs.Common.{◌≡◌, Bool, true, false, cond, List, [], ◌∷◌, ◌++◌, length, refl, sym, ap, ◌∙◌, Ordering, Less}
 use Rattle.std.specs.Prelude.{Some, None}
 use Rattle.std.specs.BTreeMap.{is_at}
 use Rattle.std.specs.Cmp.{IsTotalOrder, eq_by_cmp_equiv}
@@ -9,6 +9,17 @@ use Rattle.std.specs.List.Sorted.{IsStrictlySortedBy}
 use Rattle.std.specs.Map.{keys_of, lookup}
 use Rattle.std.proofs.lemmas.List.{nil_from_length}
 use Rattle.std.proofs.lemmas.Map.Keys.{sorted_head, sorted_tail}
+
+module _ {K X : Type 0} (test : K → Bool) where
+  -- what isn't found among the first is looked up among the others
+  pub past_first : (es fs : List (K × X)) → lookup test es ≡ None → lookup test (es ++ fs) ≡ lookup test fs
+  past_first [] fs none = refl
+  past_first (e ∷ es) fs none = elim (test e.0) as (λ b. cond b (Some e.1) (lookup test es) ≡ None → cond b (Some e.1) (lookup test (es ++ fs)) ≡ lookup test fs) [ true ↦ λ h. cc h | false ↦ past_first es fs ] none
+
+  -- what isn't found among the others is looked up among the first
+  pub within_first : (es fs : List (K × X)) → lookup test fs ≡ None → lookup test (es ++ fs) ≡ lookup test es
+  within_first [] fs none = none
+  within_first (e ∷ es) fs none = ap (cond (test e.0) (Some e.1)) (within_first es fs none)
 
 module _ {K X : Type 0} (R : K → K → Ordering) where
   find_lookup : (es : List (K × X)) (q : K) → find R q es ≡ lookup (is_at (R q)) es

@@ -9,11 +9,8 @@ use Rattle.std.specs.FinMap.{IsAntisymmetric, entries, from_entries, len}
 use Rattle.std.specs.Ordering.{is_eq}
 use Rattle.std.proofs.lemmas.Map.Lookups.{btree_map_eq-Decides}
 use Rattle.std.proofs.lemmas.Map.Views.{tells_apart}
-use Rattle.keep_names.proofs.Orders.{id_exact, id_total, name_exact, name_total}
-use Rattle.keep_names.specs.declared.file_name.FileName.{FileName}
+use Rattle.keep_names.proofs.Orders.{id_exact, id_total}
 use Rattle.keep_names.specs.declared.id.Id.{Id}
-use Rattle.keep_names.specs.contracts.file_name.FileNameOrd.TheImpl.Laws as the_name_laws
-use Rattle.keep_names.specs.contracts.file_name.FileNamePartialEq.TheImpl as the_name_eq
 use Rattle.keep_names.specs.contracts.id.IdOrd.TheImpl.Laws as the_id_laws
 use Rattle.keep_names.specs.contracts.id.IdPartialEq.TheImpl as the_id_eq
 use Rattle.keep_repo.proofs.Maps.{entries_made, len_made}
@@ -45,9 +42,6 @@ module _ {K : Type 0} {R : K → K → Ordering} (total : IsTotalOrder R) where
 
 pub Decides-along : {A : Type 0} {x x' y y' : A} (r : Bool) → x ≡ y → x' ≡ y' → Decides r (x ≡ x') → Decides r (y ≡ y')
 Decides-along r p q d = (λ h. sym p ∙ d.0 h ∙ q, λ e. d.1 (p ∙ e ∙ sym q))
-
-pub name_eq-Decides : (a b : FileName) → Decides ((the_name_eq.ghosts).eq a b) (a ≡ b)
-name_eq-Decides = eq-Decides name_total name_exact the_name_laws.matches_eq-law
 
 pub id_eq-Decides : (a b : Id) → Decides ((the_id_eq.ghosts).eq a b) (a ≡ b)
 id_eq-Decides = eq-Decides id_total id_exact the_id_laws.matches_eq-law

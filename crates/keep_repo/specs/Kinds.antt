@@ -1,8 +1,5 @@
 -- The files of one kind.
-use Rattle.std.specs.Prelude.{ℕ, Bool, List, map, filter}
-use Rattle.std.specs.BTreeMap.{BTreeMap, ContainsKey}
-use Rattle.keep_names.specs.Id.{IsDigest}
-use Rattle.keep_names.specs.Orders.{name_cmp}
+use Rattle.std.specs.Prelude.{Bool, List, map, filter}
 use Rattle.keep_names.specs.declared.file_name.FileName.{FileName}
 use Rattle.keep_names.specs.declared.file_name.Kind.{Kind}
 use Rattle.keep_names.specs.declared.id.Id.{Id}
@@ -15,7 +12,3 @@ kind_eq = (the_kind_eq.ghosts).eq
 -- the ids of those names that are of this kind, in their order
 abbrev pub ids_among : Kind → List FileName → List Id
 ids_among kind names = map (λ name. name.id) (filter (λ name. kind_eq name.kind kind) names)
-
--- each of the files has an id of 32 bytes
-abbrev pub HaveDigests : BTreeMap FileName (List ℕ) → Type 0
-HaveDigests files = (name : FileName) → ContainsKey name_cmp files name → IsDigest name.id

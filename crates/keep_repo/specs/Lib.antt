@@ -1,3 +1,4 @@
 pub mod Facet
+pub mod Files
 pub mod Kinds
 pub mod Repository

@@ -3,7 +3,7 @@
 
 mod bytes;
 mod facet;
-mod kinds;
+mod files;
 mod laws;
 mod repo;
 

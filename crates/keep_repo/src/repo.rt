@@ -6,7 +6,7 @@ ghost use Rattle.keep_repo.specs.Repository.{held, is_filled, empty_repository};
 
 use crate::bytes::Bytes;
 use crate::facet::{Facet, Mark};
-use crate::kinds::{bounds_of, id_fits};
+use crate::files::Files;
 use keep_names::{FileName, Id, Kind};
 use std::alloc::{AllocError, Global};
 use std::collections::BTreeMap;
@@ -16,13 +16,12 @@ use std::marker::Model;
 #[derive(Drop)]
 pub struct Repo {
     alloc: Global,
-    files: BTreeMap<FileName, Bytes>,
+    files: Files,
     marks: BTreeMap<Id, Mark>,
 }
 
 impl Model for Repo {
     ghost use Rattle.std.specs.FinMap as map;
-    ghost use Rattle.keep_repo.specs.Kinds.{HaveDigests};
     ghost use Rattle.keep_repo.specs.Repository.{Repository, coded_repository};
 
     ghost Value = { Repository };
@@ -30,11 +29,9 @@ impl Model for Repo {
     ghost coded = { coded_repository };
 
     ghost view = { λ r. record {
-      files = map.from_entries r.files.entries;
+      files = r.files;
       marks = map.from_entries r.marks.entries;
     } };
-
-    ghost invariant = { λ r. HaveDigests r.files };
 }
 
 impl Repo {
@@ -44,7 +41,7 @@ impl Repo {
     {
         Repo {
             alloc,
-            files: BTreeMap::new(alloc),
+            files: Files::new(alloc),
             marks: BTreeMap::new(alloc),
         }
     }
@@ -53,7 +50,7 @@ impl Repo {
     pub fn get(&self, name: FileName) -> Option<&Bytes>
         ensures { option_copied result ≡ map.get self.now.files name }
     {
-        self.files.get(&name)
+        self.files.get(name)
     }
 
     /// The moment of the pack's mark, if it has one.
@@ -74,7 +71,7 @@ impl Repo {
         ensures { result ≡ is_filled self.now facet }
     {
         match facet {
-            Facet::File(name) => self.files.contains_key(&name),
+            Facet::File(name) => self.files.get(name).is_some(),
             Facet::Mark(pack) => self.is_marked(pack),
         }
     }
@@ -91,12 +88,12 @@ impl Repo {
         self.marks.len()
     }
 
-    /// The names of the files and the marked packs, each in order.
+    /// The names of the files and the marked packs, each in order. It takes n log n steps for n files.
     pub fn list(&self) -> Result<(Vec<FileName>, Vec<Id>), AllocError>
         ensures files { IfOk result (λ listed. listed.0.items ≡ map.keys self.now.files) }
         ensures marks { IfOk result (λ listed. listed.1.items ≡ map.keys self.now.marks) }
     {
-        let names = self.files.keys().copied().collect(self.alloc)?;
+        let names = self.files.names()?;
         let packs = self.marks.keys().copied().collect(self.alloc)?;
         Ok((names, packs))
     }
@@ -111,14 +108,11 @@ impl Repo {
             .collect(self.alloc)
     }
 
-    /// The ids of the files of this kind, in order. It goes over no others.
+    /// The ids of the files of this kind, in order. It takes n log n steps for n of them, and goes over no others.
     pub fn ids(&self, kind: Kind) -> Result<Vec<Id>, AllocError>
         ensures { IfOk result (λ ids. ids.items ≡ ids_among kind (map.keys self.now.files)) }
     {
-        self.files
-            .range(bounds_of(kind))
-            .map(|(name, _)| name.id)
-            .collect(self.alloc)
+        self.files.ids(kind)
     }
 
     /// A repository of its own with the same files and marks. The bytes are shared.
@@ -127,7 +121,7 @@ impl Repo {
     {
         Ok(Repo {
             alloc: self.alloc,
-            files: self.files.clone()?,
+            files: self.files.copy()?,
             marks: self.marks.clone()?,
         })
     }
@@ -139,7 +133,7 @@ impl Repo {
         let marks = self.marks.clone()?;
         Ok(Repo {
             alloc: self.alloc,
-            files: BTreeMap::new(self.alloc),
+            files: Files::new(self.alloc),
             marks,
         })
     }
@@ -148,14 +142,7 @@ impl Repo {
     pub fn same_as(&self, other: &Repo) -> bool
         ensures { IsTrue result ↔ (self.now ≡ other.now) }
     {
-        self.same_files(other) && self.same_marks(other)
-    }
-
-    fn same_files(&self, other: &Repo) -> bool
-        ensures { IsTrue result ↔ (self.now.files ≡ other.now.files) }
-    {
-        let (files, others) = (&self.files, &other.files);
-        files.len() == others.len() && files == others
+        self.files.same_as(&other.files) && self.same_marks(other)
     }
 
     fn same_marks(&self, other: &Repo) -> bool
@@ -171,15 +158,13 @@ impl Repo {
             OnOk result (self.new ≡ record self.old { files = files }) }
         ensures err { OnErr result (self.new ≡ self.old) }
     {
-        id_fits(name.id);
-        self.files.insert(name, bytes)?;
-        Ok(())
+        self.files.insert(name, bytes)
     }
 
     pub fn remove_file(&mut self, name: FileName)
         ensures { self.new ≡ record self.old { files = map.remove self.old.files name } }
     {
-        self.files.remove(&name);
+        self.files.remove(name);
     }
 
     /// Puts the mark on the pack, in the place of one that it has.

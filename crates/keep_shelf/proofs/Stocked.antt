@@ -1,5 +1,5 @@
 -- A content that is made of files and of entries: what it has at a key, what a change of one of them is, and its keys.
-use Rattle.std.proofs.Common.{◌≡◌, ℕ, true, false, ◌||◌, cond, List, [], ◌∷◌, ◌++◌, map, Bool, Option, Some, None, IsPermutation, Less, is_some, refl, sym, ap, ◌∙◌}
+use Rattle.std.proofs.Common.{◌≡◌, ℕ, false, ◌||◌, cond, List, [], ◌∷◌, ◌++◌, map, Option, Some, None, IsPermutation, Less, is_some, refl, sym, ap, ◌∙◌}
 use Rattle.std.proofs.lemmas.Bool.{or_parts}
 use Rattle.std.proofs.lemmas.List.{map-append}
 use Rattle.std.proofs.lemmas.List.Folds.{list_any-append}
@@ -13,8 +13,10 @@ use Rattle.std.specs.List.Sorted.{IsSorted, IsStrictlySortedBy}
 use Rattle.std.specs.Map.{keys_of, lookup}
 use Rattle.std.specs.Ordering.{eq_by_cmp, is_eq, nat_cmp}
 use Rattle.keep_names.specs.declared.file_name.FileName.{FileName}
-use Rattle.keep_repo.proofs.Maps.{get_made}
-use Rattle.keep_shelf.proofs.Hashed.{content_of, contains_made, keys_rising, same_key, sorted_rise}
+use Rattle.keep_repo.proofs.Hashed.{contains_made, sorted_rise}
+use Rattle.keep_repo.proofs.Maps.{get_made, past_first, within_first}
+use Rattle.keep_repo.proofs.Rising.{both_rise, rising_keys}
+use Rattle.keep_shelf.proofs.Hashed.{content_of, same_as_order, same_key}
 use Rattle.keep_shelf.proofs.Orders.{key_exact, key_total}
 use Rattle.keep_shelf.specs.Key.{key_cmp}
 use Rattle.keep_shelf.specs.Shelved.{Content}
@@ -41,17 +43,6 @@ entry_apart : (n : ℕ) (key : Key) → IsFile key → eq_by_cmp key_cmp (Entry 
 entry_apart n key file = (eq_by_cmp_equiv key_total).symm (Entry n) key ∙ file_apart key n file
 
 -- ---- what is at a key
-
-module _ {K X : Type 0} (test : K → Bool) where
-  -- what isn't found among the first is looked up among the others
-  past_first : (es fs : List (K × X)) → lookup test es ≡ None → lookup test (es ++ fs) ≡ lookup test fs
-  past_first [] fs none = refl
-  past_first (e ∷ es) fs none = elim (test e.0) as (λ b. cond b (Some e.1) (lookup test es) ≡ None → cond b (Some e.1) (lookup test (es ++ fs)) ≡ lookup test fs) [ true ↦ λ h. cc h | false ↦ past_first es fs ] none
-
-  -- what isn't found among the others is looked up among the first
-  within_first : (es fs : List (K × X)) → lookup test fs ≡ None → lookup test (es ++ fs) ≡ lookup test es
-  within_first [] fs none = none
-  within_first (e ∷ es) fs none = ap (cond (test e.0) (Some e.1)) (within_first es fs none)
 
 -- among entries no file is found
 no_file : (entries : List (ℕ × List ℕ)) (key : Key) → IsFile key → lookup (is_at (key_cmp key)) (under_keys entries) ≡ None
@@ -133,11 +124,6 @@ module _ (files : List (Key × List ℕ)) (none : HasNoEntry files) (entries new
 
 -- ---- the keys
 
-module _ {A : Type 0} (P : A → Type 0) where
-  all_of_both : (xs ys : List A) → AllByRecursion P xs → AllByRecursion P ys → AllByRecursion P (xs ++ ys)
-  all_of_both [] ys first others = others
-  all_of_both (x ∷ xs) ys first others = (first.0, all_of_both xs ys first.1 others)
-
 -- a key that ties with no entry's comes before each entry's
 before_entry : (key : Key) → ((n : ℕ) → eq_by_cmp key_cmp (Entry n) key ≡ false) → (n : ℕ) → key_cmp key (Entry n) ≡ Less
 before_entry (Live name) apart n = refl
@@ -157,15 +143,12 @@ unfolding IsStrictlySortedBy
 entries_rise [] rises = tt
 entries_rise (n ∷ ns) rises = (above_number n ns rises.0, entries_rise ns rises.1)
 
--- files that rise, and then entries that do, rise
-both_rise : (ks : List Key) (ns : List ℕ) → IsStrictlySortedBy key_cmp ks → ((n : ℕ) → list_any (is_at (key_cmp (Entry n))) ks ≡ false) → IsStrictlySortedBy nat_cmp ns → IsStrictlySortedBy key_cmp (ks ++ map Entry ns)
-unfolding IsStrictlySortedBy
-both_rise [] ns files none entries = entries_rise ns entries
-both_rise (k ∷ ks) ns files none entries =
-    let apart = λ (n : ℕ). or_parts (is_at (key_cmp (Entry n)) k) (list_any (is_at (key_cmp (Entry n))) ks) (none n) in (
-      all_of_both (λ other. key_cmp k other ≡ Less) ks (map Entry ns) files.0 (before_entries k ns (before_entry k (λ n. (apart n).0))),
-      both_rise ks ns files.1 (λ n. (apart n).1) entries,
-    )
+-- keys that are no entry's come before each of the entries'
+all_before : (ks : List Key) (ns : List ℕ) → ((n : ℕ) → list_any (is_at (key_cmp (Entry n))) ks ≡ false) → AllByRecursion (λ key. AllByRecursion (λ other. key_cmp key other ≡ Less) (map Entry ns)) ks
+all_before [] ns none = tt
+all_before (k ∷ ks) ns none =
+    let apart = λ (n : ℕ). or_parts (is_at (key_cmp (Entry n)) k) (list_any (is_at (key_cmp (Entry n))) ks) (none n) in
+    (before_entries k ns (before_entry k (λ n. (apart n).0)), all_before ks ns (λ n. (apart n).1))
 
 keys_under : (entries : List (ℕ × List ℕ)) → keys_of (under_keys entries) ≡ map Entry (keys_of entries)
 keys_under [] = refl
@@ -175,14 +158,17 @@ keys_under (e ∷ es) = ap (λ ks. Entry e.0 ∷ ks) (keys_under es)
 pub keys_stocked : (files : List (Key × List ℕ)) (entries : List (ℕ × List ℕ)) (ks : List Key) → HasNoEntry files → IsDistinct same_key (keys_of files) → IsPermutation (keys_of files) ks → IsSorted key_cmp ks
     → IsStrictlySortedBy nat_cmp (keys_of entries) → ks ++ map Entry (keys_of entries) ≡ finite.keys (files_and_entries files entries)
 keys_stocked files entries ks none distinct moved sorted rises =
-    keys_rising (files ++ under_keys entries) (ks ++ map Entry (keys_of entries))
-    (both_rise ks (keys_of entries) (sorted_rise (keys_of files) ks distinct moved sorted) (λ n. sym (same (Entry n)) ∙ sym (contains_made files (Entry n)) ∙ ap is_some (none n)) rises)
+    let none_there = λ (n : ℕ). sym (same (Entry n)) ∙ sym (contains_made key_total same_as_order files (Entry n)) ∙ ap is_some (none n) in
+    rising_keys key_total key_exact (files_and_entries files entries) (ks ++ map Entry (keys_of entries))
+    (both_rise key_cmp ks (map Entry (keys_of entries)) (sorted_rise key_total same_as_order (keys_of files) ks distinct moved sorted) (entries_rise (keys_of entries) rises)
+    (all_before ks (keys_of entries) none_there))
     (λ q.
     list_any-append (is_at (key_cmp q)) ks (map Entry (keys_of entries))
     ∙ ap (λ found. found || list_any (is_at (key_cmp q)) (map Entry (keys_of entries))) (sym (same q))
     ∙ sym (list_any-append (is_at (key_cmp q)) (keys_of files) (map Entry (keys_of entries)))
     ∙ ap (λ js. list_any (is_at (key_cmp q)) (keys_of files ++ js)) (sym (keys_under entries))
-    ∙ ap (list_any (is_at (key_cmp q))) (sym (map-append (λ (e : Key × List ℕ). e.0) files (under_keys entries))))
+    ∙ ap (list_any (is_at (key_cmp q))) (sym (map-append (λ (e : Key × List ℕ). e.0) files (under_keys entries)))
+    ∙ sym (contains_made key_total same_as_order (files ++ under_keys entries) q))
   where
     same : (q : Key) → list_any (is_at (key_cmp q)) (keys_of files) ≡ list_any (is_at (key_cmp q)) ks
     same q = list_any-IsPermutation (is_at (key_cmp q)) (keys_of files) ks moved

@@ -12,7 +12,6 @@ use std::marker::Model;
 /// Bytes by key, in memory. Files are found by the key's hash, and entries by their number.
 ///
 /// Entries are as many as events, and would make the table of the files' hashes large: they stand apart from it.
-#[derive(Drop)]
 pub struct Stock {
     alloc: Global,
     /// Live files and the trash.
@@ -32,6 +31,17 @@ impl Model for Stock {
     ghost view = { λ s. files_and_entries s.files.entries s.entries.entries };
 
     ghost invariant = { λ s. HasNoEntry s.files.entries };
+}
+
+// One call drops it, where each `?` would else drop each part of it, which is long to prove.
+impl Drop for Stock {
+    fn drop(self) {
+        let Stock {
+            alloc: _,
+            files: _,
+            entries: _,
+        } = self;
+    }
 }
 
 impl Stock {

@@ -8,5 +8,5 @@ use Rattle.keep_repo.proofs.repo.Repo.remove_mark.Goals as goal
 
 pub returns : goal.returns
 returns c =
-    ap (with_marks (map.from_entries c.self.inside.files.entries)) (one_removed id_total id_exact c.self.inside.marks.entries c.remove.new.self.entries c.args.pack c.remove.ensures.updates.0)
+    ap (with_marks c.self.inside.files) (one_removed id_total id_exact c.self.inside.marks.entries c.remove.new.self.entries c.args.pack c.remove.ensures.updates.0)
     ∙ ap (λ (r : Repository). record r { marks = map.remove r.marks c.args.pack }) c.self.view_is

@@ -1,6 +1,8 @@
 use Rattle.std.proofs.Common.{◌≡◌, None, sym, ap, ◌∙◌}
 use Rattle.std.specs.FinMap as map
-use Rattle.keep_shelf.proofs.Hashed.{differs_hashed}
+use Rattle.keep_repo.proofs.Hashed.{differs_hashed}
+use Rattle.keep_shelf.proofs.Hashed.{same_as_order}
+use Rattle.keep_shelf.proofs.Orders.{key_total}
 use Rattle.keep_shelf.proofs.Stocked.{entry_differs, file_differs, still_none, taken_away}
 use Rattle.keep_shelf.specs.Shelved.{Content}
 use Rattle.keep_shelf.specs.Stocked.{files_and_entries}
@@ -25,7 +27,7 @@ invariant_of-self-in_default c =
     let files = c.self-in_default.inside.files.entries in
     let new = c.swap_remove.new.self.entries in
     still_none files new c.args.key None c.in_default.not-Entry
-    (differs_hashed files new c.args.key None c.swap_remove.ensures.updates.0) c.self-in_default.invariant
+    (differs_hashed key_total same_as_order files new c.args.key None c.swap_remove.ensures.updates.0) c.self-in_default.invariant
 
 pub returns-in_default : goal.returns-in_default
 returns-in_default c =
@@ -35,5 +37,5 @@ returns-in_default c =
     c.give_back.ensures
     ∙ taken_away (files_and_entries files entries) (files_and_entries new entries) c.args.key
     (file_differs files new c.args.key None c.in_default.not-Entry
-    (differs_hashed files new c.args.key None c.swap_remove.ensures.updates.0) c.self-in_default.invariant entries)
+    (differs_hashed key_total same_as_order files new c.args.key None c.swap_remove.ensures.updates.0) c.self-in_default.invariant entries)
     ∙ ap (λ (content : Content). map.remove content c.args.key) c.self-in_default.view_is

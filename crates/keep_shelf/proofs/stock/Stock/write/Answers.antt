@@ -1,7 +1,9 @@
 use Rattle.std.proofs.Common.{◌≡◌, None, Some, sym, ap, ◌∙◌}
 use Rattle.std.proofs.lemmas.Result.{err_from_is_err_and}
 use Rattle.std.specs.FinMap as map
-use Rattle.keep_shelf.proofs.Hashed.{differs_hashed, get_hashed}
+use Rattle.keep_repo.proofs.Hashed.{differs_hashed, get_hashed}
+use Rattle.keep_shelf.proofs.Hashed.{same_as_order}
+use Rattle.keep_shelf.proofs.Orders.{key_total}
 use Rattle.keep_shelf.proofs.Stocked.{entry_differs, file_differs, get_entry, get_file, put_there, still_none}
 use Rattle.keep_shelf.specs.Shelved.{Content}
 use Rattle.keep_shelf.specs.Stocked.{files_and_entries}
@@ -46,13 +48,13 @@ returns-in_ok-insert-in_default c =
     record {
       was =
           c.in_ok-insert-in_default.ensures.old
-          ∙ sym (get_hashed files c.args.key)
+          ∙ sym (get_hashed key_total same_as_order files c.args.key)
           ∙ sym (get_file files entries c.args.key c.in_default.not-Entry)
           ∙ ap (λ (content : Content). map.get content c.args.key) c.self.view_is;
       ok =
           put_there (files_and_entries files entries) (files_and_entries new entries) c.args.key c.args.bytes
           (file_differs files new c.args.key (Some c.args.bytes) c.in_default.not-Entry
-          (differs_hashed files new c.args.key (Some c.args.bytes) c.in_ok-insert-in_default.ensures.updates.0) c.self.invariant entries)
+          (differs_hashed key_total same_as_order files new c.args.key (Some c.args.bytes) c.in_ok-insert-in_default.ensures.updates.0) c.self.invariant entries)
           ∙ ap (λ (content : Content). map.insert content c.args.key c.args.bytes) c.self.view_is;
       err = tt;
       absent = tt;
@@ -63,7 +65,7 @@ invariant_of-self-in_default c =
     let files = c.self.inside.files.entries in
     let new = c.insert-in_default.new.self.entries in
     still_none files new c.args.key (Some c.args.bytes) c.in_default.not-Entry
-    (differs_hashed files new c.args.key (Some c.args.bytes) c.in_ok-insert-in_default.ensures.updates.0) c.self.invariant
+    (differs_hashed key_total same_as_order files new c.args.key (Some c.args.bytes) c.in_ok-insert-in_default.ensures.updates.0) c.self.invariant
 
 pub returns-in_err-insert-in_default : goal.returns-in_err-insert-in_default
 returns-in_err-insert-in_default c =
@@ -75,6 +77,6 @@ returns-in_err-insert-in_default c =
     let absent : map.get c.args.self.now c.args.key ≡ None =
     ap (λ (content : Content). map.get content c.args.key) (sym c.self.view_is)
     ∙ get_file files entries c.args.key c.in_default.not-Entry
-    ∙ get_hashed files c.args.key
+    ∙ get_hashed key_total same_as_order files c.args.key
     ∙ c.in_err-insert-in_default.ensures.absent in
     rw failed.1 (record { was = tt; ok = tt; err = same; absent = absent })
