@@ -19,7 +19,7 @@ use Rattle.keep_repo.specs.Repository.{Repository, empty_repository}
 use Rattle.keep_snap.specs.Snap.{snap_view}
 use Rattle.keep_catalog.specs.Files.{why_of, why_unread}
 use Rattle.keep_catalog.specs.Kept.{AreNew, AreThere, IsKept, has, with_file, with_files, without_file, without_files}
-use Rattle.keep_catalog.specs.Orders.{name_eq, packed_blob_cmp}
+use Rattle.keep_catalog.specs.Orders.{name_eq, packed_blob_cmp, same_name}
 use Rattle.keep_catalog.specs.declared.tables.Tables.{Tables}
 use Rattle.keep_catalog.proofs.Coming.{re_marked}
 use Rattle.keep_catalog.proofs.Growing.{no_id}
@@ -88,7 +88,7 @@ none_kept t stored listed snaps unread ordered = record {
   snaps = λ q. ap (λ es. option_map snap_view (lookup (is_at (id_cmp q)) es)) snaps
       ∙ sym (snap_by empty_repository q None (finite.get-empty name_cmp _));
   ordered = ordered;
-  unread = λ q. ap (λ es. lookup (is_at (name_cmp q)) es) unread ∙ none_unread q;
+  unread = λ q. ap (λ es. lookup (same_name q) es) unread ∙ none_unread q;
 }
 
 -- ---- the tables of a repository, one file after another

@@ -5,9 +5,10 @@ use Rattle.std.specs.BTreeMap.{IsOrdered, is_at}
 use Rattle.std.specs.BTreeMap as tree
 use Rattle.std.specs.FinMap as finite
 use Rattle.std.specs.Option.{option_map, option_or}
+use Rattle.indexmap.specs.IndexMap.{get}
 use Rattle.keep_names.proofs.Orders.{id_exact}
 use Rattle.keep_names.specs.FileName.{named}
-use Rattle.keep_names.specs.Orders.{id_cmp, name_cmp}
+use Rattle.keep_names.specs.Orders.{id_cmp}
 use Rattle.keep_names.specs.declared.blob.BlobId.{BlobId}
 use Rattle.keep_names.specs.declared.file_name.FileName.{FileName}
 use Rattle.keep_names.specs.declared.file_name.Kind.{Kind}
@@ -18,7 +19,7 @@ use Rattle.keep_repo.specs.declared.facet.Mark.{Mark}
 use Rattle.keep_snap.specs.Snap.{SnapData, snap_view}
 use Rattle.keep_catalog.specs.Files.{snap_read, snap_in, why_of, why_unread}
 use Rattle.keep_catalog.specs.Kept.{AreSnapsOf, IsHashedIn, IsKept, IsListedIn, IsStoredIn, Snaps, lists_at, snap_at, with_file, without_file}
-use Rattle.keep_catalog.specs.Orders.{name_eq, packed_blob_cmp, same_id}
+use Rattle.keep_catalog.specs.Orders.{packed_blob_cmp, same_id, same_name}
 use Rattle.keep_catalog.specs.Places.{places_listed, at, is_among, listed_in}
 use Rattle.keep_catalog.specs.declared.spot.Listing.{Listing}
 use Rattle.keep_catalog.specs.declared.spot.PackedBlob.{PackedBlob}
@@ -30,7 +31,7 @@ use Rattle.keep_catalog.proofs.Replaced.{IsReplaced, file_put, file_taken, liste
 -- ---- tables
 
 abbrev pub noted_at : Tables → FileName → Option FileError
-noted_at t q = tree.get name_cmp t.unread q
+noted_at t q = get same_name t.unread q
 
 -- what is kept of files of other kinds
 module _ (r after : Repository) (old new : Tables) (kept : IsKept r old) where
@@ -58,7 +59,7 @@ module _ (r after : Repository) (old new : Tables) (kept : IsKept r old) where
 module _ (r : Repository) (old new : Tables) (bytes : List ℕ) (kept : IsKept r old) where
   -- what is noted of it
   abbrev Noted : FileName → Type 0
-  Noted name = (q : FileName) → noted_at new q ≡ option_or (cond (name_eq name q) (why_of name.kind bytes) None) (noted_at old q)
+  Noted name = (q : FileName) → noted_at new q ≡ option_or (cond (same_name name q) (why_of name.kind bytes) None) (noted_at old q)
 
   pub pack_comes : (pack : Id) → finite.get r.files (named Pack pack) ≡ None → ((p : PackedBlob) → tree.get packed_blob_cmp new.stored p ≡ cond (stored_here pack bytes p) (Some None) (tree.get packed_blob_cmp old.stored p)) → Noted (named Pack pack) → new.listed ≡ old.listed → new.snaps ≡ old.snaps → IsKept (with_file r (named Pack pack) bytes) new
   pack_comes pack absent put noted listed snaps =
@@ -120,7 +121,7 @@ module _ (r : Repository) (old new : Tables) (bytes : List ℕ) (kept : IsKept r
 module _ (r : Repository) (old new : Tables) (kept : IsKept r old) where
   -- nothing is noted of it any more
   abbrev Forgotten : FileName → Type 0
-  Forgotten name = (q : FileName) → noted_at new q ≡ cond (name_eq name q) None (noted_at old q)
+  Forgotten name = (q : FileName) → noted_at new q ≡ cond (same_name name q) None (noted_at old q)
 
   pub pack_goes : (pack : Id) (bytes : List ℕ) → finite.get r.files (named Pack pack) ≡ Some bytes → ((p : PackedBlob) → tree.get packed_blob_cmp new.stored p ≡ cond (stored_here pack bytes p) None (tree.get packed_blob_cmp old.stored p)) → Forgotten (named Pack pack) → new.listed ≡ old.listed → new.snaps ≡ old.snaps → IsKept (without_file r (named Pack pack)) new
   pack_goes pack bytes present took forgotten listed snaps =

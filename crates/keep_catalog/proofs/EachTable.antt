@@ -7,6 +7,7 @@ use Rattle.std.specs.FinMap as finite
 use Rattle.std.specs.Option.{option_and_then, option_or}
 use Rattle.keep_names.proofs.Orders.{id_total, name_exact, name_total}
 use Rattle.keep_names.specs.FileName.{named}
+use Rattle.keep_names.specs.contracts.file_name.FileNameOrd.TheImpl.Laws as the_name_laws
 use Rattle.keep_names.specs.declared.blob.BlobId.{BlobId}
 use Rattle.keep_names.specs.declared.file_name.FileName.{FileName}
 use Rattle.keep_names.specs.declared.file_name.Kind.TheVariants.{Pack, Index}
@@ -14,7 +15,7 @@ use Rattle.keep_names.specs.declared.id.Id.{Id}
 use Rattle.keep_repo.specs.Repository.{Repository}
 use Rattle.keep_catalog.specs.Files.{why_of, why_unread}
 use Rattle.keep_catalog.specs.Kept.{IsHashedIn, IsListedIn, IsStoredIn, Listed, Stored, lists_at, lists_in}
-use Rattle.keep_catalog.specs.Orders.{name_eq, packed_blob_cmp, same_id}
+use Rattle.keep_catalog.specs.Orders.{name_eq, packed_blob_cmp, same_id, same_name}
 use Rattle.keep_catalog.specs.Places.{places_listed, places_stored, at, is_among, is_honest, is_stored}
 use Rattle.keep_catalog.specs.declared.spot.Listing.{Listing}
 use Rattle.keep_catalog.specs.declared.spot.PackedBlob.{PackedBlob}
@@ -27,8 +28,12 @@ use Rattle.keep_catalog.proofs.Replaced.{IsReplaced, honest_after, lists_after, 
 pub id_symm : (a b : Id) → same_id a b ≡ same_id b a
 id_symm = (eq_by_cmp_equiv id_total).symm
 
-name_symm : (a b : FileName) → name_eq a b ≡ name_eq b a
-name_symm = (eq_by_cmp_equiv name_total).symm
+-- `==` of names is the one that their order gives
+pub same_as_order : same_name ≡ name_eq
+same_as_order i a b = the_name_laws.matches_eq-law a b i
+
+name_symm : (a b : FileName) → same_name a b ≡ name_eq b a
+name_symm a b = ap (λ same. same a b) same_as_order ∙ (eq_by_cmp_equiv name_total).symm a b
 
 -- what comes is there, and what was there stays
 comes : (a b was : Bool) → (a ≡ true → b ≡ true) → (b ≡ true → was ≡ false) → cond a true was ≡ cond b a was
@@ -135,7 +140,7 @@ unfolding why_unread
 none_unread r name q absent same = ap (option_and_then (why_of q.kind)) (ap (finite.get r.files) (tells_apart name_exact q name same) ∙ absent)
 
 module _ (r after : Repository) (name : FileName) (bytes : List ℕ) (old new : FileName → Option FileError) (kept : (q : FileName) → old q ≡ why_unread r q) where
-  pub unread_comes : IsReplaced r after name (Some bytes) → finite.get r.files name ≡ None → ((q : FileName) → new q ≡ option_or (cond (name_eq name q) (why_of name.kind bytes) None) (old q)) → (q : FileName) → new q ≡ why_unread after q
+  pub unread_comes : IsReplaced r after name (Some bytes) → finite.get r.files name ≡ None → ((q : FileName) → new q ≡ option_or (cond (same_name name q) (why_of name.kind bytes) None) (old q)) → (q : FileName) → new q ≡ why_unread after q
   unread_comes replaced absent put q =
       put q ∙ ap (λ b. option_or (cond b (why_of name.kind bytes) None) (old q)) (name_symm name q)
       ∙ ap (option_or (cond (name_eq q name) (why_of name.kind bytes) None)) (kept q)
@@ -149,7 +154,7 @@ module _ (r after : Repository) (name : FileName) (bytes : List ℕ) (old new : 
         cases true same = ap (option_or (why_of name.kind bytes)) (none_unread r name q absent same) ∙ or_none (why_of name.kind bytes)
         cases false other = refl
 
-  pub unread_goes : IsReplaced r after name None → ((q : FileName) → new q ≡ cond (name_eq name q) None (old q)) → (q : FileName) → new q ≡ why_unread after q
+  pub unread_goes : IsReplaced r after name None → ((q : FileName) → new q ≡ cond (same_name name q) None (old q)) → (q : FileName) → new q ≡ why_unread after q
   unread_goes replaced took q =
       took q ∙ ap (λ b. cond b None (old q)) (name_symm name q) ∙ ap (cond (name_eq q name) None) (kept q)
       ∙ sym (unread_after r after name None replaced q)

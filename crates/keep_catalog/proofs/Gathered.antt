@@ -1,8 +1,6 @@
 -- What is found for keys in order, gathered with each key for which something is.
 use Rattle.std.proofs.Common.{◌≡◌, Bool, true, false, ◌||◌, cond, List, [], ◌∷◌, Option, None, Some, option_map, is_some, refl, sym, ap, ◌∙◌, Ordering, Less}
 use Rattle.std.proofs.lemmas.Map.Views.{tells_apart}
-use Rattle.std.specs.BTreeMap.{BTreeMap, IsOrdered}
-use Rattle.std.specs.BTreeMap as tree
 use Rattle.std.specs.Cmp.{IsTotalOrder}
 use Rattle.std.specs.FinMap as finite
 use Rattle.std.specs.FinMap.{IsAntisymmetric}
@@ -10,7 +8,7 @@ use Rattle.std.specs.List.{AllByRecursion, cons_option, filter_map, list_any}
 use Rattle.std.specs.List.Sorted.{IsStrictlySortedBy}
 use Rattle.std.specs.Map.{keys_of}
 use Rattle.std.specs.Ordering.{eq_by_cmp}
-use Rattle.keep_repo.proofs.Maps.{entries_made, get_made}
+use Rattle.keep_repo.proofs.Maps.{entries_made}
 
 module _ {K V : Type 0} (R : K → K → Ordering) (total : IsTotalOrder R) (exact : IsAntisymmetric R) (g : K → Option V) where
   abbrev pub entry : K → Option (K × V)
@@ -41,6 +39,10 @@ module _ {K V : Type 0} (R : K → K → Ordering) (total : IsTotalOrder R) (exa
         ap (λ b. cond b (Some v) (finite.find R q (gathered ks))) same ∙ sym is ∙ ap g (sym (tells_apart exact q k same))
     cases before (Some v) is false other = ap (λ b. cond b (Some v) (finite.find R q (gathered ks))) other ∙ before
 
+  -- the keys have each for which something is found
+  abbrev pub HasAll : List K → Type 0
+  HasAll ks = (q : K) → is_some (g q) ≡ true → list_any (eq_by_cmp R q) ks ≡ true
+
   -- where nothing is found for other keys, all is gathered
   pub found_all : (ks : List K) (q : K) → (is_some (g q) ≡ true → list_any (eq_by_cmp R q) ks ≡ true) → finite.find R q (gathered ks) ≡ g q
   found_all ks q there = found q ks ∙ cases (g q) refl (list_any (eq_by_cmp R q) ks) refl where
@@ -67,10 +69,12 @@ module _ {K V : Type 0} (R : K → K → Ordering) (total : IsTotalOrder R) (exa
   rises [] h = tt
   rises (x ∷ ks) h = rises_by x (gathered ks) (g x) (above x ks h.0) (rises ks h.1)
 
-  -- it is what a map has that has just that
-  pub map_gathered : (m : BTreeMap K V) (ks : List K) → IsOrdered R m → IsStrictlySortedBy R ks → ((q : K) → tree.get R m q ≡ g q) → ((q : K) → is_some (g q) ≡ true → list_any (eq_by_cmp R q) ks ≡ true) → m.entries ≡ gathered ks
-  map_gathered m ks ordered sorted has there =
-      let same : finite.from_entries {R = R} m.entries ≡ finite.from_entries (gathered ks) =
-      finite.same_map total exact _ _ (λ q.
-      get_made total m.entries q ∙ has q ∙ sym (finite.get-from_entries total (gathered ks) q ∙ found_all ks q (there q))) in
-      sym (entries_made total m.entries ordered) ∙ ap finite.entries same ∙ entries_made total (gathered ks) (rises ks sorted)
+  -- keys in order that have each for which something is found gather the same, whichever others they have
+  pub gathered_alike : (js ks : List K) → IsStrictlySortedBy R js → IsStrictlySortedBy R ks → HasAll js → HasAll ks → gathered js ≡ gathered ks
+  gathered_alike js ks js_sorted ks_sorted js_all ks_all =
+      let made_of : List K → finite.FinMap R V = λ qs. finite.from_entries (gathered qs) in
+      let at : (qs : List K) → HasAll qs → (q : K) → finite.get (made_of qs) q ≡ g q = λ qs all q.
+      finite.get-from_entries total (gathered qs) q ∙ found_all qs q (all q) in
+      let same : made_of js ≡ made_of ks = finite.same_map total exact _ _ (λ q. at js js_all q ∙ sym (at ks ks_all q)) in
+      sym (entries_made total (gathered js) (rises js js_sorted)) ∙ ap finite.entries same
+      ∙ entries_made total (gathered ks) (rises ks ks_sorted)

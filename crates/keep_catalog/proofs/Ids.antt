@@ -19,6 +19,7 @@ use Rattle.keep_repo.specs.Kinds.{ids_among, kind_eq}
 use Rattle.keep_catalog.specs.Files.{file_in, ids_in}
 use Rattle.keep_catalog.specs.Orders.{same_id}
 use Rattle.keep_repo.proofs.Rising.{first_of_both, less, second_of_both}
+use Rattle.keep_catalog.proofs.Ordered.{holds_of_one}
 
 pub id_refl : (id : Id) → same_id id id ≡ true
 id_refl id = ap is_eq (tied_itself id_total id)
@@ -41,13 +42,6 @@ kind_same Snapshot Snapshot h = refl
 
 not_less : (a b : Id) → id_cmp a b ≡ Less → id_cmp b a ≢ Less
 not_less a b h below = cc (id_total.antisymm b a ∙ ap ordering_reverse h, below)
-
-less_than_all : (x : Id) (ids : List Id) (y : Id) → AllByRecursion (λ id. id_cmp x id ≡ Less) ids → list_any (same_id y) ids ≡ true → id_cmp x y ≡ Less
-less_than_all x [] y below among = cc among
-less_than_all x (id ∷ ids) y below among = cases (less_than_all x ids y below.1) (same_id y id) refl among where
-  cases : (list_any (same_id y) ids ≡ true → id_cmp x y ≡ Less) → (b : Bool) → same_id y id ≡ b → (b || list_any (same_id y) ids) ≡ true → id_cmp x y ≡ Less
-  cases later true same _ = let L : Id → Type 0 = λ i. id_cmp x i ≡ Less in subst L (sym (tells_apart id_exact y id same)) below.0
-  cases later false other rest = later rest
 
 -- the first of these that passes is x, and y is one of them
 abbrev IsFound : (Id → Bool) → Id → Id → List Id → Type 0
@@ -123,7 +117,7 @@ module _ (kind : Kind) where
       picked later true here false other k f a =
           let is : e.0.id ≡ x = cc f in
           let N : Id → Type 0 = λ i. id_cmp y i ≢ Less in
-          subst N is (not_less e.0.id y (less_than_all e.0.id (ids_among kind (names es)) y (after k) a))
+          subst N is (not_less e.0.id y (holds_of_one id_exact (λ id. id_cmp e.0.id id ≡ Less) (ids_among kind (names es)) y (after k) a))
       picked later false here true same k f a =
           let at : p y ≡ p e.0.id = ap p (tells_apart id_exact y e.0.id same) in
           cc (at, passes, here)

@@ -20,4 +20,5 @@ pub mod SnapsKept
 pub mod Slices
 pub mod SpotOrders
 pub mod Spots
+pub mod UnreadKept
 pub mod Unreadable

@@ -1,8 +1,9 @@
 -- Lists of entries and of keys, and the finite maps that they make.
-use Rattle.std.proofs.Common.{◌≡◌, Bool, true, false, ◌||◌, cond, List, [], ◌∷◌, ◌++◌, map, Option, None, Some, is_some, refl, sym, ap, ◌∙◌, Ordering}
+use Rattle.std.proofs.Common.{◌≡◌, Bool, true, false, ◌||◌, cond, List, [], ◌∷◌, ◌++◌, map, Option, None, Some, is_some, refl, sym, ap, subst, ◌∙◌, Ordering}
+use Rattle.std.proofs.lemmas.Map.Views.{tells_apart}
 use Rattle.std.specs.Cmp.{IsTotalOrder}
-use Rattle.std.specs.FinMap.{contains_key-keys, find, from_entries, get, get-from_entries}
-use Rattle.std.specs.List.{list_any}
+use Rattle.std.specs.FinMap.{IsAntisymmetric, contains_key-keys, find, from_entries, get, get-from_entries}
+use Rattle.std.specs.List.{AllByRecursion, list_any}
 use Rattle.std.specs.Map.{keys_of}
 use Rattle.std.specs.Option.{option_or}
 use Rattle.std.specs.Ordering.{eq_by_cmp}
@@ -13,6 +14,15 @@ pub same_test : (a b : Bool) → (a ≡ true → b ≡ true) → (b ≡ true →
 same_test true b f g = sym (f refl)
 same_test false true f g = g refl
 same_test false false f g = refl
+
+-- what holds of each key holds of one of them
+module _ {K : Type 0} {R : K → K → Ordering} (exact : IsAntisymmetric R) (P : K → Type 0) where
+  pub holds_of_one : (ks : List K) (k : K) → AllByRecursion P ks → list_any (eq_by_cmp R k) ks ≡ true → P k
+  holds_of_one [] k all among = cc among
+  holds_of_one (x ∷ ks) k all among = cases (holds_of_one ks k all.1) (eq_by_cmp R k x) refl among where
+    cases : (list_any (eq_by_cmp R k) ks ≡ true → P k) → (b : Bool) → eq_by_cmp R k x ≡ b → (b || list_any (eq_by_cmp R k) ks) ≡ true → P k
+    cases others true same _ = subst P (sym (tells_apart exact k x same)) all.0
+    cases others false other rest = others rest
 
 -- ---- entries one after the other
 

@@ -5,6 +5,7 @@ use Rattle.std.specs.BTreeMap as tree
 use Rattle.std.specs.BTreeSet.{BTreeSet, contains}
 use Rattle.std.specs.FinMap as finite
 use Rattle.std.specs.Option.{option_map}
+use Rattle.indexmap.specs.IndexMap.{IndexMap, get}
 use Rattle.keep_names.specs.Orders.{blob_cmp, id_cmp, name_cmp}
 use Rattle.keep_names.specs.declared.blob.BlobId.{BlobId}
 use Rattle.keep_names.specs.declared.file_name.FileName.{FileName}
@@ -15,11 +16,12 @@ use Rattle.keep_snap.specs.declared.snap.Snap.{Snap}
 use Rattle.keep_change.specs.NamedBytes.{NamedBytes}
 use Rattle.keep_change.specs.Result.{put_files, take_files}
 use Rattle.keep_catalog.specs.Files.{snap_in, why_unread}
-use Rattle.keep_catalog.specs.Orders.{listing_cmp, packed_blob_cmp}
+use Rattle.keep_catalog.specs.Orders.{listing_cmp, packed_blob_cmp, same_name}
 use Rattle.keep_catalog.specs.Places.{at, is_among, is_honest, is_stored, listed_in}
 use Rattle.keep_catalog.specs.declared.spot.Listing.{Listing}
 use Rattle.keep_catalog.specs.declared.spot.PackedBlob.{PackedBlob}
 use Rattle.keep_catalog.specs.declared.tables.Tables.{Tables}
+use Rattle.keep_catalog.specs.declared.unread.FileError.{FileError}
 
 -- ---- tables
 
@@ -70,6 +72,10 @@ IsListedIn r listed = (blob : BlobId) (l : Listing) → lists_at listed blob l �
 abbrev pub AreSnapsOf : Repository → Snaps → Type 0
 AreSnapsOf r snaps = (snapshot : Id) → snap_at snaps snapshot ≡ snap_in r snapshot
 
+-- just the files that can't be read are kept, each with why
+abbrev pub AreUnreadOf : {S : Type 0} → Repository → IndexMap FileName FileError S → Type 0
+AreUnreadOf r unread = (name : FileName) → get same_name unread name ≡ why_unread r name
+
 -- the tables say just what the files of the repository say
 pub record IsKept (r : Repository) (t : Tables) : Type 0 where
   pub stored : IsStoredIn r t.stored
@@ -77,7 +83,7 @@ pub record IsKept (r : Repository) (t : Tables) : Type 0 where
   pub listed : IsListedIn r t.listed
   pub snaps : AreSnapsOf r t.snaps
   pub ordered : IsOrdered id_cmp t.snaps
-  pub unread : (name : FileName) → tree.get name_cmp t.unread name ≡ why_unread r name
+  pub unread : AreUnreadOf r t.unread
 
 -- ---- files that come and go
 

@@ -7,6 +7,7 @@ use Rattle.keep_names.specs.Orders.{blob_cmp, id_cmp, name_cmp}
 use Rattle.keep_names.specs.declared.blob.BlobId.{BlobId}
 use Rattle.keep_names.specs.declared.file_name.FileName.{FileName}
 use Rattle.keep_names.specs.declared.id.Id.{Id}
+use Rattle.keep_names.specs.contracts.file_name.FileNamePartialEq.TheImpl as the_name_eq
 use Rattle.keep_names.specs.contracts.id.IdPartialEq.TheImpl as the_id_eq
 use Rattle.keep_catalog.specs.declared.spot.PackedBlob.{PackedBlob}
 use Rattle.keep_catalog.specs.declared.spot.Spot.{Spot}
@@ -56,3 +57,7 @@ listing_eq = eq_by_cmp listing_cmp
 
 abbrev pub name_eq : FileName → FileName → Bool
 name_eq = eq_by_cmp name_cmp
+
+-- whether the two names are one, by `==`
+abbrev pub same_name : FileName → FileName → Bool
+same_name = (the_name_eq.ghosts).eq

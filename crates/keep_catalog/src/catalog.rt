@@ -1,7 +1,7 @@
 ghost use Rattle.std.specs.Prelude.{◌≡◌, ◌≢◌, [], Some, IfOk, IfErr, map, option_map, slice_get};
 ghost use Rattle.std.specs.BTreeMap.{IsOrdered};
 ghost use Rattle.std.specs.FinMap as finite;
-ghost use Rattle.keep_names.specs.Orders.{id_cmp, name_cmp};
+ghost use Rattle.keep_names.specs.Orders.{id_cmp};
 ghost use Rattle.keep_names.specs.declared.id.Id as the_id;
 ghost use Rattle.keep_snap.specs.Snap.{snap_view};
 ghost use Rattle.keep_tree.specs.Tree.{node_view};
@@ -20,9 +20,9 @@ use crate::choosing::{first_open, some_honest, some_stored};
 use crate::names::{Named, names_at, nodes_at};
 use crate::reach_error::ReachError;
 use crate::spot::{PackedBlob, Spot};
-use crate::tables::Tables;
-use crate::unread::{FileError, Unread};
-use keep_names::{BlobId, FileName, Id};
+use crate::tables::{Tables, unread_files};
+use crate::unread::Unread;
+use keep_names::{BlobId, Id};
 use keep_repo::Repo;
 use keep_snap::Snap;
 use keep_tree::Node;
@@ -214,22 +214,4 @@ impl<'a> Catalog<'a> {
             ReachError::MissingBlob(blob.id)
         }
     }
-}
-
-// The files that can't be read, by name.
-pub(crate) fn unread_files(
-    alloc: Global,
-    unread: &BTreeMap<FileName, FileError>,
-) -> Result<Vec<Unread>, AllocError>
-    ensures files { IfOk result (λ files. files.items
-        ≡ map (λ e. record { name = e.0; refusal = e.1 }) unread.now.entries) }
-    ensures ordered { IsOrdered name_cmp unread.now }
-{
-    unread
-        .iter()
-        .map(|(name, refusal)| Unread {
-            name: *name,
-            refusal: *refusal,
-        })
-        .collect(alloc)
 }

@@ -104,7 +104,7 @@ fn index_packs(
 }
 
 // Adds what was found, if something was.
-fn add_found<T: Drop>(all: &mut Vec<T>, found: Option<T>) -> Result<(), AllocError>
+pub(crate) fn add_found<T: Drop>(all: &mut Vec<T>, found: Option<T>) -> Result<(), AllocError>
     ensures { OnOk result (all.new.items ≡ all.old.items ++ option_to_list found) }
 {
     if let Some(one) = found {

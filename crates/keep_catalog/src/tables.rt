@@ -1,24 +1,28 @@
-ghost use Rattle.std.specs.Prelude.{◌≡◌, None, Some, IfOk, OnOk, if◌then◌else◌, map, slice_get};
+ghost use Rattle.std.specs.Prelude.{◌≡◌, false, [], All, Contains, None, Some, if◌then◌else◌, slice_get};
+ghost use Rattle.std.specs.Prelude.{IfNone, IfOk, IfSome, OnOk};
 ghost use Rattle.std.specs.BTreeMap.{IsOrdered};
-ghost use Rattle.std.specs.BTreeMap as tree;
 ghost use Rattle.std.specs.FinMap as finite;
 ghost use Rattle.std.specs.Option.{option_map, option_or};
+ghost use Rattle.std.specs.Ordering.{is_lt};
 ghost use Rattle.keep_names.specs.FileName.{named};
+ghost use Rattle.indexmap.specs.IndexMap.{get, keys};
 ghost use Rattle.keep_names.specs.Orders.{id_cmp, name_cmp};
 ghost use Rattle.keep_names.specs.declared.file_name.FileName as the_name;
 ghost use Rattle.keep_names.specs.declared.file_name.Kind.TheVariants as the_kind;
 ghost use Rattle.keep_repo.specs.Repository.{Repository, empty_repository};
 ghost use Rattle.keep_names.specs.declared.id.Id as the_id;
 ghost use Rattle.keep_snap.specs.Snap.{snap_view};
-ghost use Rattle.keep_catalog.specs.Files.{unread_in};
-ghost use Rattle.keep_catalog.specs.Kept.{AreNew, AreThere, IsKept, snap_at};
+ghost use Rattle.keep_catalog.specs.Files.{unread_at, unread_in};
+ghost use Rattle.keep_catalog.specs.Kept.{AreNew, AreThere, AreUnreadOf, IsKept, snap_at};
 ghost use Rattle.keep_catalog.specs.Kept.{with_file, with_files, without_file, without_files};
-ghost use Rattle.keep_catalog.specs.Orders.{name_eq, same_id};
+ghost use Rattle.keep_catalog.specs.Orders.{same_id, same_name};
 
+use crate::headers::add_found;
 use crate::listed::{Listed, list, unlist};
 use crate::reading::{read_listed, read_pack, read_snapshot};
 use crate::stored::{Stored, store, unstore};
 use crate::unread::{FileError, Unread};
+use indexmap::IndexMap;
 use keep_change::StoredFile;
 use keep_names::{FileName, Id, Kind};
 use keep_repo::Repo;
@@ -33,7 +37,8 @@ pub(crate) struct Tables {
     pub(crate) stored: Stored,
     pub(crate) listed: Listed,
     pub(crate) snaps: BTreeMap<Id, Snap>,
-    pub(crate) unread: BTreeMap<FileName, FileError>,
+    /// Found by hash, since each file that goes is looked for here.
+    pub(crate) unread: IndexMap<FileName, FileError>,
 }
 
 // One call drops it, where each `?` would else drop each part of it, which is long to prove.
@@ -72,7 +77,7 @@ impl Tables {
             stored: BTreeMap::new(alloc),
             listed: BTreeMap::new(alloc),
             snaps: BTreeMap::new(alloc),
-            unread: BTreeMap::new(alloc),
+            unread: IndexMap::new(alloc),
         }
     }
 
@@ -167,7 +172,7 @@ impl Tables {
             OnOk result ((r : Repository) → finite.get r.files name ≡ Some bytes.now → IsKept r self.old
             → IsKept (without_file r name) self.new) }
     {
-        if self.unread.remove(&FileName::pack(pack)).is_some() {
+        if forget(&mut self.unread, FileName::pack(pack)).is_some() {
             return Ok(());
         }
         let (entries, _why) = read_pack(self.alloc, bytes)?;
@@ -180,7 +185,7 @@ impl Tables {
             OnOk result ((r : Repository) → finite.get r.files name ≡ Some bytes.now → IsKept r self.old
             → IsKept (without_file r name) self.new) }
     {
-        if self.unread.remove(&FileName::index(index)).is_some() {
+        if forget(&mut self.unread, FileName::index(index)).is_some() {
             return Ok(());
         }
         let (packs, _why) = read_listed(self.alloc, bytes)?;
@@ -193,7 +198,7 @@ impl Tables {
             (r : Repository) → IsKept r self.old → IsKept (without_file r name) self.new }
     {
         self.snaps.remove(&name);
-        self.unread.remove(&FileName::snapshot(name));
+        forget(&mut self.unread, FileName::snapshot(name));
     }
 }
 
@@ -211,12 +216,12 @@ fn keep(snaps: &mut BTreeMap<Id, Snap>, name: Id, snap: Option<Snap>) -> Result<
 
 // Notes why a file can't be read, if it can't.
 fn note(
-    unread: &mut BTreeMap<FileName, FileError>,
+    unread: &mut IndexMap<FileName, FileError>,
     name: FileName,
     why: Option<FileError>,
 ) -> Result<(), AllocError>
-    ensures { OnOk result ((q : the_name.FileName) → tree.get name_cmp unread.new q
-        ≡ option_or (if name_eq name q then why else None) (tree.get name_cmp unread.old q)) }
+    ensures { OnOk result ((q : the_name.FileName) → get same_name unread.new q
+        ≡ option_or (if same_name name q then why else None) (get same_name unread.old q)) }
 {
     if let Some(why) = why {
         unread.insert(name, why)?;
@@ -224,14 +229,58 @@ fn note(
     Ok(())
 }
 
-// The first of the files that can't be read, by name.
-fn first_of(unread: &BTreeMap<FileName, FileError>) -> Option<Unread>
-    ensures first { result ≡ slice_get (map (λ e. record { name = e.0; refusal = e.1 }) unread.now.entries) 0 }
-    ensures ordered { IsOrdered name_cmp unread.now }
+// Forgets why a file can't be read, and answers it. Where fewer than a quarter of the places are in use then, it gives
+// back memory. At least twice as many as are in use stay.
+fn forget(unread: &mut IndexMap<FileName, FileError>, name: FileName) -> Option<FileError>
+    ensures was { result ≡ get same_name unread.old name }
+    ensures forgotten { (q : the_name.FileName) → get same_name unread.new q
+        ≡ if same_name name q then None else get same_name unread.old q }
 {
-    let (name, refusal) = unread.iter().next()?;
-    Some(Unread {
-        name: *name,
-        refusal: *refusal,
-    })
+    let was = unread.swap_remove(&name);
+    let used = unread.len();
+    if used < unread.capacity() / 4 {
+        unread.shrink_to(2 * used);
+    }
+    was
+}
+
+// The file of this name, if it can't be read.
+fn unread_file(unread: &IndexMap<FileName, FileError>, name: FileName) -> Option<Unread>
+    ensures { (r : Repository) → AreUnreadOf r unread.now → result ≡ unread_at r name }
+{
+    let refusal = *unread.get(&name)?;
+    Some(Unread { name, refusal })
+}
+
+// The least of the names.
+fn least_name(unread: &IndexMap<FileName, FileError>) -> Option<FileName>
+    ensures among { IfSome result (Contains (keys unread.now)) }
+    ensures least { IfSome result (λ name. All (λ q. is_lt (name_cmp q name) ≡ false) (keys unread.now)) }
+    ensures none { IfNone result (keys unread.now ≡ []) }
+{
+    unread.keys().copied().min()
+}
+
+// The first of the files that can't be read, by name.
+fn first_of(unread: &IndexMap<FileName, FileError>) -> Option<Unread>
+    ensures { (r : Repository) → AreUnreadOf r unread.now → result ≡ slice_get (unread_in r) 0 }
+{
+    let name = least_name(unread)?;
+    unread_file(unread, name)
+}
+
+// The files that can't be read, by name.
+pub(crate) fn unread_files(
+    alloc: Global,
+    unread: &IndexMap<FileName, FileError>,
+) -> Result<Vec<Unread>, AllocError>
+    ensures { IfOk result (λ files. (r : Repository) → AreUnreadOf r unread.now → files.items ≡ unread_in r) }
+{
+    let mut names: Vec<FileName> = unread.keys().copied().collect(alloc)?;
+    names.sort_unstable();
+    let mut files = Vec::new(alloc);
+    for name in &names {
+        add_found(&mut files, unread_file(unread, *name))?;
+    }
+    Ok(files)
 }

@@ -1,6 +1,6 @@
 use Rattle.std.proofs.Common.{sym, ◌∙◌}
 use Rattle.keep_catalog.specs.Files.{unread_in}
-use Rattle.keep_catalog.proofs.SnapsKept.{none_first}
+use Rattle.keep_catalog.proofs.UnreadKept.{none_first}
 use Rattle.keep_catalog.proofs.catalog.Catalog.if_all_read.Goals as goal
 
 pub returns-clause-all_read : goal.returns-clause-all_read

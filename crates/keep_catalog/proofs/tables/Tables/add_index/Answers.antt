@@ -7,7 +7,7 @@ use Rattle.keep_names.specs.FileName.{named}
 use Rattle.keep_names.specs.declared.file_name.FileName.{FileName}
 use Rattle.keep_names.specs.declared.file_name.Kind.TheVariants.{Index}
 use Rattle.keep_catalog.specs.Kept.{lists_at}
-use Rattle.keep_catalog.specs.Orders.{name_eq, same_id}
+use Rattle.keep_catalog.specs.Orders.{same_name, same_id}
 use Rattle.keep_catalog.specs.Places.{at, is_among, listed_of}
 use Rattle.keep_catalog.specs.declared.unread.FileError.{FileError}
 use Rattle.keep_catalog.proofs.Coming.{index_comes, noted_at}
@@ -21,6 +21,6 @@ returns c =
     index_comes r old _ c.args.bytes.now kept index absent
     (λ blob l. c.in_ok-list.ensures blob l ∙ ap (λ ps. cond (same_id index l.index && is_among (flat_map listed_of ps) (at blob l.spot)) true (lists_at old.listed blob l)) (ap (map pack_view) c.deref.ensures.value ∙ c.in_ok-packs.ensures.packs))
     (λ q. noted q
-    ∙ ap (λ (n : FileName). option_or (cond (name_eq n q) c.in_ok-packs.why None) (noted_at old q)) c.index.ensures
-    ∙ ap (λ (why : Option FileError). option_or (cond (name_eq (named Index index) q) why None) (noted_at old q)) c.in_ok-packs.ensures.why)
+    ∙ ap (λ (n : FileName). option_or (cond (same_name n q) c.in_ok-packs.why None) (noted_at old q)) c.index.ensures
+    ∙ ap (λ (why : Option FileError). option_or (cond (same_name (named Index index) q) why None) (noted_at old q)) c.in_ok-packs.ensures.why)
     refl refl) c.note.ensures
