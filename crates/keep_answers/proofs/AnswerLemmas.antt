@@ -3,10 +3,10 @@ use Rattle.std.proofs.Common.{◌≡◌, ◌≢◌, ℕ, List, [], Result, Ok, E
 use Rattle.std.proofs.KnownBytes.{Appends-nil}
 use Rattle.keep_book.specs.Armed.{IsUnchanged, Responds, ledger_of, on_shelf}
 use Rattle.keep_ledger.proofs.Counted.{faults_counted}
-use Rattle.keep_ledger.specs.declared.request.Request.{Request}
+use Rattle.keep_journal.specs.declared.request.Request.{Request}
 use Rattle.keep_book.specs.declared.book.Book.{Book}
 use Rattle.keep_ledger.specs.declared.reply.Refusal.{Refusal}
-use Rattle.keep_ledger.specs.declared.reply.Told.{Told}
+use Rattle.keep_journal.specs.declared.request.Told.{Told}
 use Rattle.keep_change.specs.declared.change.Change.{Change}
 use Rattle.keep_jobs.specs.Kits.{KitData}
 use Rattle.keep_jobs.specs.Job.{JobData, has_bad_edit, job_change, settings_view}

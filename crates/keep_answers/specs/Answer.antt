@@ -10,10 +10,10 @@ use Rattle.keep_ledger.specs.Ends.{failures_after, heard}
 use Rattle.keep_ledger.specs.Reply.{Replies, state_after}
 use Rattle.keep_ledger.specs.declared.reply.Refusal.{Refusal}
 use Rattle.keep_ledger.specs.declared.reply.Refusal.TheVariants.{Fault}
-use Rattle.keep_ledger.specs.declared.request.Request.{Request}
-use Rattle.keep_ledger.specs.declared.request.Request.TheVariants as request
+use Rattle.keep_journal.specs.declared.request.Request.{Request}
+use Rattle.keep_journal.specs.declared.request.Request.TheVariants as request
 use Rattle.keep_ledger.specs.Sums.{sums_of}
-use Rattle.keep_ledger.specs.declared.reply.Told.{Told}
+use Rattle.keep_journal.specs.declared.request.Told.{Told}
 use Rattle.keep_read.specs.Findings.{findings_in}
 use Rattle.keep_read.specs.Restored.{restored, snapshot_facet}
 use Rattle.keep_jobs.specs.Job.{JobData, has_bad_edit, job_change}

@@ -7,7 +7,7 @@ use Rattle.keep_book.specs.Armed.{hooks_of, ledger_of, on_shelf}
 use Rattle.keep_ledger.specs.LedgerState.{LedgerState}
 use Rattle.keep_ledger.specs.declared.reply.Refusal.{Refusal}
 use Rattle.keep_ledger.specs.declared.reply.Refusal.TheVariants.{Fault, Unsettled}
-use Rattle.keep_ledger.specs.declared.reply.Told.{Told}
+use Rattle.keep_journal.specs.declared.request.Told.{Told}
 use Rattle.keep_book.specs.declared.book.Book.{Book}
 use Rattle.keep_hooks.specs.Guards.{HooksData, Rule, WatchData}
 use Rattle.keep_jobs.specs.Kits.{KitData, NamedRule}

@@ -12,7 +12,7 @@ use Rattle.keep_journal.specs.declared.event.Notice.{Notice}
 use Rattle.keep_ledger.specs.Refusal.{refusal_text}
 use Rattle.keep_ledger.specs.declared.reply.Refusal.{Refusal}
 use Rattle.keep_ledger.specs.declared.reply.Refusal.TheVariants.{Memory}
-use Rattle.keep_ledger.specs.declared.reply.Told.{Told}
+use Rattle.keep_journal.specs.declared.request.Told.{Told}
 use Rattle.keep_hooks.specs.Guards.{Tally}
 use Rattle.keep_plan.specs.Refusal.{plan_text}
 use Rattle.keep_plan.specs.declared.plan_error.PlanError.{PlanError}

@@ -3,7 +3,7 @@ ghost use Rattle.keep_book.specs.Armed.{HasSums, IsUnchanged, Responds, ledger_o
 ghost use Rattle.keep_book.specs.Cascade.{Cascades};
 ghost use Rattle.keep_change.specs.declared.change.Change.{Change};
 ghost use Rattle.keep_jobs.specs.Job.{has_bad_edit, job_change, job_view, settings_view};
-ghost use Rattle.keep_ledger.specs.declared.request.Request.TheVariants as request;
+ghost use Rattle.keep_journal.specs.declared.request.Request.TheVariants as request;
 ghost use Rattle.keep_lines.specs.Reply.{sizes_of};
 ghost use Rattle.keep_plan.specs.declared.plan_error.PlanError.TheVariants as plan_error;
 ghost use Rattle.keep_answers.specs.Answer.{commit_of, shown_by};

@@ -24,9 +24,9 @@ use Rattle.keep_ledger.specs.Reply.{RefusesOrTells, Replies, early_refusal, is_f
 use Rattle.keep_ledger.specs.Stops.{EachCallReads, IsBeforeOrAfter, Says}
 use Rattle.keep_ledger.specs.declared.reply.Refusal.{Refusal}
 use Rattle.keep_ledger.specs.declared.reply.Refusal.TheVariants.{Unknown, Final, NotInForce, Full, Memory, Fault, Unsettled}
-use Rattle.keep_ledger.specs.declared.reply.Told.{Told}
-use Rattle.keep_ledger.specs.declared.request.Request.{Request}
-use Rattle.keep_ledger.specs.declared.request.Request.TheVariants.{Undo}
+use Rattle.keep_journal.specs.declared.request.Told.{Told}
+use Rattle.keep_journal.specs.declared.request.Request.{Request}
+use Rattle.keep_journal.specs.declared.request.Request.TheVariants.{Undo}
 use Rattle.keep_ledger.proofs.Counted.{faults_counted}
 use Rattle.keep_ledger.proofs.Replying.{undo_answers}
 use Rattle.keep_book.specs.Cascade.{AreUndone, AsksNothing, EachCallSays, EndsAlong, EndsBefore, FaultsNext, RefusesOrGives, SaysSome, StopsBefore, TakesAlong, TakesDown, count_at, failures_at, taken_refusal, undone_on, with_undos}

@@ -19,8 +19,8 @@ use Rattle.keep_ledger.specs.LedgerState.{JustCommitted, LedgerState}
 use Rattle.keep_ledger.specs.Reply.{Answers, IsFormed, RefusesOrTells, Replies, state_after, told_of}
 use Rattle.keep_ledger.specs.declared.reply.Refusal.{Refusal}
 use Rattle.keep_ledger.specs.declared.reply.Refusal.TheVariants.{Vetoed}
-use Rattle.keep_ledger.specs.declared.reply.Told.{Told}
-use Rattle.keep_ledger.specs.declared.request.Request.TheVariants.{Commit, Empty}
+use Rattle.keep_journal.specs.declared.request.Told.{Told}
+use Rattle.keep_journal.specs.declared.request.Request.TheVariants.{Commit, Empty}
 use Rattle.keep_ledger.proofs.Replying.{can_empty}
 use Rattle.keep_ledger.proofs.Steps.{open-Empty}
 

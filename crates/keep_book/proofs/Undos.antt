@@ -22,8 +22,8 @@ use Rattle.keep_ledger.specs.Reply.{RefusesOrTells, Replies, early_refusal, is_f
 use Rattle.keep_ledger.specs.Request.{CanBeMade}
 use Rattle.keep_ledger.specs.declared.reply.Refusal.{Refusal}
 use Rattle.keep_ledger.specs.declared.reply.Refusal.TheVariants.{Full}
-use Rattle.keep_ledger.specs.declared.reply.Told.{Told}
-use Rattle.keep_ledger.specs.declared.request.Request.TheVariants.{Undo}
+use Rattle.keep_journal.specs.declared.request.Told.{Told}
+use Rattle.keep_journal.specs.declared.request.Request.TheVariants.{Undo}
 use Rattle.keep_ledger.proofs.Doing.{made-Undo}
 use Rattle.keep_ledger.proofs.Replying.{undo_answers}
 use Rattle.keep_ledger.proofs.Undoing.{above_final, kept_is_there, same_undo_refusal}

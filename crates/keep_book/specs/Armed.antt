@@ -10,8 +10,8 @@ use Rattle.keep_ledger.specs.Stops.{EachCallReads}
 use Rattle.keep_ledger.specs.Sums.{AreSums}
 use Rattle.keep_ledger.specs.declared.reply.Refusal.{Refusal}
 use Rattle.keep_ledger.specs.declared.reply.Refusal.TheVariants.{Fault}
-use Rattle.keep_ledger.specs.declared.reply.Told.{Told}
-use Rattle.keep_ledger.specs.declared.request.Request.{Request}
+use Rattle.keep_journal.specs.declared.request.Told.{Told}
+use Rattle.keep_journal.specs.declared.request.Request.{Request}
 use Rattle.keep_book.specs.declared.book.Book.{Book}
 use Rattle.keep_book.specs.declared.not_armed.NotArmed.{NotArmed}
 use Rattle.keep_book.specs.declared.not_armed.NotArmed.TheVariants.{DoubleName, Memory}

@@ -16,7 +16,7 @@ use Rattle.keep_ledger.specs.Reply.{Replies, early_refusal, first_of, is_full, t
 use Rattle.keep_ledger.specs.Stops.{Says}
 use Rattle.keep_ledger.specs.declared.reply.Refusal.{Refusal}
 use Rattle.keep_ledger.specs.declared.reply.Refusal.TheVariants.{Unknown, Final, NotInForce, Full, Memory, Fault, Unsettled}
-use Rattle.keep_ledger.specs.declared.request.Request.TheVariants.{Undo}
+use Rattle.keep_journal.specs.declared.request.Request.TheVariants.{Undo}
 use Rattle.keep_book.specs.Armed.{HasSums, hooks_of, ledger_of, on_shelf}
 use Rattle.keep_book.specs.declared.book.Book.{Book}
 use Rattle.keep_book.specs.declared.taken_back.TakenBack.{TakenBack}

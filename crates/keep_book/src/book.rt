@@ -32,7 +32,7 @@ impl<S: Shelf> Book<S> {
     ghost use Rattle.keep_ledger.specs.Opened.{IsNotOpened, IsOpened};
     ghost use Rattle.keep_ledger.specs.Reply.{Restores, TakesBack};
     ghost use Rattle.keep_ledger.specs.Sums.{sums_of};
-    ghost use Rattle.keep_ledger.specs.declared.request.Request.TheVariants as request;
+    ghost use Rattle.keep_journal.specs.declared.request.Request.TheVariants as request;
     ghost use Rattle.keep_book.specs.Armed.{Responds, HasSums, IsUnchanged, hook_of, hooks_of, is_double, ledger_of, on_shelf, with_veto, with_watch};
     ghost use Rattle.keep_book.specs.Names.{is_armed};
 

@@ -1,7 +1,6 @@
 use crate::crew::Order;
 use crate::options::Options;
-use keep_backup::Cut;
-use keep_jobs::Settings;
+use keep_jobs::{Cut, Settings};
 use keep_script::Setup;
 use std::alloc::Global;
 

@@ -7,16 +7,16 @@ use Rattle.keep_ledger.specs.LedgerState.{LedgerState}
 use Rattle.keep_ledger.specs.Made.{event_of}
 use Rattle.keep_ledger.specs.declared.reply.Refusal.{Refusal}
 use Rattle.keep_ledger.specs.declared.reply.Refusal.TheVariants.{Fault, Memory, Unsettled}
-use Rattle.keep_ledger.specs.declared.reply.Told.{Told}
-use Rattle.keep_ledger.specs.declared.request.Request.{Request}
+use Rattle.keep_journal.specs.declared.request.Told.{Told}
+use Rattle.keep_journal.specs.declared.request.Request.{Request}
 use Rattle.keep_chronicle.proofs.Prefixes.{prefix_self}
 use Rattle.keep_pages.specs.Histories.{state_of}
 use Rattle.keep_pass.specs.Known.{Known}
 use Rattle.keep_register.specs.Asked.{WasAsked}
 use Rattle.keep_register.specs.Pages.{PageState, StepState, events_on}
-use Rattle.keep_desk.specs.Answered.{IsAnswered, number_in}
+use Rattle.keep_crew.specs.Answered.{IsAnswered, number_in}
 use Rattle.keep_desk.specs.Held.{IsUpTo}
-use Rattle.keep_desk.specs.declared.answers.DeskError.TheVariants.{Refused}
+use Rattle.keep_crew.specs.declared.answers.DeskError.TheVariants.{Refused}
 
 -- what isn't some number is none
 pub none_of : (o : Option ℕ) → ((n : ℕ) → o ≡ Some n → ⊥) → o ≡ None

@@ -13,17 +13,17 @@ use Rattle.keep_ledger.specs.Made.{with_event}
 use Rattle.keep_ledger.specs.Reply.{RefusesOrTells, Replies, early_refusal, is_full, told_of}
 use Rattle.keep_ledger.specs.declared.reply.Refusal.{Refusal}
 use Rattle.keep_ledger.specs.declared.reply.Refusal.TheVariants.{Fault, Full, Memory, Unsettled}
-use Rattle.keep_ledger.specs.declared.reply.Told.{Told}
-use Rattle.keep_ledger.specs.declared.request.Request.TheVariants.{Undo}
+use Rattle.keep_journal.specs.declared.request.Told.{Told}
+use Rattle.keep_journal.specs.declared.request.Request.TheVariants.{Undo}
 use Rattle.keep_ledger.proofs.Replying.{undo_answers}
 use Rattle.keep_book.specs.Cascade.{AreUndone, StopsBefore, TakesDown, count_at, taken_refusal, with_undos}
 use Rattle.keep_book.proofs.Undos.{accepted_told, nothing_leans, undone_one_more}
 use Rattle.keep_pages.specs.Histories.{state_of, state_with, IsHistory}
 use Rattle.keep_pages.proofs.Following.{open_at}
-use Rattle.keep_desk.specs.Answered.{Tells}
+use Rattle.keep_crew.specs.Answered.{Tells}
 use Rattle.keep_desk.specs.Cascade.{GoesDown, refusal_of}
-use Rattle.keep_desk.specs.declared.answers.DeskError.{DeskError}
-use Rattle.keep_desk.specs.declared.answers.DeskError.TheVariants.{Late, Refused}
+use Rattle.keep_crew.specs.declared.answers.DeskError.{DeskError}
+use Rattle.keep_crew.specs.declared.answers.DeskError.TheVariants.{Late, Refused}
 
 -- ---- undos, and the events that tell them
 

@@ -9,7 +9,8 @@ use Rattle.keep_ledger.specs.LedgerState.{LedgerState}
 use Rattle.keep_pages.specs.Histories.{state_of, IsHistory}
 use Rattle.keep_pages.proofs.Histories.{length_at-all}
 use Rattle.keep_pass.specs.Known.{Known}
-use Rattle.keep_desk.specs.Closed.{IsClosed, count_of}
+use Rattle.keep_crew.specs.Asking.{count_of}
+use Rattle.keep_desk.specs.Closed.{IsClosed}
 
 -- all passes were taken in, and the counts agree with the list
 pub closed : (rules : List Rule) (opening : LedgerState) (parts : ℕ) (passes : List Known) (es : List Event) (now : LedgerState)

@@ -6,7 +6,7 @@ use Rattle.std.specs.List.{All, slice_index_or}
 use mathlib.Core.List.{IsPrefix}
 use Rattle.keep_journal.specs.declared.event.Event.{Event}
 use Rattle.keep_pass.specs.Known.{Known}
-use Rattle.keep_desk.specs.Closed.{count_of}
+use Rattle.keep_crew.specs.Asking.{count_of}
 
 -- some passes were taken in, from the end: what they had seen begins the list, and so many they counted
 pub record AreTaken (es : List Event) (all left : List Known) (parts amount : ℕ) : Type 0 where

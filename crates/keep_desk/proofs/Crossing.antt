@@ -27,7 +27,7 @@ use Rattle.std.specs.contracts.option.Option as option
 use Rattle.std.specs.contracts.result.Result as result
 use Rattle.std.specs.declared.sync.ledger.Ledger as ledger
 use Rattle.keep_chronicle.specs.declared.chronicle.Chronicled as chronicled
-use Rattle.keep_ledger.specs.contracts.reply.Told as told
+use Rattle.keep_journal.specs.contracts.request.Told as told
 use Rattle.keep_register.specs.declared.naming.Naming as naming
 use Rattle.keep_register.specs.declared.keeper.Keeper as keeper
 use Rattle.keep_register.specs.contracts.page.Page as page
@@ -40,7 +40,7 @@ use Rattle.keep_pass.proofs.Crossing.{factory_send, number_send, pass_send, slot
 use Rattle.keep_pass.specs.contracts.rule.Published as published
 use Rattle.keep_pass.specs.contracts.rule.PublishedProtocolPageUnit.TheImpl as rules
 use Rattle.keep_crew.specs.contracts.work.Work as work
-use Rattle.keep_desk.specs.contracts.answers.NotTold as not_told
+use Rattle.keep_crew.specs.contracts.answers.NotTold as not_told
 use Rattle.keep_desk.specs.contracts.crew.Operator as operator
 use Rattle.keep_desk.specs.contracts.locked.Locked as locked
 use Rattle.keep_desk.specs.contracts.locked.Locked.TheInside as locked_inside

@@ -10,8 +10,8 @@ use Rattle.keep_ledger.specs.declared.reply.Refusal.TheVariants.{Memory, Unsettl
 use Rattle.keep_book.specs.Cascade.{AreUndone, TakesAlong}
 use Rattle.keep_pages.specs.Histories.{state_of}
 use Rattle.keep_pass.specs.Known.{Known}
-use Rattle.keep_desk.specs.declared.answers.DeskError.{DeskError}
-use Rattle.keep_desk.specs.declared.answers.DeskError.TheVariants.{Late, Refused}
+use Rattle.keep_crew.specs.declared.answers.DeskError.{DeskError}
+use Rattle.keep_crew.specs.declared.answers.DeskError.TheVariants.{Late, Refused}
 use Rattle.keep_desk.specs.declared.taken_back.TakenBack.{TakenBack}
 
 -- the book's word for why a desk stops: the undo of a late change is in, as that of an unsettled one is

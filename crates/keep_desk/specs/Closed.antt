@@ -1,5 +1,5 @@
 -- What closing a desk tells.
-use Rattle.std.specs.Prelude.{◌≡◌, ℕ, ◌+◌, ◌≤◌, List, length, sum_by}
+use Rattle.std.specs.Prelude.{◌≡◌, ℕ, ◌+◌, ◌≤◌, List, length}
 use Rattle.std.specs.List.{All}
 use mathlib.Core.List.{IsPrefix}
 use Rattle.keep_journal.specs.History.{length_of}
@@ -8,12 +8,9 @@ use Rattle.keep_hooks.specs.Guards.{Rule}
 use Rattle.keep_ledger.specs.LedgerState.{LedgerState}
 use Rattle.keep_pages.specs.Histories.{state_of, IsHistory}
 use Rattle.keep_pass.specs.Known.{Known}
+use Rattle.keep_crew.specs.Asking.{count_of}
 use Rattle.keep_desk.specs.declared.answers.NotOpened.{NotOpened}
 use Rattle.keep_desk.specs.declared.answers.NotOpened.TheVariants.{Memory, NoPass}
-
--- how many events these passes count
-abbrev pub count_of : List Known → ℕ
-count_of passes = sum_by (λ p. p.counted) passes
 
 -- the book is what a legal list of events left of the one that the desk was opened with; what each pass has seen
 -- begins that list, and its events were counted by the passes: by these, if they are all

@@ -1,4 +1,3 @@
-pub mod Answered
 pub mod Cascade
 pub mod Closed
 pub mod Crew

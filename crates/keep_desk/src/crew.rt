@@ -1,11 +1,11 @@
 ghost use Rattle.std.specs.Prelude.{◌≡◌, ℕ, ◌<◌, length};
 ghost use Rattle.std.specs.List.{slice_index_or};
-ghost use Rattle.keep_desk.specs.Crew.{DoesWork, HasWorked, PlansAndCommits, as_told};
+ghost use Rattle.keep_crew.specs.Asking.{PlansAndCommits, as_told};
+ghost use Rattle.keep_desk.specs.Crew.{DoesWork, HasWorked};
 
-use crate::answers::{DeskError, NotTold};
 use crate::desk::Desk;
 use crate::locked::Locked;
-use keep_crew::{Gate, Plans, Work, plan_on};
+use keep_crew::{DeskError, Gate, NotTold, Plans, Work, plan_on};
 use keep_ledger::Told;
 use keep_pass::Pass;
 use keep_register::{Keeper, Naming};

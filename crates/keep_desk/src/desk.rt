@@ -1,20 +1,21 @@
 ghost use Rattle.std.specs.Prelude.{◌≡◌, ◌+◌, ◌<◌, ◌≤◌, length, IfErr, IfOk};
 ghost use mathlib.Core.List.{IsPrefix};
 ghost use Rattle.keep_ledger.specs.Sums.{AreSums};
-ghost use Rattle.keep_ledger.specs.declared.request.Request.TheVariants as request;
+ghost use Rattle.keep_journal.specs.declared.request.Request.TheVariants as request;
 ghost use Rattle.keep_pages.specs.Histories.{IsLegal};
 ghost use Rattle.keep_register.specs.Asked.{counted_after};
-ghost use Rattle.keep_desk.specs.Answered.{IsAnswered, has_event};
+ghost use Rattle.keep_crew.specs.Answered.{IsAnswered, has_event};
 ghost use Rattle.keep_desk.specs.Cascade.{IsTakenBack};
 ghost use Rattle.keep_desk.specs.Closed.{IsClosed, keeper_of};
 ghost use Rattle.keep_pass.specs.Known.{AreFresh};
 
-use crate::answers::{DeskError, NotOpened};
+use crate::answers::NotOpened;
 use crate::locked::Locked;
 use crate::opening::{Wanting, passes_of, press_of};
 use crate::taken_back::TakenBack;
 use keep_change::Planned;
 use keep_chronicle::Opened;
+use keep_crew::DeskError;
 use keep_ledger::{Request, Told};
 use keep_pass::{Pass, Shown};
 use keep_register::{Keeper, Naming, Register};

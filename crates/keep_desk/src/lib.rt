@@ -9,10 +9,10 @@ mod opening;
 mod press;
 mod taken_back;
 
-pub use answers::{DeskError, NotOpened, NotTold};
+pub use answers::NotOpened;
 pub use crew::Operator;
 pub use desk::Desk;
-pub use keep_crew::{Gate, OpenGate, Plans, Work};
+pub use keep_crew::{DeskError, Gate, NotTold, OpenGate, Plans, Work};
 pub use keep_pass::{Pass, Shown};
 pub use locked::Locked;
 pub use taken_back::TakenBack;

@@ -8,14 +8,15 @@ ghost use Rattle.keep_book.specs.Cascade.{RefusesOrGives, taken_refusal};
 ghost use Rattle.keep_pages.specs.Histories.{state_of, IsHistory, IsLegal};
 ghost use Rattle.keep_register.specs.Asked.{WasAsked, counted_after, is_in};
 ghost use Rattle.keep_register.specs.Pages.{events_on};
-ghost use Rattle.keep_desk.specs.Answered.{IsAnswered, Tells, has_event, number_in};
+ghost use Rattle.keep_crew.specs.Answered.{IsAnswered, Tells, has_event, number_in};
 ghost use Rattle.keep_desk.specs.Cascade.{IsTakenBack};
-ghost use Rattle.keep_desk.specs.Closed.{IsClosed, count_of};
+ghost use Rattle.keep_crew.specs.Asking.{count_of};
+ghost use Rattle.keep_desk.specs.Closed.{IsClosed};
 ghost use Rattle.keep_desk.specs.Held.{HasStep, Waits};
 
-use crate::answers::DeskError;
 use crate::press::Press;
 use crate::taken_back::TakenBack;
+use keep_crew::DeskError;
 use keep_ledger::{Refusal, Request, Told};
 use keep_pass::Pass;
 use keep_register::{Keeper, Naming, Register};

@@ -2,7 +2,7 @@ ghost use Rattle.std.specs.Prelude.{◌≡◌, ◌<◌, [], take, vec_len};
 ghost use Rattle.keep_book.specs.Cascade.{count_at};
 ghost use Rattle.keep_desk.specs.Cascade.{refusal_of};
 
-use crate::answers::DeskError;
+use keep_crew::DeskError;
 use keep_ledger::Refusal;
 use std::alloc::Global;
 

@@ -7,8 +7,8 @@ use Rattle.keep_ledger.specs.OnShelf.{OnShelf, entered, settled}
 use Rattle.keep_ledger.specs.Reply.{told_of}
 use Rattle.keep_ledger.specs.declared.reply.Refusal.{Refusal}
 use Rattle.keep_ledger.specs.declared.reply.Refusal.TheVariants.{Malformed, Unknown, Final, NotInForce, InForce, Full, Stale, Vetoed, Unmet, LeanedOn, Blocked, Memory, Fault, Unsettled}
-use Rattle.keep_ledger.specs.declared.reply.Told.{Told}
-use Rattle.keep_ledger.specs.declared.request.Request.{Request}
+use Rattle.keep_journal.specs.declared.request.Told.{Told}
+use Rattle.keep_journal.specs.declared.request.Request.{Request}
 
 -- what holds of Fault, and of every other answer
 pub unless_fault : (P : Result Told Refusal → Type 0) (reply : Result Told Refusal) → P (Err Fault) → (reply ≢ Err Fault → P reply) → P reply

@@ -28,8 +28,8 @@ use Rattle.keep_ledger.specs.Reply.{IsFormed, about, commit_refusal, early_refus
 use Rattle.keep_ledger.specs.Request.{CanBegin, CanBeMade}
 use Rattle.keep_ledger.specs.declared.reply.Refusal.{Refusal}
 use Rattle.keep_ledger.specs.declared.reply.Refusal.TheVariants.{Blocked, Full, Stale, Unmet}
-use Rattle.keep_ledger.specs.declared.request.Request.{Request}
-use Rattle.keep_ledger.specs.declared.request.Request.TheVariants.{Commit, Undo, Redo, Empty}
+use Rattle.keep_journal.specs.declared.request.Request.{Request}
+use Rattle.keep_journal.specs.declared.request.Request.TheVariants.{Commit, Undo, Redo, Empty}
 use Rattle.keep_ledger.proofs.Redoing.{can_redo, same_blocked}
 use Rattle.keep_ledger.proofs.Replying.{accepted, can_empty}
 use Rattle.keep_ledger.proofs.Totals.{names_at, names_of}

@@ -12,9 +12,9 @@ use Rattle.keep_ledger.specs.Ends.{AcceptedIsCounted, Ends, FaultsAreCounted, Fa
 use Rattle.keep_ledger.specs.Made.{event_of, opening_after}
 use Rattle.keep_ledger.specs.OnShelf.{OnShelf, entered, looks_for, moves_for, settled}
 use Rattle.keep_ledger.specs.declared.reply.Refusal.TheVariants.{Malformed, Unknown, Final, NotInForce, InForce, Full, Stale, Vetoed, Unmet, LeanedOn, Blocked, Memory, Fault, Unsettled}
-use Rattle.keep_ledger.specs.declared.reply.Told.{Told}
-use Rattle.keep_ledger.specs.declared.request.Request.{Request}
-use Rattle.keep_ledger.specs.declared.request.Request.TheVariants.{Commit, Undo, Redo, Empty}
+use Rattle.keep_journal.specs.declared.request.Told.{Told}
+use Rattle.keep_journal.specs.declared.request.Request.{Request}
+use Rattle.keep_journal.specs.declared.request.Request.TheVariants.{Commit, Undo, Redo, Empty}
 
 played_more : (xs ys : List Call) (s : Shelved) → played (xs ++ ys) s ≡ played ys (played xs s)
 played_more xs ys s = fold-append (λ (t : Shelved) call. called t (left_by t.content call)) s xs ys

@@ -14,8 +14,8 @@ use Rattle.keep_journal.proofs.Numbers.{is_change_parts}
 use Rattle.keep_ledger.specs.LedgerState.{LedgerState}
 use Rattle.keep_ledger.specs.Made.{event_of, opening_after}
 use Rattle.keep_ledger.specs.Request.{CanBeMade}
-use Rattle.keep_ledger.specs.declared.request.Request.{Request}
-use Rattle.keep_ledger.specs.declared.request.Request.TheVariants.{Commit, Undo, Redo, Empty}
+use Rattle.keep_journal.specs.declared.request.Request.{Request}
+use Rattle.keep_journal.specs.declared.request.Request.TheVariants.{Commit, Undo, Redo, Empty}
 use Rattle.keep_change.specs.declared.change.Planned.{Planned}
 use Rattle.keep_ledger.proofs.Asking.{free_undo, has_room, met_of, unblocked}
 use Rattle.keep_ledger.proofs.Redoing.{can_redo, redone, undone_is_there}

@@ -37,8 +37,8 @@ use Rattle.keep_ledger.specs.LedgerState.{LedgerState, ledger_of_live}
 use Rattle.keep_ledger.specs.Made.{event_of, opening_after, with_event}
 use Rattle.keep_ledger.specs.OnShelf.{IsKept, entered, ledger_on}
 use Rattle.keep_ledger.specs.Request.{CanBeMade}
-use Rattle.keep_ledger.specs.declared.request.Request.{Request}
-use Rattle.keep_ledger.specs.declared.request.Request.TheVariants.{Commit, Undo, Redo, Empty}
+use Rattle.keep_journal.specs.declared.request.Request.{Request}
+use Rattle.keep_journal.specs.declared.request.Request.TheVariants.{Commit, Undo, Redo, Empty}
 use Rattle.keep_ledger.proofs.Asking.{fits}
 use Rattle.keep_ledger.proofs.Doing.{IsMade, made-Commit, made-Empty, made-Redo, made-Undo, once, ready-Commit, ready-Redo, ready-Undo}
 use Rattle.keep_ledger.proofs.Reading.{told_stand}

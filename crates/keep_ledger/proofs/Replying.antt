@@ -21,8 +21,8 @@ use Rattle.keep_ledger.specs.Limits.{event_limit}
 use Rattle.keep_ledger.specs.Reply.{Answers, RefusesOrTells, Replies, TakesBack, undo_refusal, empty_refusal, is_full, told_of, state_after}
 use Rattle.keep_ledger.specs.declared.reply.Refusal.{Refusal}
 use Rattle.keep_ledger.specs.declared.reply.Refusal.TheVariants.{Memory, LeanedOn}
-use Rattle.keep_ledger.specs.declared.request.Request.TheVariants.{Undo}
-use Rattle.keep_ledger.specs.declared.reply.Told.{Told}
+use Rattle.keep_journal.specs.declared.request.Request.TheVariants.{Undo}
+use Rattle.keep_journal.specs.declared.request.Told.{Told}
 use Rattle.keep_ledger.proofs.Undoing.{above_final_lt}
 
 pub same_error : {A B E : Type 0} (e f : E) → ◌≡◌ {A = Result A E} (Err e) (Err f) → ◌≡◌ {A = Result B E} (Err e) (Err f)

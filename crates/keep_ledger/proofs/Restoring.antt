@@ -15,8 +15,8 @@ use Rattle.keep_ledger.specs.LedgerState.{LedgerState, JustCommitted}
 use Rattle.keep_ledger.specs.Reply.{RefusesOrTells, Replies, Restores, is_full, state_after, told_of, undo_refusal}
 use Rattle.keep_ledger.specs.declared.reply.Refusal.{Refusal}
 use Rattle.keep_ledger.specs.declared.reply.Refusal.TheVariants.{LeanedOn}
-use Rattle.keep_ledger.specs.declared.reply.Told.{Told}
-use Rattle.keep_ledger.specs.declared.request.Request.TheVariants.{Undo}
+use Rattle.keep_journal.specs.declared.request.Told.{Told}
+use Rattle.keep_journal.specs.declared.request.Request.TheVariants.{Undo}
 use Rattle.keep_ledger.proofs.Replying.{left_by_undo, undo_answers}
 
 not_itself : (n : ℕ) (b : Bool) → (b && not (eqb n n)) ≡ false

@@ -18,8 +18,8 @@ use Rattle.keep_ledger.specs.OnShelf.{IsKept, OnShelf, ledger_on}
 use Rattle.keep_ledger.specs.Reply.{told_of}
 use Rattle.keep_ledger.specs.Request.{CanBeMade}
 use Rattle.keep_ledger.specs.declared.reply.Refusal.{Refusal}
-use Rattle.keep_ledger.specs.declared.reply.Told.{Told}
-use Rattle.keep_ledger.specs.declared.request.Request.{Request}
+use Rattle.keep_journal.specs.declared.request.Told.{Told}
+use Rattle.keep_journal.specs.declared.request.Request.{Request}
 use Rattle.keep_ledger.proofs.Asking.{its_number}
 
 -- the parts of a ledger that has no move due, and to whose request nothing objects

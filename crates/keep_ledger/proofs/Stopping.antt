@@ -19,8 +19,8 @@ use Rattle.keep_ledger.specs.Made.{event_of}
 use Rattle.keep_ledger.specs.OnShelf.{OnShelf, entered, looked, looks_for, moved_on, settled}
 use Rattle.keep_ledger.specs.Stops.{EachCallReads, IsBeforeOrAfter, IsShown, Says}
 use Rattle.keep_ledger.specs.declared.reply.Refusal.{Refusal}
-use Rattle.keep_ledger.specs.declared.reply.Told.{Told}
-use Rattle.keep_ledger.specs.declared.request.Request.{Request}
+use Rattle.keep_journal.specs.declared.request.Told.{Told}
+use Rattle.keep_journal.specs.declared.request.Request.{Request}
 
 -- ---- the record of a shelf grew by contents of which something holds
 

@@ -28,8 +28,8 @@ use Rattle.keep_journal.proofs.Commits.{committed-Commit, committed-Empty, commi
 use Rattle.keep_ledger.specs.LedgerState.{LedgerState}
 use Rattle.keep_ledger.specs.Guarding.{event_outline, outline_at, outline_by, outline_in}
 use Rattle.keep_ledger.specs.Made.{event_of, opening_after, with_event}
-use Rattle.keep_ledger.specs.declared.request.Request.{Request}
-use Rattle.keep_ledger.specs.declared.request.Request.TheVariants.{Commit, Undo, Redo, Empty}
+use Rattle.keep_journal.specs.declared.request.Request.{Request}
+use Rattle.keep_journal.specs.declared.request.Request.TheVariants.{Commit, Undo, Redo, Empty}
 use Rattle.keep_ledger.specs.Sums.{AreSums, count_since, sum_of, sums_of}
 
 -- ---- the numbers that a legal history names

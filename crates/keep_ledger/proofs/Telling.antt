@@ -10,8 +10,8 @@ use Rattle.keep_ledger.specs.LedgerState.{LedgerState}
 use Rattle.keep_ledger.specs.OnShelf.{OnShelf}
 use Rattle.keep_ledger.specs.Sums.{AreSums}
 use Rattle.keep_ledger.specs.declared.reply.Refusal.{Refusal}
-use Rattle.keep_ledger.specs.declared.reply.Told.{Told}
-use Rattle.keep_ledger.specs.declared.request.Request.{Request}
+use Rattle.keep_journal.specs.declared.request.Told.{Told}
+use Rattle.keep_journal.specs.declared.request.Request.{Request}
 use Rattle.keep_ledger.proofs.Sums.{sums_told}
 
 -- a refused request leaves the events as they were

@@ -11,9 +11,9 @@ use Rattle.keep_ledger.specs.OnShelf.{OnShelf, entered, faulted, looked, looks_f
 use Rattle.keep_ledger.specs.Reply.{Replies, about, told_of}
 use Rattle.keep_ledger.specs.declared.reply.Refusal.{Refusal}
 use Rattle.keep_ledger.specs.declared.reply.Refusal.TheVariants.{Fault, Unsettled}
-use Rattle.keep_ledger.specs.declared.reply.Told.{Told}
-use Rattle.keep_ledger.specs.declared.request.Request.{Request}
-use Rattle.keep_ledger.specs.declared.request.Request.TheVariants.{Commit, Undo, Redo, Empty}
+use Rattle.keep_journal.specs.declared.request.Told.{Told}
+use Rattle.keep_journal.specs.declared.request.Request.{Request}
+use Rattle.keep_journal.specs.declared.request.Request.TheVariants.{Commit, Undo, Redo, Empty}
 
 -- the reply as if the shelf hadn't failed: an event that is in, and has moves left, is heard as told
 abbrev pub heard : LedgerState → Request → Result Told Refusal → Result Told Refusal

@@ -24,8 +24,8 @@ use Rattle.keep_ledger.specs.OnShelf.{OnShelf, entered}
 use Rattle.keep_ledger.specs.Reply.{told_of}
 use Rattle.keep_ledger.specs.declared.reply.Refusal.{Refusal}
 use Rattle.keep_ledger.specs.declared.reply.Refusal.TheVariants as refusal
-use Rattle.keep_ledger.specs.declared.reply.Told.{Told}
-use Rattle.keep_ledger.specs.declared.request.Request.{Request}
+use Rattle.keep_journal.specs.declared.request.Told.{Told}
+use Rattle.keep_journal.specs.declared.request.Request.{Request}
 
 -- ---- what an event does in memory
 

@@ -9,8 +9,8 @@ use Rattle.keep_journal.specs.Kept.{kept, up_to}
 use Rattle.keep_journal.specs.declared.event.Event.{Event}
 use Rattle.keep_journal.specs.Event as event
 use Rattle.keep_ledger.specs.LedgerState.{LedgerState}
-use Rattle.keep_ledger.specs.declared.request.Request.{Request}
-use Rattle.keep_ledger.specs.declared.request.Request.TheVariants.{Commit, Undo, Redo, Empty}
+use Rattle.keep_journal.specs.declared.request.Request.{Request}
+use Rattle.keep_journal.specs.declared.request.Request.TheVariants.{Commit, Undo, Redo, Empty}
 
 -- the opening after an accepted request: an emptying moves it over the changes that become final
 abbrev pub opening_after : LedgerState → Request → Repository

@@ -15,7 +15,7 @@ use Rattle.keep_moves.specs.declared.moves.Move.{Move}
 use Rattle.keep_stops.specs.Due.{IsRead}
 use Rattle.keep_ledger.specs.LedgerState.{IsConsistent, LedgerState, ledger_of_live}
 use Rattle.keep_ledger.specs.Made.{event_of, with_event}
-use Rattle.keep_ledger.specs.declared.request.Request.{Request}
+use Rattle.keep_journal.specs.declared.request.Request.{Request}
 
 -- what the ledger says, the moves that are due, in their order, and the shelf
 pub record OnShelf : Type 0 where

@@ -18,9 +18,9 @@ use Rattle.keep_ledger.specs.Limits.{change_limit, event_limit}
 use Rattle.keep_ledger.specs.Made.{with_event}
 use Rattle.keep_ledger.specs.declared.reply.Refusal.{Refusal}
 use Rattle.keep_ledger.specs.declared.reply.Refusal.TheVariants.{Malformed, Unknown, Final, NotInForce, InForce, Full, Stale, Vetoed, Unmet, LeanedOn, Blocked, Memory}
-use Rattle.keep_ledger.specs.declared.request.Request.{Request}
-use Rattle.keep_ledger.specs.declared.request.Request.TheVariants.{Commit, Undo, Redo, Empty}
-use Rattle.keep_ledger.specs.declared.reply.Told.{Told}
+use Rattle.keep_journal.specs.declared.request.Request.{Request}
+use Rattle.keep_journal.specs.declared.request.Request.TheVariants.{Commit, Undo, Redo, Empty}
+use Rattle.keep_journal.specs.declared.request.Told.{Told}
 
 -- the first refusal whose condition holds
 abbrev pub first_of : List (Bool × Refusal) → Option Refusal

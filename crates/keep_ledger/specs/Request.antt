@@ -2,7 +2,7 @@
 use Rattle.std.specs.Prelude.{◌≡◌, None}
 use Rattle.keep_ledger.specs.LedgerState.{LedgerState}
 use Rattle.keep_ledger.specs.Reply.{IsFormed, early_refusal, late_refusal}
-use Rattle.keep_ledger.specs.declared.request.Request.{Request}
+use Rattle.keep_journal.specs.declared.request.Request.{Request}
 
 -- nothing objects to the request before the vetoes are asked
 pub record CanBegin (b : LedgerState) (request : Request) : Type 0 where

@@ -10,7 +10,7 @@ use Rattle.keep_stops.specs.Due.{IsRead}
 use Rattle.keep_ledger.specs.LedgerState.{LedgerState}
 use Rattle.keep_ledger.specs.Made.{with_event}
 use Rattle.keep_ledger.specs.OnShelf.{OnShelf}
-use Rattle.keep_ledger.specs.declared.request.Request.{Request}
+use Rattle.keep_journal.specs.declared.request.Request.{Request}
 
 -- what stands on the ledger's shelf says what the ledger says, and the moves that are due can all be made
 pub record IsShown (b : OnShelf) : Type 0 where

@@ -9,10 +9,9 @@ ghost use Rattle.keep_ledger.specs.Entering.{is_plain};
 ghost use Rattle.keep_ledger.specs.Guarding.{IsOutline, Vetoes, event_outline, outline_at, rules_for};
 
 use crate::reply::Refusal;
-use crate::request::Request;
 use keep_change::{Change, Outline, What};
 use keep_hooks::Guard;
-use keep_journal::History;
+use keep_journal::{History, Request};
 use std::alloc::{AllocError, Global};
 
 /// The outline of the event of this change, where there is a veto or a watch.

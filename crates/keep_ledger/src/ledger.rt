@@ -23,12 +23,11 @@ ghost use Rattle.keep_ledger.specs.Sums.{AreSums};
 
 use crate::checks::{check_blocked, check_commit, check_empty, check_met, check_redo, check_undo};
 use crate::guarding::{check_vetoes, outline_at, outline_for, tell};
-use crate::reply::{Refusal, Told};
-use crate::request::Request;
+use crate::reply::Refusal;
 use keep_catalog::LiveRepo;
 use keep_change::{Outline, What};
 use keep_hooks::Guard;
-use keep_journal::History;
+use keep_journal::{History, Request, Told};
 use keep_moves::{Move, settle};
 use keep_opening::OpenError;
 use keep_repo::Repo;

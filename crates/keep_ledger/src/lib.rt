@@ -15,11 +15,10 @@ mod opening_marks;
 mod place;
 mod preparing;
 mod reply;
-mod request;
 
+pub use keep_journal::{Request, Told};
 pub use keep_opening::OpenError;
 pub use laws::{calls_are_counted, live_files_alone_are_opened};
 pub use ledger::Ledger;
 pub use opening_marks::marks_under;
-pub use reply::{Refusal, Told};
-pub use request::Request;
+pub use reply::Refusal;

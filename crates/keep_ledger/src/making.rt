@@ -7,9 +7,8 @@ ghost use Rattle.keep_ledger.specs.Request.{CanBeMade};
 use crate::entering::enter;
 use crate::ledger::Ledger;
 use crate::preparing::{Prepared, prepare};
-use crate::reply::{Refusal, Told};
-use crate::request::Request;
-use keep_journal::{Entry, History, Posting};
+use crate::reply::Refusal;
+use keep_journal::{Entry, History, Posting, Request, Told};
 use keep_shelf::Shelf;
 
 impl<S: Shelf> Ledger<S> {

@@ -10,9 +10,8 @@ ghost use Rattle.keep_ledger.specs.Made.{event_of};
 ghost use Rattle.keep_ledger.specs.Request.{CanBeMade};
 
 use crate::opening_marks::marks_under;
-use crate::request::Request;
 use keep_change::{SharedChange, Turn};
-use keep_journal::{Entry, Event, EventKind, History, Posting};
+use keep_journal::{Entry, Event, EventKind, History, Posting, Request};
 use keep_moves::{Move, entry_of, first_moves, swept_moves, turn_moves};
 use keep_repo::{Bytes, Repo};
 use std::alloc::{AllocError, Global};

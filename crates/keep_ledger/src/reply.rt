@@ -7,13 +7,6 @@ use std::alloc::AllocError;
 use std::fmt;
 use thiserror::Error;
 
-/// What an accepted request is told: the number of its change, and of its event.
-#[derive(Clone, Copy, Debug, PartialEq, Eq)]
-pub struct Told {
-    pub number: u64,
-    pub at: u64,
-}
-
 /// Why a request was refused. It prints as it is answered to an operator.
 #[derive(Debug, PartialEq, Eq, Drop, Error)]
 pub enum Refusal {

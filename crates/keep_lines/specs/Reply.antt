@@ -3,7 +3,7 @@ use Rattle.std.specs.Prelude.{ℕ, List, ◌++◌, length, codes}
 use Rattle.std.specs.Fmt.{decimal}
 use Rattle.std.specs.List.{flat_map}
 use Rattle.keep_change.specs.declared.change.Change.{Change}
-use Rattle.keep_ledger.specs.declared.reply.Told.{Told}
+use Rattle.keep_journal.specs.declared.request.Told.{Told}
 use Rattle.keep_lines.specs.declared.reply.Committed.{Committed}
 use Rattle.keep_lines.specs.declared.reply.Sizes.{Sizes}
 

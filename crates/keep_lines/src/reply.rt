@@ -1,7 +1,7 @@
 ghost use Rattle.std.specs.Prelude.{◌≡◌};
 
 use keep_change::Change;
-use keep_ledger::Told;
+use keep_journal::Told;
 use std::fmt;
 
 /// The answer to a request that was accepted: the number of its change, and of its event.

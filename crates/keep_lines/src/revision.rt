@@ -3,7 +3,7 @@ ghost use Rattle.std.specs.Prelude.{◌≡◌};
 ghost use Rattle.keep_lines.specs.Revision.{IsRevision, request_of, revision_text};
 
 use crate::word::parse_number;
-use keep_ledger::Request;
+use keep_journal::Request;
 
 /// What a line asks about the change of a number.
 #[derive(Clone, Copy, PartialEq, Eq)]

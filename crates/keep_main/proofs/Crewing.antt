@@ -10,14 +10,15 @@ use Rattle.keep_journal.specs.History.{length_of}
 use Rattle.keep_plan.specs.declared.plan_error.PlanError.{PlanError}
 use Rattle.keep_view.specs.Shown.{Shown}
 use Rattle.keep_ledger.specs.LedgerState.{LedgerState}
-use Rattle.keep_ledger.specs.declared.reply.Told.{Told}
+use Rattle.keep_journal.specs.declared.request.Told.{Told}
 use Rattle.keep_jobs.specs.Job.{JobData, SettingsData, job_change, settings_view}
 use Rattle.keep_pass.specs.Known.{AreFresh, Known, fresh}
 use Rattle.keep_crew.specs.declared.work.Work.{Work}
 use Rattle.keep_crew.specs.declared.work.Work.TheVariants.{Plan, Undo, Redo, Empty}
 use Rattle.keep_desk.specs.Closed.{IsClosed}
-use Rattle.keep_desk.specs.Crew.{DoesWork, HasWorked, PlansAndCommits}
-use Rattle.keep_desk.specs.declared.answers.NotTold.{NotTold}
+use Rattle.keep_crew.specs.Asking.{PlansAndCommits}
+use Rattle.keep_desk.specs.Crew.{DoesWork, HasWorked}
+use Rattle.keep_crew.specs.declared.answers.NotTold.{NotTold}
 use Rattle.keep_desk.specs.declared.crew.Operator.{Operator}
 use Rattle.keep_operators.specs.Asked.{AreAsked, IsAsked, job_of}
 use Rattle.keep_operators.specs.Backups.{backup_of}

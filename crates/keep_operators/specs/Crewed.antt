@@ -9,13 +9,13 @@ use Rattle.keep_hooks.specs.Guards.{Rule}
 use Rattle.keep_plan.specs.declared.plan_error.PlanError.{PlanError}
 use Rattle.keep_view.specs.Shown.{Shown}
 use Rattle.keep_ledger.specs.LedgerState.{LedgerState}
-use Rattle.keep_ledger.specs.declared.reply.Told.{Told}
+use Rattle.keep_journal.specs.declared.request.Told.{Told}
 use Rattle.keep_pages.specs.Histories.{IsHistory}
 use Rattle.keep_jobs.specs.Job.{SettingsData, job_change}
 use Rattle.keep_pass.specs.Known.{Known, fresh}
-use Rattle.keep_desk.specs.Closed.{count_of}
-use Rattle.keep_desk.specs.Crew.{PlansAndCommits}
-use Rattle.keep_desk.specs.declared.answers.NotTold.{NotTold}
+use Rattle.keep_crew.specs.Asking.{count_of}
+use Rattle.keep_crew.specs.Asking.{PlansAndCommits}
+use Rattle.keep_crew.specs.declared.answers.NotTold.{NotTold}
 use Rattle.keep_operators.specs.Backups.{backup_of}
 
 -- the change that operator i wants where this is shown: its backup, by these settings, at this time

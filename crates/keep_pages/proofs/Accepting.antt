@@ -9,8 +9,8 @@ use Rattle.keep_ledger.specs.Reply.{Answers, RefusesOrTells, Replies, early_refu
 use Rattle.keep_ledger.specs.Request.{CanBeMade}
 use Rattle.keep_ledger.specs.declared.reply.Refusal.{Refusal}
 use Rattle.keep_ledger.specs.declared.reply.Refusal.TheVariants.{Vetoed}
-use Rattle.keep_ledger.specs.declared.reply.Told.{Told}
-use Rattle.keep_ledger.specs.declared.request.Request.{Request}
+use Rattle.keep_journal.specs.declared.request.Told.{Told}
+use Rattle.keep_journal.specs.declared.request.Request.{Request}
 use Rattle.keep_pages.proofs.Formed.{formed}
 
 -- nothing objects: neither before the vetoes, nor after them

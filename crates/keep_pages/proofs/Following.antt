@@ -10,8 +10,8 @@ use Rattle.keep_ledger.specs.LedgerState.{LedgerState}
 use Rattle.keep_ledger.specs.Limits.{event_limit}
 use Rattle.keep_ledger.specs.Made.{event_of, opening_after, with_event}
 use Rattle.keep_ledger.specs.Request.{CanBeMade}
-use Rattle.keep_ledger.specs.declared.request.Request.{Request}
-use Rattle.keep_ledger.specs.declared.request.Request.TheVariants.{Commit, Undo, Redo, Empty}
+use Rattle.keep_journal.specs.declared.request.Request.{Request}
+use Rattle.keep_journal.specs.declared.request.Request.TheVariants.{Commit, Undo, Redo, Empty}
 use Rattle.keep_ledger.proofs.Asking.{fits, room_of}
 use Rattle.keep_ledger.proofs.Entered.{can_turn, made}
 use Rattle.keep_ledger.proofs.Redoing.{can_redo}

@@ -11,8 +11,8 @@ use Rattle.keep_names.specs.Sha256.{sha256}
 use Rattle.keep_change.specs.Form.{IsWellFormed}
 use Rattle.keep_change.specs.declared.change.Change.{Change}
 use Rattle.keep_ledger.specs.Reply.{IsFormed}
-use Rattle.keep_ledger.specs.declared.request.Request.{Request}
-use Rattle.keep_ledger.specs.declared.request.Request.TheVariants.{Commit, Undo, Redo, Empty}
+use Rattle.keep_journal.specs.declared.request.Request.{Request}
+use Rattle.keep_journal.specs.declared.request.Request.TheVariants.{Commit, Undo, Redo, Empty}
 
 module _ {A : Type 0} (P : A → Type 0) (settle : (x : A) → ¬ (¬ P x) → P x) where
   all : (xs : List A) → ¬ (¬ All P xs) → All P xs

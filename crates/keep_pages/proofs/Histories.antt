@@ -7,8 +7,8 @@ use Rattle.keep_journal.proofs.Commits.{length_of-push}
 use Rattle.keep_hooks.specs.Guards.{Rule}
 use Rattle.keep_ledger.specs.LedgerState.{LedgerState}
 use Rattle.keep_ledger.specs.Made.{event_of, with_event}
-use Rattle.keep_ledger.specs.declared.request.Request.{Request}
-use Rattle.keep_ledger.specs.declared.request.Request.TheVariants.{Commit, Undo, Redo, Empty}
+use Rattle.keep_journal.specs.declared.request.Request.{Request}
+use Rattle.keep_journal.specs.declared.request.Request.TheVariants.{Commit, Undo, Redo, Empty}
 use Rattle.keep_pages.specs.Histories.{length_at, state_of, state_with, IsAccepted, IsLegal}
 
 -- an accepted request leaves what its event leaves

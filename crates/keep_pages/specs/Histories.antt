@@ -15,7 +15,7 @@ use Rattle.keep_view.specs.Shown.{Shown, shown_of}
 use Rattle.keep_ledger.specs.LedgerState.{LedgerState}
 use Rattle.keep_ledger.specs.Made.{event_of, ledger_over}
 use Rattle.keep_ledger.specs.Reply.{Replies, told_of}
-use Rattle.keep_ledger.specs.declared.request.Request.{Request}
+use Rattle.keep_journal.specs.declared.request.Request.{Request}
 
 -- ---- what a ledger says after events
 

@@ -6,8 +6,8 @@ use Rattle.keep_hooks.specs.Guards.{Rule}
 use Rattle.keep_ledger.specs.LedgerState.{LedgerState}
 use Rattle.keep_ledger.specs.Made.{event_of, with_event}
 use Rattle.keep_ledger.specs.Reply.{Replies}
-use Rattle.keep_ledger.specs.declared.reply.Told.{Told}
-use Rattle.keep_ledger.specs.declared.request.Request.{Request}
+use Rattle.keep_journal.specs.declared.request.Told.{Told}
+use Rattle.keep_journal.specs.declared.request.Request.{Request}
 use Rattle.keep_pages.specs.Following.{Follows}
 use Rattle.keep_pages.specs.Histories.{length_at, state_of, state_with, IsAccepted, IsHistory, IsLegal, IsOpenLedger}
 

@@ -7,8 +7,8 @@ use Rattle.keep_ledger.specs.Made.{with_event}
 use Rattle.keep_ledger.specs.Reply.{Replies, state_after, told_of}
 use Rattle.keep_ledger.specs.declared.reply.Refusal.{Refusal}
 use Rattle.keep_ledger.specs.declared.reply.Refusal.TheVariants.{Malformed, Unknown, Final, NotInForce, InForce, Full, Stale, Vetoed, Unmet, LeanedOn, Blocked, Memory, Fault, Unsettled}
-use Rattle.keep_ledger.specs.declared.reply.Told.{Told}
-use Rattle.keep_ledger.specs.declared.request.Request.{Request}
+use Rattle.keep_journal.specs.declared.request.Told.{Told}
+use Rattle.keep_journal.specs.declared.request.Request.{Request}
 
 -- the shelf's fault leaves it as it was, and a change that is unsettled is in
 pub by_reply : (P : LedgerState → Type 0) (book : LedgerState) (vetoes : List Rule) (request : Request) → P book → ((told : Told) → Replies book vetoes request (Ok told) → P (with_event book request))

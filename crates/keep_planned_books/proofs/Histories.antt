@@ -8,7 +8,7 @@ use Rattle.keep_reading.specs.Reads.{OneReading}
 use Rattle.keep_ledger.specs.LedgerState.{LedgerState}
 use Rattle.keep_ledger.specs.Made.{with_event}
 use Rattle.keep_ledger.specs.Reply.{told_of}
-use Rattle.keep_ledger.specs.declared.request.Request.TheVariants.{Undo}
+use Rattle.keep_journal.specs.declared.request.Request.TheVariants.{Undo}
 use Rattle.keep_book.specs.Cascade.{AreUndone, with_undos}
 use Rattle.keep_read.specs.Losses.{SoundLosesNoBlob}
 use Rattle.keep_sound_books.specs.SoundBooks.{SelectionsOfBooksAreSound}

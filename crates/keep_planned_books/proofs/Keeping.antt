@@ -23,9 +23,9 @@ use Rattle.keep_ledger.specs.Guarding.{event_outline, rules_for}
 use Rattle.keep_ledger.specs.Reply.{Answers, Replies, early_refusal, first_of, is_full_for, late_refusal, told_of}
 use Rattle.keep_ledger.specs.declared.reply.Refusal.{Refusal}
 use Rattle.keep_ledger.specs.declared.reply.Refusal.TheVariants.{Full, Malformed, Stale}
-use Rattle.keep_ledger.specs.declared.reply.Told.{Told}
-use Rattle.keep_ledger.specs.declared.request.Request.{Request}
-use Rattle.keep_ledger.specs.declared.request.Request.TheVariants.{Commit, Undo, Redo, Empty}
+use Rattle.keep_journal.specs.declared.request.Told.{Told}
+use Rattle.keep_journal.specs.declared.request.Request.{Request}
+use Rattle.keep_journal.specs.declared.request.Request.TheVariants.{Commit, Undo, Redo, Empty}
 use Rattle.keep_sound_books.specs.SoundBooks.{BooksAreSound, BooksBeginSound, BooksStaySound, IsSoundBook, KeepsSound, ViewsKnow, known_to}
 use Rattle.keep_whole.specs.Restic.{SoundIsWhole}
 use Rattle.keep_planned_books.specs.History.{BeginsWhole, IsOneOf, IsPlanned}

@@ -7,9 +7,9 @@ use Rattle.keep_view.specs.Shown.{shown_of}
 use Rattle.keep_ledger.specs.LedgerState.{LedgerState, new_ledger}
 use Rattle.keep_ledger.specs.Made.{with_event}
 use Rattle.keep_ledger.specs.Reply.{Replies}
-use Rattle.keep_ledger.specs.declared.reply.Told.{Told}
-use Rattle.keep_ledger.specs.declared.request.Request.{Request}
-use Rattle.keep_ledger.specs.declared.request.Request.TheVariants.{Commit, Undo, Redo, Empty}
+use Rattle.keep_journal.specs.declared.request.Told.{Told}
+use Rattle.keep_journal.specs.declared.request.Request.{Request}
+use Rattle.keep_journal.specs.declared.request.Request.TheVariants.{Commit, Undo, Redo, Empty}
 use Rattle.keep_whole.specs.Restic.{restic}
 use Rattle.keep_whole.specs.Whole.{IsWhole}
 use Rattle.keep_safety.specs.Met.{AreFiles, IsMet}

@@ -14,8 +14,8 @@ use Rattle.keep_ledger.specs.Reply.{Replies, state_after}
 use Rattle.keep_ledger.specs.Stops.{Says}
 use Rattle.keep_ledger.specs.declared.reply.Refusal.{Refusal}
 use Rattle.keep_ledger.specs.declared.reply.Refusal.TheVariants.{Fault}
-use Rattle.keep_ledger.specs.declared.reply.Told.{Told}
-use Rattle.keep_ledger.specs.declared.request.Request.{Request}
+use Rattle.keep_journal.specs.declared.request.Told.{Told}
+use Rattle.keep_journal.specs.declared.request.Request.{Request}
 use Rattle.keep_book.specs.Cascade.{AreUndone, with_undos}
 use Rattle.keep_read.specs.Findings.{findings_in}
 use Rattle.keep_read.specs.Losses.{LosesNoBlob}

@@ -5,8 +5,8 @@ use Rattle.keep_change.specs.declared.change.Change.{Change}
 use Rattle.keep_plan.specs.declared.plan_error.PlanError.{PlanError}
 use Rattle.keep_sound.specs.Met.{AddsPart}
 use Rattle.keep_ledger.specs.LedgerState.{LedgerState}
-use Rattle.keep_ledger.specs.declared.reply.Told.{Told}
-use Rattle.keep_ledger.specs.declared.request.Request.{Request}
+use Rattle.keep_journal.specs.declared.request.Told.{Told}
+use Rattle.keep_journal.specs.declared.request.Request.{Request}
 use Rattle.keep_lines.specs.Revision.{request_of}
 use Rattle.keep_lines.specs.declared.revision.Revision.{Revision}
 use Rattle.keep_lines.specs.declared.revision.Revision.TheVariants.{Undo, Redo, Empty}

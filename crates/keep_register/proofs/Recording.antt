@@ -9,8 +9,8 @@ use Rattle.keep_ledger.specs.Made.{event_of, with_event}
 use Rattle.keep_ledger.specs.Reply.{Replies, about, state_after, told_of}
 use Rattle.keep_ledger.specs.declared.reply.Refusal.{Refusal}
 use Rattle.keep_ledger.specs.declared.reply.Refusal.TheVariants.{Fault, Unsettled}
-use Rattle.keep_ledger.specs.declared.reply.Told.{Told}
-use Rattle.keep_ledger.specs.declared.request.Request.{Request}
+use Rattle.keep_journal.specs.declared.request.Told.{Told}
+use Rattle.keep_journal.specs.declared.request.Request.{Request}
 use Rattle.keep_chronicle.specs.Chronicle.{last_events}
 use Rattle.keep_chronicle.proofs.Events.{last_events-posted}
 use Rattle.keep_pages.specs.Histories.{state_of, IsAccepted, IsHistory, IsLegal}

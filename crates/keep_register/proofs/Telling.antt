@@ -8,8 +8,8 @@ use Rattle.keep_ledger.specs.LedgerState.{LedgerState}
 use Rattle.keep_ledger.specs.Reply.{Answers, RefusesOrTells, Replies, early_refusal, late_refusal, told_of}
 use Rattle.keep_ledger.specs.declared.reply.Refusal.{Refusal}
 use Rattle.keep_ledger.specs.declared.reply.Refusal.TheVariants.{Vetoed}
-use Rattle.keep_ledger.specs.declared.reply.Told.{Told}
-use Rattle.keep_ledger.specs.declared.request.Request.{Request}
+use Rattle.keep_journal.specs.declared.request.Told.{Told}
+use Rattle.keep_journal.specs.declared.request.Request.{Request}
 use Rattle.keep_pages.proofs.Formed.{formed}
 
 told_last : (refusal : Option Refusal) (told t : Told) → RefusesOrTells refusal told (Ok t) → t ≡ told

@@ -7,8 +7,8 @@ use Rattle.keep_ledger.specs.Made.{event_of}
 use Rattle.keep_ledger.specs.Reply.{Replies, about, told_of}
 use Rattle.keep_ledger.specs.declared.reply.Refusal.{Refusal}
 use Rattle.keep_ledger.specs.declared.reply.Refusal.TheVariants.{Fault, Unsettled}
-use Rattle.keep_ledger.specs.declared.reply.Told.{Told}
-use Rattle.keep_ledger.specs.declared.request.Request.{Request}
+use Rattle.keep_journal.specs.declared.request.Told.{Told}
+use Rattle.keep_journal.specs.declared.request.Request.{Request}
 use Rattle.keep_pages.specs.Histories.{state_of}
 
 -- whether the event of a request is in: it was told, or is unsettled

@@ -13,8 +13,8 @@ use Rattle.keep_told.proofs.Legal.{none_numbered}
 use Rattle.keep_ledger.specs.LedgerState.{LedgerState, new_ledger}
 use Rattle.keep_ledger.specs.Made.{with_event}
 use Rattle.keep_ledger.specs.Request.{CanBeMade}
-use Rattle.keep_ledger.specs.declared.request.Request.{Request}
-use Rattle.keep_ledger.specs.declared.request.Request.TheVariants.{Commit, Undo, Redo, Empty}
+use Rattle.keep_journal.specs.declared.request.Request.{Request}
+use Rattle.keep_journal.specs.declared.request.Request.TheVariants.{Commit, Undo, Redo, Empty}
 use Rattle.keep_ledger.proofs.Replying.{can_empty}
 use Rattle.keep_sound.specs.Selection.{CommitsStaySound, EmptyingsStaySound, FiltersAreSelections, IsSelection, IsSoundHistory, IsSoundState, SelectionsAreSound}
 use Rattle.keep_pages.specs.Histories.{IsOpenLedger}

@@ -2,7 +2,7 @@
 use Rattle.std.proofs.Common.{◌≡◌, ℕ, subst}
 use Rattle.keep_book.specs.Armed.{Responds, ledger_of}
 use Rattle.keep_journal.specs.History.{length_of}
-use Rattle.keep_ledger.specs.declared.request.Request.TheVariants as request
+use Rattle.keep_journal.specs.declared.request.Request.TheVariants as request
 use Rattle.keep_answers.proofs.session.Session.commit_now.Goals as goal
 
 pub returns-clause-responds : goal.returns-clause-responds

@@ -2,7 +2,7 @@
 use Rattle.std.proofs.Common.{◌≡◌, ℕ, rules, subst}
 use Rattle.keep_book.specs.Armed.{Responds, ledger_of}
 use Rattle.keep_journal.specs.History.{length_of}
-use Rattle.keep_ledger.specs.declared.request.Request.TheVariants as request
+use Rattle.keep_journal.specs.declared.request.Request.TheVariants as request
 use Rattle.keep_answers.proofs.session.Session.perform.Goals as goal
 
 pub returns-clause-made : goal.returns-clause-made

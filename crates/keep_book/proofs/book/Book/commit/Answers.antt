@@ -3,7 +3,7 @@ use Rattle.std.specs.Prelude.{IfOk}
 use Rattle.keep_ledger.proofs.Answered.{unless_fault}
 use Rattle.keep_ledger.specs.Ends.{heard}
 use Rattle.keep_ledger.specs.LedgerState.{JustCommitted}
-use Rattle.keep_ledger.specs.declared.request.Request.TheVariants.{Commit}
+use Rattle.keep_journal.specs.declared.request.Request.TheVariants.{Commit}
 use Rattle.keep_book.specs.Armed.{hooks_of, ledger_of}
 use Rattle.keep_book.proofs.Replied.{just_committed}
 use Rattle.keep_book.proofs.book.Book.commit.Goals as goal

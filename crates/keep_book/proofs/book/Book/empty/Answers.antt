@@ -4,7 +4,7 @@ use Rattle.keep_ledger.proofs.Answered.{unless_fault}
 use Rattle.keep_ledger.specs.Ends.{heard}
 use Rattle.keep_ledger.specs.LedgerState.{LedgerState}
 use Rattle.keep_ledger.specs.Reply.{state_after}
-use Rattle.keep_ledger.specs.declared.request.Request.TheVariants.{Empty}
+use Rattle.keep_journal.specs.declared.request.Request.TheVariants.{Empty}
 use Rattle.keep_book.specs.Armed.{hooks_of, ledger_of}
 use Rattle.keep_book.proofs.Replied.{left_by_empty}
 use Rattle.keep_book.proofs.book.Book.empty.Goals as goal

@@ -4,7 +4,7 @@ use Rattle.keep_ledger.proofs.Restoring.{restored}
 use Rattle.keep_ledger.proofs.Replying.{left_by_undo, taken_back}
 use Rattle.keep_ledger.specs.Ends.{heard}
 use Rattle.keep_ledger.specs.Reply.{Restores}
-use Rattle.keep_ledger.specs.declared.request.Request.TheVariants.{Undo}
+use Rattle.keep_journal.specs.declared.request.Request.TheVariants.{Undo}
 use Rattle.keep_book.specs.Armed.{hooks_of, ledger_of}
 use Rattle.keep_book.proofs.book.Book.undo.Goals as goal
 

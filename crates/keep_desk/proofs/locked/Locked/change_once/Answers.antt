@@ -2,11 +2,11 @@ use Rattle.std.proofs.Common.{◌≡◌, ◌∙◌, List, None, Err, Result, ap,
 use mathlib.Core.List.{IsPrefix}
 use Rattle.keep_journal.specs.declared.event.Event.{Event}
 use Rattle.keep_ledger.specs.declared.reply.Refusal.{Refusal}
-use Rattle.keep_ledger.specs.declared.reply.Told.{Told}
+use Rattle.keep_journal.specs.declared.request.Told.{Told}
 use Rattle.keep_chronicle.proofs.Prefixes.{prefix_self}
 use Rattle.keep_pass.specs.Known.{Known}
 use Rattle.keep_register.specs.Asked.{WasAsked}
-use Rattle.keep_desk.specs.Answered.{number_in}
+use Rattle.keep_crew.specs.Answered.{number_in}
 use Rattle.keep_desk.proofs.Answering.{none_of, unchanged}
 use Rattle.keep_desk.proofs.locked.Locked.change_once.Goals as goal
 use Rattle.keep_desk.proofs.locked.Locked.change_once.Goals.{in-Some+in_default-settle, in_default}

@@ -1,6 +1,6 @@
 -- The first later change that leans on a change is the first of the others that can't be made.
 use Rattle.keep_ledger.proofs.Asking.{begins, passes_undo}
-use Rattle.keep_ledger.specs.declared.request.Request.TheVariants.{Undo}
+use Rattle.keep_journal.specs.declared.request.Request.TheVariants.{Undo}
 use Rattle.keep_ledger.proofs.ledger.Ledger.check.Goals as goal
 
 pub returns-in-Undo-clause-formed : goal.returns-in-Undo-clause-formed

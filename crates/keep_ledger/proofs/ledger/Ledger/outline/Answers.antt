@@ -3,7 +3,7 @@ use Rattle.std.proofs.Common.{◌∙◌, ap, arith}
 use Rattle.keep_journal.specs.History.{last_change}
 use Rattle.keep_ledger.proofs.Asking.{has_room}
 use Rattle.keep_ledger.specs.Request.{CanBegin}
-use Rattle.keep_ledger.specs.declared.request.Request.TheVariants.{Commit}
+use Rattle.keep_journal.specs.declared.request.Request.TheVariants.{Commit}
 use Rattle.keep_ledger.proofs.ledger.Ledger.outline.Goals as goal
 
 pub overflow_add-number : goal.overflow_add-number

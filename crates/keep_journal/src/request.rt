@@ -1,6 +1,6 @@
 use keep_change::Planned;
 
-/// What a ledger can be asked to do.
+/// What can be asked of a history.
 #[derive(Drop)]
 pub enum Request {
     /// To make a change, which was planned on a history of some length.
@@ -11,4 +11,11 @@ pub enum Request {
     Redo(u64),
     /// To make all changes up to this one final.
     Empty(u64),
+}
+
+/// What an accepted request is told: the number of its change, and of its event.
+#[derive(Clone, Copy, Debug, PartialEq, Eq)]
+pub struct Told {
+    pub number: u64,
+    pub at: u64,
 }

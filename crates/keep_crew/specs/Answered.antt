@@ -7,13 +7,13 @@ use Rattle.keep_ledger.specs.LedgerState.{LedgerState}
 use Rattle.keep_ledger.specs.Reply.{Replies, about, told_of}
 use Rattle.keep_ledger.specs.declared.reply.Refusal.{Refusal}
 use Rattle.keep_ledger.specs.declared.reply.Refusal.TheVariants.{Memory, Unsettled}
-use Rattle.keep_ledger.specs.declared.reply.Told.{Told}
-use Rattle.keep_ledger.specs.declared.request.Request.{Request}
+use Rattle.keep_journal.specs.declared.request.Told.{Told}
+use Rattle.keep_journal.specs.declared.request.Request.{Request}
 use Rattle.keep_pages.specs.Histories.{state_of}
 use Rattle.keep_register.specs.Asked.{WasAsked, is_in}
 use Rattle.keep_pass.specs.Known.{Known}
-use Rattle.keep_desk.specs.declared.answers.DeskError.{DeskError}
-use Rattle.keep_desk.specs.declared.answers.DeskError.TheVariants.{Late, Refused}
+use Rattle.keep_crew.specs.declared.answers.DeskError.{DeskError}
+use Rattle.keep_crew.specs.declared.answers.DeskError.TheVariants.{Late, Refused}
 
 -- whether the event of the request is in
 abbrev pub has_event : Result Told DeskError → Bool
