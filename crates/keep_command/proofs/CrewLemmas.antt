@@ -9,8 +9,8 @@ use Rattle.keep_script.specs.declared.status.Status.TheVariants.{Done, NoMemory,
 use Rattle.keep_command.specs.Ending.{ending_uncrewed}
 use Rattle.keep_command.specs.Following.{Crews, Follows, Reports, report_text}
 use Rattle.keep_command.specs.Option.{OptionsData}
-use Rattle.keep_command.specs.declared.crew.NoCrew.{NoCrew}
-use Rattle.keep_command.specs.declared.crew.NoCrew.TheVariants as uncrewed
+use Rattle.keep_operators.specs.declared.order.NoCrew.{NoCrew}
+use Rattle.keep_operators.specs.declared.order.NoCrew.TheVariants as uncrewed
 use Rattle.keep_command.specs.declared.ending.Ending.{Ending}
 use Rattle.keep_command.specs.declared.ending.Ending.TheVariants as ending
 use Rattle.keep_command.specs.declared.ending.Ending.TheVariants.{Ran}

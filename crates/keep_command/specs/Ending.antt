@@ -11,8 +11,8 @@ use Rattle.keep_opening.specs.declared.open_error.OpenError.TheVariants.{BadEntr
 use Rattle.keep_lines.specs.Mistake.{mistake_text}
 use Rattle.keep_script.specs.declared.status.Status.TheVariants.{Done, Faulted, BadLine, ReadFailed, ScriptTooLong, WriteFailed, NoMemory, NotOpened}
 use Rattle.keep_command.specs.Option.{IsBadWord}
-use Rattle.keep_command.specs.declared.crew.NoCrew.{NoCrew}
-use Rattle.keep_command.specs.declared.crew.NoCrew.TheVariants as uncrewed
+use Rattle.keep_operators.specs.declared.order.NoCrew.{NoCrew}
+use Rattle.keep_operators.specs.declared.order.NoCrew.TheVariants as uncrewed
 use Rattle.keep_command.specs.declared.ending.Ending.{Ending}
 use Rattle.keep_command.specs.declared.ending.Ending.TheVariants as ending
 use Rattle.keep_command.specs.declared.options.BadOptions.{BadOptions}

@@ -3,10 +3,10 @@ ghost use Rattle.std.specs.Io.KnownBytes.{Appends};
 ghost use Rattle.keep_command.specs.Ending.{advice_on, code_of, told_text};
 ghost use Rattle.keep_script.specs.declared.status.Status.TheVariants as the_status;
 
-use crate::crew::NoCrew;
 use crate::options::BadOptions;
 use keep_folder::FolderError;
 use keep_opening::OpenError;
+use keep_operators::NoCrew;
 use keep_script::Status;
 use std::fmt;
 use std::io::{self, Write};

@@ -10,8 +10,9 @@ mod report;
 mod serving;
 mod terms;
 
-pub use crew::{Crew, NoCrew, NoOperators, Order, Tally};
+pub use crew::{Crew, NoOperators};
 pub use ending::{Ending, tell};
+pub use keep_operators::{NoCrew, Order, Tally};
 pub use named_shelf::NamedShelf;
 pub use options::{BadOptions, Options, read_options};
 pub use program::keepd;

@@ -4,9 +4,9 @@ ghost use Rattle.keep_answers.specs.Known.{WritesLines};
 ghost use Rattle.keep_script.specs.declared.status.Status.{Status};
 ghost use Rattle.keep_command.specs.Following.{Reports, report_text};
 
-use crate::crew::Tally;
 use crate::ending::Ending;
 use keep_answers::{Halt, put_line};
+use keep_operators::Tally;
 use keep_script::Status;
 use std::alloc::Global;
 use std::fmt;

@@ -1,6 +1,6 @@
-use crate::crew::Order;
 use crate::options::Options;
 use keep_jobs::{Cut, Settings};
+use keep_operators::Order;
 use keep_script::Setup;
 use std::alloc::Global;
 

@@ -1,10 +1,13 @@
-//! What the operators of a crew are asked for: jobs that plan for themselves, and the backups of a crew.
+//! What the operators of a crew are asked for: jobs that plan for themselves, and the backups of a crew; and what is told of
+//! it.
 #![tactic(auto)]
 
 mod backups;
 mod each_snapshot;
+mod order;
 mod planner;
 
 pub use backups::crew_of;
 pub use each_snapshot::EachSnapshot;
+pub use order::{NoCrew, Order, Tally};
 pub use planner::Planner;

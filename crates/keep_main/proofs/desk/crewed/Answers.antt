@@ -6,10 +6,10 @@ use Rattle.keep_main.specs.contracts.desk.crewed.dyn-2 as counted
 use Rattle.keep_main.proofs.desk.crewed.Goals as goal
 
 -- the book goes to the operators' threads
-pub run-requires-send-K : goal.run-requires-send-K
-run-requires-send-K g c κs within = let d = g.dyn-1 in let e = g.dyn-2 in
+pub crew_at_desk-requires-send-K : goal.crew_at_desk-requires-send-K
+crew_at_desk-requires-send-K g c κs within = let d = g.dyn-1 in let e = g.dyn-2 in
     param_send 2 _ (arg_send _ yes _
     (book_send _ _ (asked.slots g.row.R g.row.S) (counted.slots g.row.R g.row.S) d.0 d.1 e.0 e.1 _ _ c.type_bounds.send-S d.2 e.2))
 
 pub returns : goal.returns
-returns g c = c.run.ensures
+returns g c = c.crew_at_desk.ensures

@@ -2,11 +2,11 @@
 use Rattle.keep_book.specs.Armed.{hooks_of, ledger_of}
 use Rattle.keep_main.proofs.desk.crewed.Given as goal
 
-abbrev pub ghosts-run-B-Chronicled : goal.ghosts-run-B-Chronicled
-ghosts-run-B-Chronicled g a = record { book = a.opened.sight.book }
+abbrev pub ghosts-crew_at_desk-B-Chronicled : goal.ghosts-crew_at_desk-B-Chronicled
+ghosts-crew_at_desk-B-Chronicled g a = record { book = a.opened.sight.book }
 
-abbrev pub ghosts-run-B-Naming : goal.ghosts-run-B-Naming
-ghosts-run-B-Naming g a = record { opening = ledger_of a.keeper; hooks = hooks_of a.keeper }
+abbrev pub ghosts-crew_at_desk-B-Naming : goal.ghosts-crew_at_desk-B-Naming
+ghosts-crew_at_desk-B-Naming g a = record { opening = ledger_of a.keeper; hooks = hooks_of a.keeper }
 
-abbrev pub ghosts-run-B-Ledger : goal.ghosts-run-B-Ledger
-ghosts-run-B-Ledger g a = record { name = a.blank.name; parts = a.blank.parts }
+abbrev pub ghosts-crew_at_desk-B-Ledger : goal.ghosts-crew_at_desk-B-Ledger
+ghosts-crew_at_desk-B-Ledger g a = record { name = a.blank.name; parts = a.blank.parts }

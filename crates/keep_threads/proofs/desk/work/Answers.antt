@@ -2,9 +2,9 @@ use denote.Exit.{no}
 use denote.Param.Send.{arg_send, param_send}
 use Rattle.std.proofs.Common.{arith}
 use Rattle.keep_jobs.specs.Job.{settings_view}
-use Rattle.keep_main.proofs.Crewing.{all_out, hands_long, have_worked}
-use Rattle.keep_main.proofs.Serving.{planner_send}
-use Rattle.keep_main.proofs.desk.work.Goals as goal
+use Rattle.keep_threads.proofs.Crewing.{all_out, hands_long, have_worked}
+use Rattle.keep_threads.proofs.Serving.{planner_send}
+use Rattle.keep_threads.proofs.desk.work.Goals as goal
 
 pub passes_of-requires-clause-room : goal.passes_of-requires-clause-room
 passes_of-requires-clause-room g c =

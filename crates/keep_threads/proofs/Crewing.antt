@@ -25,7 +25,7 @@ use Rattle.keep_operators.specs.Backups.{backup_of}
 use Rattle.keep_operators.specs.Crewed.{IsCrewed, IsDone, wanted_of}
 use Rattle.keep_operators.specs.declared.each_snapshot.EachSnapshot.{EachSnapshot}
 use Rattle.keep_operators.specs.declared.planner.Planner.{Planner}
-use Rattle.keep_main.specs.Worked.{HaveWorked}
+use Rattle.keep_threads.specs.Worked.{HaveWorked}
 
 -- what an operator of a crew is asked for
 abbrev pub Asked : Type 0

@@ -1,6 +1,6 @@
 use Rattle.std.proofs.Common.{◌≡◌, ◌∙◌, ◌++◌, ℕ, List, ap, arith, drop, length, take}
 use Rattle.std.proofs.Math.Seq.{take-append_seam}
-use Rattle.keep_main.proofs.desk.set_to_work.Goals as goal
+use Rattle.keep_threads.proofs.desk.set_to_work.Goals as goal
 
 -- a slice of the whole list is written back whole
 whole : {A : Type 0} (new old : List A) (n : ℕ) → n ≡ length new → take n (new ++ drop (length new) old) ≡ new

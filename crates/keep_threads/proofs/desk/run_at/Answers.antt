@@ -1,8 +1,8 @@
 use Rattle.std.proofs.Common.{◌∙◌, ℕ, ◌-◌, ap, arith}
 use Rattle.keep_jobs.specs.Job.{settings_view}
 use Rattle.keep_journal.specs.History.{length_of}
-use Rattle.keep_main.proofs.Crewing.{crewed}
-use Rattle.keep_main.proofs.desk.run_at.Goals as goal
+use Rattle.keep_threads.proofs.Crewing.{crewed}
+use Rattle.keep_threads.proofs.desk.run_at.Goals as goal
 
 pub overflow_sub-accepted : goal.overflow_sub-accepted
 overflow_sub-accepted g c =

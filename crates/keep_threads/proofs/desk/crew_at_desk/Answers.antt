@@ -1,7 +1,7 @@
 use Rattle.std.proofs.Common.{◌∙◌, ap}
 use Rattle.keep_journal.specs.History.{length_of}
 use Rattle.keep_ledger.specs.LedgerState.{LedgerState}
-use Rattle.keep_main.proofs.desk.run.Goals as goal
+use Rattle.keep_threads.proofs.desk.crew_at_desk.Goals as goal
 
 pub run_at-requires-clause-before : goal.run_at-requires-clause-before
 run_at-requires-clause-before g c κs within =
