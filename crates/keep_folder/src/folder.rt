@@ -1,3 +1,4 @@
+use crate::private::{make_dir, make_file};
 use keep_paths::path_of_key;
 use keep_shelf::Key;
 use std::alloc::Global;
@@ -134,7 +135,7 @@ impl<R: Files<File = File> + Alloc<A = Global>> Folder<R> {
 
     /// Makes a folder in another one, where it isn't there.
     fn make_folder(&mut self, outer: &str, inner: &str) -> io::Result<()> {
-        match fs::create_dir(&self.rt, inner) {
+        match make_dir(&self.rt, inner) {
             Ok(()) => {
                 self.settle(outer);
                 self.require_sound()
@@ -157,7 +158,7 @@ impl<R: Files<File = File> + Alloc<A = Global>> Folder<R> {
     /// Writes a new file and moves it to its place. A link that lies at either path isn't followed: the one makes it
     /// fail, and the other is replaced.
     fn place(&self, tmp: &str, bytes: &[u8], path: &str) -> io::Result<()> {
-        let mut file = File::create_new(&self.rt, tmp)?;
+        let mut file = make_file(&self.rt, tmp)?;
         file.write_all(bytes)?;
         file.sync_all()?;
         fs::rename(&self.rt, tmp, path)

@@ -6,6 +6,7 @@ mod config;
 mod error;
 mod folder;
 mod lock;
+mod private;
 mod reading;
 mod shelf;
 mod walk;

@@ -1,4 +1,5 @@
 use crate::error::FolderError;
+use crate::private::make_file;
 use crate::reading::require_file;
 use std::alloc::Global;
 use std::fs::{File, Files, OpenOptions, TryLockError};
@@ -23,7 +24,7 @@ pub(crate) fn lock_folder<R: Files<File = File> + Alloc<A = Global>>(
 /// The file that is locked, which is made where it isn't there, and is never written to. It is opened for writing since
 /// some file systems lock no other.
 fn open_lock<R: Files<File = File>>(rt: &R, path: &str) -> io::Result<File> {
-    match File::create_new(rt, path) {
+    match make_file(rt, path) {
         Err(error) if error.kind() == ErrorKind::AlreadyExists => {
             require_file(rt, path)?;
             OpenOptions::new().read(true).write(true).open(rt, path)
