@@ -15,8 +15,12 @@ LINES = [
     "redo 10", f"add pack {HELLO}", "drop pack @11", "undo 12", "redo 12", "empty 6", backup(7, "666f7572"),
     backup(8, "66697665"), "forget all last=1", "mark", "sweep", "undo 17", "empty 9", "undo 16", "undo 15", "list",
     "drop snapshot @14", "undo 18", "redo 15", "redo 16", "redo 17", "undo 17", "empty 18", "count",
+    backup(9, "736978"), backup(10, "736978"), "tag all +six", "forget all last=1", backup(11, "736978"), "cascade 19",
+    "redo 19", "redo 20", "redo 21", "redo 22", "redo 23", "cascade 20", "cascade 19", "redo 19", "empty 23", "count",
 ]
-LAST_WORDS = {"restore": "restored", "audit": "audit", "list": "files", "count": "files"}
+# What each cascade takes back, told by hand: 20 and 23 use the files of 19, 21 and 22 drop snapshots of 19 and 20.
+TAKEN = [[23, 22, 21, 20, 19], [22, 21, 20], [23, 19]]
+LAST_WORDS = {"restore": "restored", "audit": "audit", "list": "files", "count": "files", "cascade": "taken"}
 
 
 def answer_to(program, line):
