@@ -73,9 +73,7 @@ fn answer_by<'a, C: Crew, R: Read, W: Write>(
     ensures past_limit { result ≡ Ending.Ran Status.ScriptTooLong →
         IfSome (R.remaining reader.old) (λ script. longest_script ≤ length script) }
 {
-    let alloc = rt.alloc();
-    let terms = Terms { rt, alloc, options };
-    end_of(answer(crew, terms, reader, writer))
+    end_of(answer(crew, Terms::new(rt, options), reader, writer))
 }
 
 /// How the program ends that was to end so, or had no memory.
@@ -95,9 +93,6 @@ fn answer<'a, C: Crew, R: Read, W: Write>(
     reader: &mut R,
     writer: &mut W,
 ) -> Result<Ending<'a>, AllocError>
-    requires some { 1 ≤ terms.options.cut }
-    requires most { terms.options.cut ≤ 8388608 }
-    requires few { terms.options.crew ≤ 8 }
     ensures ends { IfOk result (λ ended. EndsBy (options_view terms.entry.options)
         (R.remaining reader.old) (R.remaining reader.new) (W.contents writer.old) (W.contents writer.new) ended
         × KeepsLines (R.remaining reader.old) (W.contents writer.old) (W.contents writer.new) ended) }
@@ -131,9 +126,6 @@ fn answer_with<'a, C: Crew, R: Read, W: Write>(
     reader: &mut R,
     writer: &mut W,
 ) -> Result<Ending<'a>, AllocError>
-    requires some { 1 ≤ terms.options.cut }
-    requires most { terms.options.cut ≤ 8388608 }
-    requires few { terms.options.crew ≤ 8 }
     ensures ends { IfOk result (λ ended. let options = options_view terms.entry.options in EndsWith
         (stored (map named_rule filters.items) options.drops) options
         (R.remaining reader.old) (R.remaining reader.new) (W.contents writer.old) (W.contents writer.new) ended

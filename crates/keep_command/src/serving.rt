@@ -1,6 +1,5 @@
 ghost use Rattle.std.specs.Prelude.{◌≡◌, ◌≢◌, ◌≤◌, ◌↔◌, IsTrue};
 ghost use Rattle.keep_book.specs.Armed.{HasSums, hooks_of, ledger_of};
-ghost use Rattle.keep_jobs.specs.Job.{settings_view};
 ghost use Rattle.keep_jobs.specs.Kits.{kit_view};
 ghost use Rattle.keep_answers.specs.Known.{WritesLines};
 ghost use Rattle.keep_script.specs.Begun.{begun_over};
@@ -30,8 +29,6 @@ pub(crate) fn serve<'a, C: Crew, R: Read, W: Write>(
     reader: &mut R,
     writer: &mut W,
 ) -> Ending<'a>
-    requires some { 1 ≤ terms.options.cut }
-    requires most { terms.options.cut ≤ 8388608 }
     requires few { terms.options.crew ≤ 8 }
     ensures ends { EndsWith (kit_view kit.old) (options_view terms.entry.options)
         (R.remaining reader.old) (R.remaining reader.new) (W.contents writer.old) (W.contents writer.new) result }
@@ -52,8 +49,6 @@ fn serve_on<'a, C: Crew, R: Read, W: Write>(
     reader: &mut R,
     writer: &mut W,
 ) -> Ending<'a>
-    requires some { 1 ≤ terms.options.cut }
-    requires most { terms.options.cut ≤ 8388608 }
     requires few { terms.options.crew ≤ 8 }
     ensures serves { let options = options_view terms.entry.options in Serves
         (RunsWith (shelved_of shelf.entry) (kit_view kit.old) options (R.remaining reader.old) (R.remaining reader.new))
@@ -75,9 +70,6 @@ fn serve_over<'a, C: Crew, R: Read, W: Write>(
     reader: &mut R,
     writer: &mut W,
 ) -> Ending<'a>
-    requires some { 1 ≤ terms.options.cut }
-    requires most { terms.options.cut ≤ 8388608 }
-    requires few { terms.options.crew ≤ 8 }
     requires sums { HasSums book }
     ensures serves { let options = options_view terms.entry.options in Serves
         (Ends (begun_over (settings_of options) (kit_view kit.old) book.entry)
@@ -97,9 +89,6 @@ fn follow<'a, C: Crew, W: Write>(
     status: Status,
     writer: &mut W,
 ) -> Ending<'a>
-    requires some { 1 ≤ terms.options.cut }
-    requires most { terms.options.cut ≤ 8388608 }
-    requires few { terms.options.crew ≤ 8 }
     requires sums { HasSums book }
     ensures follows { Follows (options_view terms.entry.options) (hooks_of book.entry).vetoes (ledger_of book.entry)
         (W.contents writer.old) (W.contents writer.new) status result }
@@ -137,10 +126,7 @@ fn have_crew<'a, C: Crew, W: Write>(
     book: Book<NamedShelf<'_>>,
     writer: &mut W,
 ) -> Ending<'a>
-    requires some { 1 ≤ terms.options.cut }
-    requires most { terms.options.cut ≤ 8388608 }
     requires one { 1 ≤ terms.options.crew }
-    requires few { terms.options.crew ≤ 8 }
     requires sums { HasSums book }
     ensures crews { let options = options_view terms.entry.options in Crews (hooks_of book.entry).vetoes
         (settings_of options) options.time options.crew (ledger_of book.entry)

@@ -1,3 +1,8 @@
+ghost use Rattle.std.specs.Prelude.{◌≡◌, ◌≤◌};
+ghost use Rattle.keep_jobs.specs.Job.{settings_view};
+ghost use Rattle.keep_command.specs.Option.{options_view};
+ghost use Rattle.keep_command.specs.Running.{settings_of};
+
 use crate::options::Options;
 use keep_jobs::{Cut, Settings};
 use keep_operators::Order;
@@ -10,42 +15,52 @@ pub(crate) struct Terms<'a> {
     pub rt: &'a HostRuntime,
     pub alloc: Global,
     pub options: Options<'a>,
+    settings: Settings,
+    ghost by_options: { settings_view settings ≡ settings_of (options_view options) },
+    ghost few: { options.crew ≤ 8 },
 }
 
 impl<'a> Terms<'a> {
-    ghost use Rattle.std.specs.Prelude.{◌≡◌, ◌≤◌};
-    ghost use Rattle.keep_jobs.specs.Job.{settings_view};
-    ghost use Rattle.keep_script.specs.Begun as begun;
-    ghost use Rattle.keep_command.specs.Option.{options_view};
-    ghost use Rattle.keep_command.specs.Running.{settings_of};
+    /// By these options.
+    pub fn new(rt: &'a HostRuntime, options: Options<'a>) -> Terms<'a>
+        requires some { 1 ≤ options.cut }
+        requires most { options.cut ≤ 8388608 }
+        requires few { options.crew ≤ 8 }
+        ensures { options_view result.options ≡ options_view options.entry }
+    {
+        let settings = Settings {
+            cut: Cut::after(options.cut),
+            now: options.now,
+        };
+        Terms {
+            rt,
+            alloc: rt.alloc(),
+            options,
+            settings,
+        }
+    }
 
     /// What the script goes by.
     pub fn setup(self) -> Setup
-        ensures cut { result.cut ≡ self.entry.options.cut }
-        ensures settings { begun.settings_of result ≡ settings_of (options_view self.entry.options) }
+        ensures { settings_view result.settings ≡ settings_of (options_view self.entry.options) }
     {
         Setup {
             alloc: self.alloc,
-            cut: self.options.cut,
-            now: self.options.now,
+            settings: self.settings,
         }
     }
 
     /// What the crew is asked for.
     pub fn order(self) -> Order<'a>
-        requires some { 1 ≤ self.options.cut }
-        requires most { self.options.cut ≤ 8388608 }
         ensures size { result.size ≡ self.entry.options.crew }
+        ensures few { result.size ≤ 8 }
         ensures settings { settings_view result.settings ≡ settings_of (options_view self.entry.options) }
         ensures time { result.time.now ≡ self.entry.options.time.now }
     {
         Order {
             alloc: self.alloc,
             size: self.options.crew,
-            settings: Settings {
-                cut: Cut::after(self.options.cut),
-                now: self.options.now,
-            },
+            settings: self.settings,
             time: self.options.time,
         }
     }

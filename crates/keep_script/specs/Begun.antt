@@ -5,12 +5,7 @@ use Rattle.keep_book.specs.declared.book.Book.{Book}
 use Rattle.keep_jobs.specs.Job.{SettingsData}
 use Rattle.keep_jobs.specs.Kits.{KitData}
 use Rattle.keep_ledger.specs.OnShelf.{OnShelf}
-use Rattle.keep_script.specs.declared.script.Setup.{Setup}
 use Rattle.keep_answers.specs.State.{State, no_notes}
-
--- what jobs go by
-abbrev pub settings_of : Setup → SettingsData
-settings_of setup = record { cut = setup.cut; now = setup.now }
 
 -- this ledger, nothing armed, no notes, and nothing answered yet
 abbrev pub begun : SettingsData → KitData → OnShelf → State

@@ -1,10 +1,11 @@
 ghost use Rattle.std.specs.Prelude.{◌≡◌, ◌≢◌, ◌≤◌, ◌<◌, ◌⊎◌, IfSome, length};
 ghost use Rattle.std.specs.Io.KnownBytes.{Keeps};
 ghost use Rattle.keep_book.specs.Armed.{HasSums, hooks_of, ledger_of, on_shelf};
+ghost use Rattle.keep_jobs.specs.Job.{settings_view};
 ghost use Rattle.keep_jobs.specs.Kits.{kit_view};
 ghost use Rattle.keep_answers.specs.Known.{Writes, WritesLines};
 ghost use Rattle.keep_answers.specs.State.{State, kit_of};
-ghost use Rattle.keep_script.specs.Begun.{begun_over, settings_of};
+ghost use Rattle.keep_script.specs.Begun.{begun_over};
 ghost use Rattle.keep_script.specs.Line.{longest_script};
 ghost use Rattle.keep_script.specs.Run.{Ends, EndsOver};
 ghost use Rattle.keep_script.specs.Status.{ReachesEnd};
@@ -13,7 +14,7 @@ use crate::flushing::flush;
 use crate::status::Status;
 use crate::turns::Turns;
 use keep_book::Book;
-use keep_jobs::Kit;
+use keep_jobs::{Kit, Settings};
 use keep_shelf::Shelf;
 use std::alloc::Global;
 use std::io::{Read, Write};
@@ -22,10 +23,7 @@ use std::io::{Read, Write};
 #[derive(Clone, Copy)]
 pub struct Setup {
     pub alloc: Global,
-    /// After how many bytes a backup cuts a file into blobs: 1 to 8,388,608.
-    pub cut: u32,
-    /// The moment for marks and sweeps: whole seconds since 1970-01-01T00:00:00Z.
-    pub now: i64,
+    pub settings: Settings,
 }
 
 /// Answers the lines of a script in turn, over the book that is opened of a shelf. The shelf is let go at the end.
@@ -46,11 +44,10 @@ pub fn run<S: Shelf, R: Read, W: Write>(
     reader: &mut R,
     writer: &mut W,
 ) -> Status
-    requires some { 0 < setup.cut }
-    requires most { setup.cut ≤ 8_388_608 }
+    requires some { 0 < setup.settings.cut.bytes }
     ensures answers { Writes (W.contents writer.old) (W.contents writer.new) (λ text. (after : State)
         × (kit_view kit.new ≡ kit_of after)
-        × EndsOver (S.shelved shelf) (settings_of setup) (kit_view kit.old)
+        × EndsOver (S.shelved shelf) (settings_view setup.settings) (kit_view kit.old)
         (R.remaining reader.old) (R.remaining reader.new) text result after) }
     ensures whole { result ≢ Status.WriteFailed → WritesLines (W.contents writer.old) (W.contents writer.new) }
     ensures limit { ReachesEnd result →
@@ -73,13 +70,11 @@ pub fn run_on<S: Shelf, R: Read, W: Write>(
     reader: &mut R,
     writer: &mut W,
 ) -> Status
-    requires some { 0 < setup.cut }
-    requires most { setup.cut ≤ 8_388_608 }
     requires sums { HasSums book.old }
     ensures answers { Writes (W.contents writer.old) (W.contents writer.new) (λ text. (after : State)
         × (ledger_of book.new ≡ after.book) × ((on_shelf book.new).shelf.failures ≡ after.failures)
         × (hooks_of book.new ≡ after.armed) × (kit_view kit.new ≡ kit_of after)
-        × Ends (begun_over (settings_of setup) (kit_view kit.old) book.old)
+        × Ends (begun_over (settings_view setup.settings) (kit_view kit.old) book.old)
         (R.remaining reader.old) (R.remaining reader.new) text result after) }
     ensures sums { HasSums book.new }
     ensures whole { result ≢ Status.WriteFailed → WritesLines (W.contents writer.old) (W.contents writer.new) }

@@ -67,7 +67,7 @@ impl From<OpenError> for Status {
 }
 
 /// Why a run ends before its script does.
-#[derive(Clone, Copy, PartialEq, Eq)]
+#[derive(Clone, Copy)]
 pub(crate) enum Stop {
     BadLine(Mistake),
     ReadFailed,

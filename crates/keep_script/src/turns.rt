@@ -4,7 +4,6 @@ ghost use Rattle.keep_jobs.specs.Job.{settings_view};
 ghost use Rattle.keep_jobs.specs.Kits.{kit_view};
 ghost use Rattle.keep_answers.specs.Known.{Writes, WritesLines};
 ghost use Rattle.keep_answers.specs.State.{no_notes, notes_of, state_of};
-ghost use Rattle.keep_script.specs.Begun.{settings_of};
 ghost use Rattle.keep_script.specs.Input.{Counted, ahead_of, left_of, unread_of};
 ghost use Rattle.keep_script.specs.Line.{longest_script};
 ghost use Rattle.keep_script.specs.Run.{Ends, Refuses, StopsAt};
@@ -16,7 +15,7 @@ use crate::script::Setup;
 use crate::status::{Status, Stop};
 use keep_answers::{Session, put_line};
 use keep_book::Book;
-use keep_jobs::{Cut, Kit, Settings};
+use keep_jobs::Kit;
 use keep_lines::{BadLine, Mistake};
 use keep_shelf::Shelf;
 use std::alloc::{AllocError, Global};
@@ -33,20 +32,17 @@ pub(crate) struct Turns {
 impl Turns {
     /// Nothing is read yet.
     pub fn new(setup: Setup) -> Result<Turns, AllocError>
-        requires some { 0 < setup.cut }
-        requires most { setup.cut ≤ 8_388_608 }
-        ensures settings { IfOk result (λ turns. settings_view turns.session.settings ≡ settings_of setup) }
+        ensures settings { IfOk result (λ turns. settings_view turns.session.settings ≡ settings_view setup.settings) }
         ensures notes { IfOk result (λ turns. notes_of turns.session.notes ≡ no_notes) }
         ensures faultless { IfOk result (λ turns. turns.session.faulted ≡ false) }
         ensures unread { IfOk result (λ turns. unread_of turns.input ≡ []) }
         ensures ahead { IfOk result (λ turns. ahead_of turns.input ≡ longest_script) }
     {
-        let Setup { alloc, cut, now } = setup;
-        let cut = Cut::after(cut);
+        let Setup { alloc, settings } = setup;
         Ok(Turns {
             alloc,
             input: Input::new(alloc)?,
-            session: Session::new(alloc, Settings { cut, now }),
+            session: Session::new(alloc, settings),
         })
     }
 

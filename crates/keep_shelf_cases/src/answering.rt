@@ -1,4 +1,3 @@
-ghost use Rattle.std.specs.Prelude.{◌<◌, ◌≤◌};
 ghost use Rattle.keep_book.specs.Armed.{HasSums};
 
 use keep_book::Book;
@@ -14,9 +13,7 @@ pub(crate) fn answer_on<S: Shelf>(
     script: &str,
     text: &mut Vec<u8>,
 ) -> Status
-    requires some { 0 < setup.cut }
-    requires most { setup.cut ≤ 8_388_608 }
-    requires sums { HasSums book.old }
+    requires { HasSums book.old }
     ensures { HasSums book.new }
 {
     run_on(setup, book, kit, &mut script.as_bytes(), text)
@@ -29,9 +26,6 @@ pub(crate) fn answer_over<S: Shelf>(
     kit: &mut Kit,
     script: &str,
     text: &mut Vec<u8>,
-) -> Status
-    requires some { 0 < setup.cut }
-    requires most { setup.cut ≤ 8_388_608 }
-{
+) -> Status {
     run(setup, shelf, kit, &mut script.as_bytes(), text)
 }

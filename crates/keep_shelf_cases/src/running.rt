@@ -1,4 +1,3 @@
-ghost use Rattle.std.specs.Prelude.{◌<◌, ◌≤◌};
 ghost use Rattle.keep_book.specs.Armed.{HasSums};
 
 use crate::answering::{answer_on, answer_over};
@@ -12,7 +11,7 @@ use crate::stop::Stop;
 use crate::stops::show_stops;
 use keep_book::Book;
 use keep_filters::Filter;
-use keep_jobs::Kit;
+use keep_jobs::{Cut, Kit, Settings};
 use keep_recording::RecordingShelf;
 use keep_script::{Setup, Status};
 use keep_shelf::{FailingShelf, MemoryShelf};
@@ -226,14 +225,13 @@ fn answer_lines(
 }
 
 /// What each script goes by.
-fn setup(alloc: Global) -> Setup
-    ensures some { 0 < result.cut }
-    ensures most { result.cut ≤ 8_388_608 }
-{
+fn setup(alloc: Global) -> Setup {
     Setup {
         alloc,
-        cut: CUT,
-        now: NOW,
+        settings: Settings {
+            cut: Cut::after(CUT),
+            now: NOW,
+        },
     }
 }
 

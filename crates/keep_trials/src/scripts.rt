@@ -1,6 +1,6 @@
 use crate::readers::{Endless, EndlessLine, Interrupted, LineByLine, Slow};
 use crate::writers::{ByLine, Flushed, Narrow};
-use keep_jobs::Kit;
+use keep_jobs::{Cut, Kit, Settings};
 use keep_lines::Mistake;
 use keep_script::{Setup, Status, run};
 use keep_shelf::{MemoryShelf, Shelf};
@@ -27,8 +27,10 @@ pub fn end_over<S: Shelf, R: Read, W: Write>(
     };
     let setup = Setup {
         alloc,
-        cut: 1_048_576,
-        now: 1_000,
+        settings: Settings {
+            cut: Cut::after(1_048_576),
+            now: 1_000,
+        },
     };
     run(setup, shelf, &mut nothing_stored, reader, writer)
 }

@@ -11,7 +11,7 @@ pub work-requires : goal.work-requires
 work-requires g c = record {
   sums = c.requires.sums;
   some = let e = c.order.ensures.size in let low = c.requires.one in omega arith;
-  most = let e = c.order.ensures.size in let high = c.requires.few in omega arith;
+  most = c.order.ensures.few;
 }
 
 pub returns-in-Ok-clause-crews : goal.returns-in-Ok-clause-crews

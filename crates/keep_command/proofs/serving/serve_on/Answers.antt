@@ -4,9 +4,6 @@ use Rattle.keep_command.specs.NamedShelf.{shelved_of}
 use Rattle.keep_command.specs.Option.{options_view}
 use Rattle.keep_command.proofs.serving.serve_on.Goals as goal
 
-pub serve_over-requires : goal.serve_over-requires
-serve_over-requires g c = record { some = c.requires.some; most = c.requires.most; few = c.requires.few; sums = c.in-Ok.ensures.sums }
-
 pub returns-in-Ok-clause-serves : goal.returns-in-Ok-clause-serves
 returns-in-Ok-clause-serves g c =
     serves-opened (shelved_of c.args.shelf) (options_view c.args.terms.options) (kit_view c.args.kit.now) c.in-Ok.book

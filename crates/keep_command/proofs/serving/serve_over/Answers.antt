@@ -1,42 +1,14 @@
-use Rattle.std.proofs.Common.{arith, ap}
+use Rattle.std.proofs.Common.{ap}
 use Rattle.keep_book.specs.Armed.{hooks_of, ledger_of}
 use Rattle.keep_hooks.specs.Guards.{HooksData}
-use Rattle.keep_jobs.specs.Job.{SettingsData}
+use Rattle.keep_jobs.specs.Job.{SettingsData, settings_view}
 use Rattle.keep_jobs.specs.Kits.{kit_view}
-use Rattle.keep_script.specs.Begun as begun
 use Rattle.keep_script.specs.Begun.{begun_over}
 use Rattle.keep_command.proofs.CrewLemmas.{follows-where}
 use Rattle.keep_command.proofs.ServingLemmas.{keeps-followed, serves-answered}
 use Rattle.keep_command.specs.Option.{options_view}
 use Rattle.keep_command.specs.Running.{settings_of}
 use Rattle.keep_command.proofs.serving.serve_over.Goals as goal
-
-pub run_on-status-requires-clause-some : goal.run_on-status-requires-clause-some
-run_on-status-requires-clause-some g c =
-    let e = c.setup.ensures.cut in
-    let low = c.requires.some in
-    omega arith
-
-pub run_on-status-requires-clause-most : goal.run_on-status-requires-clause-most
-run_on-status-requires-clause-most g c =
-    let e = c.setup.ensures.cut in
-    let high = c.requires.most in
-    omega arith
-
-pub run_on-status-requires-clause-sums : goal.run_on-status-requires-clause-sums
-run_on-status-requires-clause-sums g c = c.requires.sums
-
-pub follow-requires-clause-some : goal.follow-requires-clause-some
-follow-requires-clause-some g c = c.requires.some
-
-pub follow-requires-clause-most : goal.follow-requires-clause-most
-follow-requires-clause-most g c = c.requires.most
-
-pub follow-requires-clause-few : goal.follow-requires-clause-few
-follow-requires-clause-few g c = c.requires.few
-
-pub follow-requires-clause-sums : goal.follow-requires-clause-sums
-follow-requires-clause-sums g c = c.run_on-status.ensures.sums
 
 pub returns-clause-serves : goal.returns-clause-serves
 returns-clause-serves g c =
@@ -49,8 +21,8 @@ returns-clause-serves g c =
     let new = g.W.Write.contents c.follow.new.writer in
     let book = c.run_on-status.new.book in
     let h = c.run_on-status.ensures.answers in
-    let start = ap (λ (s : SettingsData). begun_over s kit c.args.book) c.setup.ensures.settings in
-    serves-answered options (begun_over (begun.settings_of c.setup.result) kit c.args.book) (begun_over (settings_of options) kit c.args.book) h.2.0
+    let start = ap (λ (s : SettingsData). begun_over s kit c.args.book) c.setup.ensures in
+    serves-answered options (begun_over (settings_view c.setup.result.settings) kit c.args.book) (begun_over (settings_of options) kit c.args.book) h.2.0
     known left old middle new c.run_on-status.result c.follow.result start (h.0, h.1, h.2.5)
     (follows-where options (hooks_of book).vetoes h.2.0.armed.vetoes (ledger_of book) h.2.0.book middle new c.run_on-status.result c.follow.result
     (ap (λ (hooks : HooksData). hooks.vetoes) h.2.3) h.2.1 c.follow.ensures.follows)
