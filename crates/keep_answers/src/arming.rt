@@ -13,7 +13,7 @@ use keep_jobs::Kit;
 use keep_shelf::Shelf;
 
 /// Why nothing is armed.
-#[derive(Clone, Copy, PartialEq, Eq)]
+#[derive(Clone, Copy)]
 pub(crate) enum Unarmed {
     /// It is armed.
     DoubleName,

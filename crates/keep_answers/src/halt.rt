@@ -4,7 +4,7 @@ use keep_lines::{LineError, Mistake};
 use std::alloc::{AllocError, AllocFailed};
 
 /// Why a line isn't answered to its end.
-#[derive(Clone, Copy, PartialEq, Eq)]
+#[derive(Clone, Copy)]
 pub enum Halt {
     /// It isn't one of the language, for this cause. Nothing was done for it.
     BadLine(Mistake),

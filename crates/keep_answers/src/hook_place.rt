@@ -1,5 +1,5 @@
 /// Where the veto or the watch of a name is.
-#[derive(Clone, Copy, PartialEq, Eq)]
+#[derive(Clone, Copy)]
 pub(crate) enum HookPlace {
     /// It is armed.
     Armed,

@@ -29,7 +29,7 @@ pub(crate) enum Meant<'t, 'n> {
 }
 
 /// What can be told without a value.
-#[derive(Clone, Copy, PartialEq, Eq)]
+#[derive(Clone, Copy)]
 pub(crate) enum Topic {
     List,
     Count,

@@ -14,7 +14,7 @@ pub struct Order<'a> {
 }
 
 /// What a crew did.
-#[derive(Clone, Copy, Debug, PartialEq, Eq)]
+#[derive(Clone, Copy)]
 pub struct Tally {
     /// How many of its backups are in the journal.
     pub accepted: u64,
@@ -23,7 +23,7 @@ pub struct Tally {
 }
 
 /// Why no operator worked.
-#[derive(Clone, Copy, Debug, PartialEq, Eq)]
+#[derive(Clone, Copy)]
 pub enum NoCrew {
     Memory,
     /// There was no place for one of them.
