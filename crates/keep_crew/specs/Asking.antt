@@ -18,7 +18,6 @@ use Rattle.keep_crew.specs.Planned.{IsPlanned}
 use Rattle.keep_crew.specs.declared.answers.DeskError.{DeskError}
 use Rattle.keep_crew.specs.declared.answers.NotTold.{NotTold}
 use Rattle.keep_crew.specs.declared.answers.NotTold.TheVariants.{Unanswered, Unplanned}
-use Rattle.keep_crew.specs.declared.plans.NotPlanned.{NotPlanned}
 
 -- how many events these passes count
 abbrev pub count_of : List Known → ℕ
@@ -37,8 +36,8 @@ pub record Asks (rules : List Rule) (opening : LedgerState) (request : Request) 
   pub answered : IsAnswered rules opening request before after given
   pub counted : after.counted ≡ counted_after (has_event given) before.counted
 
--- it asked the desk to commit what it planned; or it planned nothing, and its answer says why
-abbrev pub CommitsPlanned : List Rule → LedgerState → Known → Known → Result Told NotTold → Result Planned NotPlanned → Type 0
+-- it asked the desk to commit what it planned; or its planner refused, and its answer says why
+abbrev pub CommitsPlanned : List Rule → LedgerState → Known → Known → Result Told NotTold → Result Planned PlanError → Type 0
 CommitsPlanned rules opening shown after answer (Ok planned) = Asks rules opening (request.Commit planned) shown after answer
 CommitsPlanned rules opening shown after answer (Err why) = (answer ≡ Err (Unplanned why)) × (after ≡ shown)
 
@@ -48,6 +47,6 @@ pub record PlansAndCommits (rules : List Rule) (opening : LedgerState) (wanted :
   pub shown : Known
   pub begins : IsPrefix before.seen shown.seen
   pub counted : shown.counted ≡ before.counted
-  pub planned : Result Planned NotPlanned
+  pub planned : Result Planned PlanError
   pub is_planned : let view = shown_at opening shown.seen in IsPlanned (wanted view) view planned
   pub commits : CommitsPlanned rules opening shown after answer planned

@@ -1,5 +1,5 @@
-use crate::plans::NotPlanned;
 use keep_ledger::Refusal;
+use keep_plan::PlanError;
 
 /// Why a desk didn't tell.
 #[derive(Drop)]
@@ -15,8 +15,8 @@ pub enum DeskError {
 /// Why an operator of a crew didn't tell.
 #[derive(Drop)]
 pub enum NotTold {
-    /// It had no change to ask for.
-    Unplanned(NotPlanned),
+    /// It had no change to ask for: its planner refused, on what was shown.
+    Unplanned(PlanError),
     /// The desk's answer.
     Unanswered(DeskError),
 }

@@ -9,5 +9,5 @@ mod work;
 
 pub use answers::{DeskError, NotTold};
 pub use gate::{Gate, OpenGate};
-pub use plans::{NotPlanned, Plans, plan_on};
+pub use plans::{Plans, plan_on};
 pub use work::Work;

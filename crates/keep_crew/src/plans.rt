@@ -1,10 +1,9 @@
-ghost use Rattle.std.specs.Prelude.{◌≡◌};
-ghost use mathlib.Core.List.{IsPrefix};
-ghost use Rattle.keep_pages.specs.Histories.{shown_at, IsLegal};
+ghost use Rattle.std.specs.Prelude.{◌≡◌, false, true};
+ghost use Rattle.keep_pages.specs.Histories.{shown_at};
 ghost use Rattle.keep_crew.specs.Planned.{IsPlanned};
 
 use keep_change::Planned;
-use keep_pass::{Pass, Shown};
+use keep_pass::Pass;
 use keep_plan::PlanError;
 use keep_register::Naming;
 use keep_view::View;
@@ -29,29 +28,14 @@ pub trait Plans: Drop + Send {
         ensures seen { IfOk result (λ planned. planned.seen ≡ view.now.length) };
 }
 
-/// Why an operator has no change to ask for.
-#[derive(Drop)]
-pub enum NotPlanned {
-    /// Its planner refused, on what was shown.
-    Refused(PlanError),
-    /// Nothing was shown: the desk is gone, or no page can be read.
-    NoView,
-}
-
-/// Plans on what is published now. It takes no lock, and waits for nobody.
-pub fn plan_on<B: Naming, P: Plans>(pass: &mut Pass<B>, plans: &P) -> Result<Planned, NotPlanned>
-    ensures begins { IsPrefix pass.old.seen pass.new.seen }
-    ensures legal { IsLegal B.hooks.vetoes B.opening pass.new.seen }
-    ensures counted { pass.new.counted ≡ pass.old.counted }
-    ensures planned { let shown = shown_at B.opening pass.new.seen in
+/// Plans on the page that the pass reads, and ends its reading. It takes no lock, and waits for nobody.
+pub fn plan_on<B: Naming, P: Plans>(pass: &mut Pass<B>, plans: &P) -> Result<Planned, PlanError>
+    requires { pass.old.shown ≡ true }
+    ensures leaves { pass.new ≡ record pass.old { shown = false } }
+    ensures planned { let shown = shown_at B.opening pass.old.seen in
         IsPlanned (P.wanted plans.now shown) shown result }
 {
-    let shown = Shown::of(pass);
-    let Some(view) = shown.get() else {
-        return Err(NotPlanned::NoView);
-    };
-    match plans.plan(&view) {
-        Ok(planned) => Ok(planned),
-        Err(error) => Err(NotPlanned::Refused(error)),
-    }
+    let planned = plans.plan(&pass.view());
+    pass.leave();
+    planned
 }

@@ -1,13 +1,18 @@
 ghost use Rattle.std.specs.Prelude.{◌≡◌, ℕ, ◌<◌, length};
 ghost use Rattle.std.specs.List.{slice_index_or};
+ghost use mathlib.Core.List.{IsPrefix};
+ghost use Rattle.keep_pages.specs.Histories.{shown_at, IsLegal};
 ghost use Rattle.keep_crew.specs.Asking.{PlansAndCommits, as_told};
+ghost use Rattle.keep_crew.specs.Planned.{IsPlanned};
 ghost use Rattle.keep_desk.specs.Crew.{DoesWork, HasWorked};
 
 use crate::desk::Desk;
 use crate::locked::Locked;
+use keep_change::Planned;
 use keep_crew::{DeskError, Gate, NotTold, Plans, Work, plan_on};
 use keep_ledger::Told;
 use keep_pass::Pass;
+use keep_plan::PlanError;
 use keep_register::{Keeper, Naming};
 use std::sync::Wait;
 use std::thread::{self, Threads};
@@ -73,7 +78,7 @@ impl<B: Naming + Send + Sync, R: Wait + Drop + Send, K: Keeper> Desk<B, Locked<B
         }
     }
 
-    /// Plans on what the pass shows, without the lock, and commits what was planned.
+    /// Plans on what is shown, and commits what was planned.
     fn plan_and_commit<W: Wait, P: Plans>(
         &self,
         rt: &W,
@@ -82,10 +87,30 @@ impl<B: Naming + Send + Sync, R: Wait + Drop + Send, K: Keeper> Desk<B, Locked<B
     ) -> Result<Told, NotTold>
         ensures { PlansAndCommits B.hooks.vetoes B.opening (P.wanted plans.now) pass.old pass.new result }
     {
-        match plan_on(pass, plans) {
+        match self.plan(rt, pass, plans) {
             Ok(planned) => answer_of(self.commit(rt, pass, planned)),
             Err(why) => Err(NotTold::Unplanned(why)),
         }
+    }
+
+    /// Plans on what is published now, without the lock. Where the pass can't enter that, it plans under the lock, on
+    /// all that is in.
+    pub fn plan<W: Wait, P: Plans>(
+        &self,
+        rt: &W,
+        pass: &mut Pass<B>,
+        plans: &P,
+    ) -> Result<Planned, PlanError>
+        ensures begins { IsPrefix pass.old.seen pass.new.seen }
+        ensures legal { IsLegal B.hooks.vetoes B.opening pass.new.seen }
+        ensures counted { pass.new.counted ≡ pass.old.counted }
+        ensures planned { let shown = shown_at B.opening pass.new.seen in
+            IsPlanned (P.wanted plans.now shown) shown result }
+    {
+        if pass.enter() {
+            return plan_on(pass, plans);
+        }
+        self.locked.lock(rt).plan(pass, plans)
     }
 }
 

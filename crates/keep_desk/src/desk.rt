@@ -1,4 +1,4 @@
-ghost use Rattle.std.specs.Prelude.{◌≡◌, ◌+◌, ◌<◌, ◌≤◌, length, IfErr, IfOk};
+ghost use Rattle.std.specs.Prelude.{◌≡◌, ◌+◌, ◌<◌, ◌≤◌, length, true, IfErr, IfOk};
 ghost use mathlib.Core.List.{IsPrefix};
 ghost use Rattle.keep_ledger.specs.Sums.{AreSums};
 ghost use Rattle.keep_journal.specs.declared.request.Request.TheVariants as request;
@@ -17,7 +17,7 @@ use keep_change::Planned;
 use keep_chronicle::Opened;
 use keep_crew::DeskError;
 use keep_ledger::{Request, Told};
-use keep_pass::{Pass, Shown};
+use keep_pass::{NoPage, Pass, Shown};
 use keep_register::{Keeper, Naming, Register};
 use std::alloc::Global;
 use std::marker::PhantomData;
@@ -28,17 +28,18 @@ use std::sync::{Mutex, Wait};
 ///
 /// It carries the type of what is locked, so that `view` stands where nothing that waits is in sight.
 pub struct Desk<B: Naming, L> {
-    locked: Mutex<L>,
+    pub(crate) locked: Mutex<L>,
     of: PhantomData<B>,
 }
 
 impl<B: Naming, L> Desk<B, L> {
-    /// Shows the pass what is published now. It waits for nobody.
-    pub fn view<'a>(&self, pass: &'a mut Pass<B>) -> Shown<'a, B>
-        ensures same { result.pass.ghost_name ≡ pass.entry.ghost_name }
-        ensures begins { IsPrefix pass.old.seen result.pass.now.seen }
-        ensures legal { IsLegal B.hooks.vetoes B.opening result.pass.now.seen }
-        ensures counted { result.pass.now.counted ≡ pass.old.counted }
+    /// Shows the pass what is published now. It takes no lock, and waits for nobody.
+    pub fn view<'a>(&self, pass: &'a mut Pass<B>) -> Result<Shown<'a, B>, NoPage>
+        ensures same { IfOk result (λ shown. shown.pass.ghost_name ≡ pass.entry.ghost_name) }
+        ensures reads { IfOk result (λ shown. shown.pass.now.shown ≡ true) }
+        ensures begins { IfOk result (λ shown. IsPrefix pass.old.seen shown.pass.now.seen) }
+        ensures legal { IfOk result (λ shown. IsLegal B.hooks.vetoes B.opening shown.pass.now.seen) }
+        ensures counted { IfOk result (λ shown. shown.pass.now.counted ≡ pass.old.counted) }
     {
         Shown::of(pass)
     }

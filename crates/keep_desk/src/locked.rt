@@ -5,21 +5,25 @@ ghost use Rattle.keep_journal.specs.declared.event.Event as the_event;
 ghost use Rattle.keep_ledger.specs.Sums.{AreSums};
 ghost use Rattle.keep_taken.specs.Taken.{AreTaken};
 ghost use Rattle.keep_book.specs.Cascade.{RefusesOrGives, taken_refusal};
-ghost use Rattle.keep_pages.specs.Histories.{state_of, IsHistory, IsLegal};
+ghost use Rattle.keep_pages.specs.Histories.{shown_at, state_of, IsHistory, IsLegal};
 ghost use Rattle.keep_register.specs.Asked.{WasAsked, counted_after, is_in};
 ghost use Rattle.keep_register.specs.Pages.{events_on};
 ghost use Rattle.keep_crew.specs.Answered.{IsAnswered, Tells, has_event, number_in};
 ghost use Rattle.keep_desk.specs.Cascade.{IsTakenBack};
 ghost use Rattle.keep_crew.specs.Asking.{count_of};
+ghost use Rattle.keep_crew.specs.Planned.{IsPlanned};
 ghost use Rattle.keep_desk.specs.Closed.{IsClosed};
 ghost use Rattle.keep_desk.specs.Held.{HasStep, Waits};
 
 use crate::press::Press;
 use crate::taken_back::TakenBack;
-use keep_crew::DeskError;
+use keep_change::Planned;
+use keep_crew::{DeskError, Plans};
 use keep_ledger::{Refusal, Request, Told};
-use keep_pass::Pass;
+use keep_pass::{Pass, shown_on};
+use keep_plan::PlanError;
 use keep_register::{Keeper, Naming, Register};
+use keep_view::View;
 use std::alloc::{AllocError, Global};
 use std::marker::Model;
 use std::sync::Wait;
@@ -120,6 +124,31 @@ impl<B: Naming, R: Wait + Drop, K: Keeper> Locked<B, R, K> {
             numbers,
             stopped: None,
         }
+    }
+
+    /// Publishes an event that came late before, tells the pass of all events, and plans on what is published then.
+    pub(crate) fn plan<P: Plans>(
+        &mut self,
+        pass: &mut Pass<B>,
+        plans: &P,
+    ) -> Result<Planned, PlanError>
+        ensures begins { IsPrefix pass.old.seen pass.new.seen }
+        ensures legal { IsLegal B.hooks.vetoes B.opening pass.new.seen }
+        ensures counted { pass.new.counted ≡ pass.old.counted }
+        ensures planned { let shown = shown_at B.opening pass.new.seen in
+            IsPlanned (P.wanted plans.now shown) shown result }
+    {
+        if let Err(AllocError) = self.catch_up(pass) {
+            return Err(PlanError::Memory);
+        }
+        plans.plan(&self.view())
+    }
+
+    /// What is published, as planners are shown it.
+    fn view(&self) -> View<'_>
+        ensures { result ≡ shown_at B.opening self.entry.now.published }
+    {
+        shown_on::<B>(self.press.page())
     }
 
     /// Ends the pass's reading, publishes an event that came late, and tells the pass of all events.

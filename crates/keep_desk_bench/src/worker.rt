@@ -94,8 +94,8 @@ fn take_views<B: Naming, L>(
         if left.load(Ordering::SeqCst) == 0 {
             return Some(views);
         }
-        let shown = desk.view(pass);
-        let now = shown.get()?.length();
+        let shown = desk.view(pass).ok()?;
+        let now = shown.get().length();
         if now < length {
             return None;
         }

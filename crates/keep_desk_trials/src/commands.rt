@@ -28,10 +28,10 @@ impl Command<'_> {
         desk: &Desk<N, L>,
         pass: &mut Pass<N>,
     ) -> Result<Planned, Fail> {
-        let shown = desk.view(pass);
-        let Some(view) = shown.get() else {
+        let Ok(shown) = desk.view(pass) else {
             return Err(Fail::new("nothing is shown"));
         };
+        let view = shown.get();
         match *self {
             Command::Backup(time, paths, bytes) => backup(alloc, &view, time, paths, bytes),
             Command::DropSnapshot => drop_snapshot(alloc, &view),

@@ -14,8 +14,8 @@ pub struct Found(pub u64, pub bool, pub bool);
 
 /// What the pass is shown now, if anything.
 pub fn look<N: Naming, L>(desk: &Desk<N, L>, pass: &mut Pass<N>) -> Option<Found> {
-    let shown = desk.view(pass);
-    let view = shown.get()?;
+    let shown = desk.view(pass).ok()?;
+    let view = shown.get();
     let a = has_index(view.repo(), A, b"a");
     let b = has_index(view.repo(), B, b"b");
     Some(Found(view.length(), a, b))

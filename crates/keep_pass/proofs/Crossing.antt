@@ -1,6 +1,6 @@
 -- A pass can be handed to another thread: what it reads is a page, which can be lent to several.
 use denote.RattleType.{RattleType}
-use denote.Param.Send.{Frees, IsSend, IsSync, enum_send, recorded_send, recorded_sync, sendable, struct_send, struct_sync, view_send}
+use denote.Param.Send.{IsSend, IsSync, enum_send, recorded_send, recorded_sync, sendable, struct_send, struct_sync, view_send}
 use denote.Struct.Declared as declared
 use denote.Enum.Declared as enum_declared
 use Rattle.std.proofs.Crossing.{Arc-send, frees, send as heap_send, sync as heap_sync}
@@ -29,7 +29,7 @@ use Rattle.left_right.proofs.part.Part.TheSendSync as parts
 use Rattle.keep_chronicle.specs.declared.chronicle.Chronicled as chronicled
 use Rattle.keep_register.specs.declared.naming.Naming as naming
 use Rattle.keep_register.specs.contracts.page.Page as page
-use Rattle.keep_register.proofs.Crossing.{page_send, page_sync}
+use Rattle.keep_register.proofs.Crossing.{page_sync}
 use Rattle.keep_pass.specs.contracts.pass.Pass as pass
 use Rattle.keep_pass.specs.contracts.rule.Published as published
 use Rattle.keep_pass.specs.contracts.rule.PublishedProtocolPageUnit.TheImpl as rules

@@ -1,10 +1,11 @@
-ghost use Rattle.std.specs.Prelude.{◌≡◌, [], false, IfSome};
+ghost use Rattle.std.specs.Prelude.{◌≡◌, [], false, true};
 ghost use mathlib.Core.List.{IsPrefix};
 ghost use Rattle.keep_chronicle.specs.Chronicle.{events_of};
 ghost use Rattle.keep_pages.specs.Histories.{length_at, shown_at, IsHistory, IsLegal};
 ghost use Rattle.keep_register.specs.Asked.{WasAsked, counted_after, is_in};
 ghost use Rattle.keep_register.specs.Pages.{IsPage};
 
+use crate::page::shown_on;
 use crate::rule::{Published, Shows};
 use keep_chronicle::Sight;
 use keep_ledger::{Refusal, Request, Told};
@@ -85,25 +86,32 @@ impl<B: Naming> Pass<B> {
         }
     }
 
-    /// Takes the page that is published, and so has seen its events.
-    pub fn enter(&mut self)
+    /// Takes the page that is published, and so has seen its events. Answers whether it reads one then: none can be entered
+    /// where the end is gone from which pages are published. It takes no lock, and waits for nobody.
+    pub fn enter(&mut self) -> bool
+        ensures shown { self.new.shown ≡ result }
         ensures begins { IsPrefix self.old.seen self.new.seen }
         ensures legal { IsLegal B.hooks.vetoes B.opening self.new.seen }
         ensures counted { self.new.counted ≡ self.old.counted }
     {
         self.leave();
         let Some(reader) = self.reader.take() else {
-            return;
+            return false;
         };
         match reader.enter_as::<Shows<B>>() {
             Ok(reading) => self.read(reading),
-            Err(reader) => self.reader = Some(reader),
+            Err(reader) => {
+                self.reader = Some(reader);
+                false
+            }
         }
     }
 
     /// Keeps the reading, if its page goes on where the pass has come: it always does.
-    fn read(&mut self, reading: Reading<Page, (), Published<B>>)
-        requires { IsPage B.book B.hooks.vetoes B.opening reading.part.value }
+    fn read(&mut self, reading: Reading<Page, (), Published<B>>) -> bool
+        requires none { self.old.shown ≡ false }
+        requires page { IsPage B.book B.hooks.vetoes B.opening reading.part.value }
+        ensures shown { self.new.shown ≡ result }
         ensures begins { IsPrefix self.old.seen self.new.seen }
         ensures legal { IsLegal B.hooks.vetoes B.opening self.new.seen }
         ensures counted { self.new.counted ≡ self.old.counted }
@@ -111,21 +119,25 @@ impl<B: Naming> Pass<B> {
         let page = reading.get();
         if !page.goes_on(&self.sight, self.at) {
             self.reader = Some(reading.leave());
-            return;
+            return false;
         }
         self.sight = page.sight();
         self.at = page.length();
         if let Some(before) = self.reading.replace(reading) {
             before.leave();
         }
+        true
     }
 
     /// The page that it reads, as planners and readers are shown it.
-    pub fn view(&self) -> Option<View<'_>>
-        ensures { IfSome result (λ view. view ≡ shown_at B.opening self.now.seen) }
+    pub fn view(&self) -> View<'_>
+        requires { self.now.shown ≡ true }
+        ensures { result ≡ shown_at B.opening self.entry.now.seen }
     {
-        let reading = self.reading.as_ref()?;
-        Some(reading.get().view())
+        match &self.reading {
+            Some(reading) => shown_on::<B>(reading.get()),
+            None => unreachable!(),
+        }
     }
 
     /// Is told of all events.

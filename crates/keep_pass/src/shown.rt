@@ -1,10 +1,15 @@
-ghost use Rattle.std.specs.Prelude.{◌≡◌, false, IfSome};
+ghost use Rattle.std.specs.Prelude.{◌≡◌, false, true, IfOk};
 ghost use mathlib.Core.List.{IsPrefix};
 ghost use Rattle.keep_pages.specs.Histories.{shown_at, IsLegal};
 
 use crate::pass::Pass;
 use keep_register::Naming;
 use keep_view::View;
+
+/// No page can be entered, as where the end is gone from which pages are published. A desk has that end as long as it is
+/// there.
+#[derive(Clone, Copy)]
+pub struct NoPage;
 
 /// A view that a pass takes. The pass stays with it as long as it lives.
 pub struct Shown<'a, B: Naming> {
@@ -13,20 +18,23 @@ pub struct Shown<'a, B: Naming> {
 
 impl<'a, B: Naming> Shown<'a, B> {
     /// What is published now. It takes no lock, and waits for nobody.
-    pub fn of(pass: &'a mut Pass<B>) -> Shown<'a, B>
-        ensures same { result.pass.ghost_name ≡ pass.entry.ghost_name }
-        ensures begins { IsPrefix pass.old.seen result.pass.now.seen }
-        ensures legal { IsLegal B.hooks.vetoes B.opening result.pass.now.seen }
-        ensures counted { result.pass.now.counted ≡ pass.old.counted }
+    pub fn of(pass: &'a mut Pass<B>) -> Result<Shown<'a, B>, NoPage>
+        ensures same { IfOk result (λ shown. shown.pass.ghost_name ≡ pass.entry.ghost_name) }
+        ensures reads { IfOk result (λ shown. shown.pass.now.shown ≡ true) }
+        ensures begins { IfOk result (λ shown. IsPrefix pass.old.seen shown.pass.now.seen) }
+        ensures legal { IfOk result (λ shown. IsLegal B.hooks.vetoes B.opening shown.pass.now.seen) }
+        ensures counted { IfOk result (λ shown. shown.pass.now.counted ≡ pass.old.counted) }
     {
-        pass.enter();
-        Shown { pass }
+        if !pass.enter() {
+            return Err(NoPage);
+        }
+        Ok(Shown { pass })
     }
 
-    /// The repository at the moment that the pass has come to. It is there always but where the desk is gone, or
-    /// no page can be read.
-    pub fn get(&self) -> Option<View<'_>>
-        ensures { IfSome result (λ view. view ≡ shown_at B.opening self.now.pass.now.seen) }
+    /// The repository at the moment that the pass has come to.
+    pub fn get(&self) -> View<'_>
+        requires { self.now.pass.now.shown ≡ true }
+        ensures { result ≡ shown_at B.opening self.entry.now.pass.now.seen }
     {
         self.pass.view()
     }
@@ -36,7 +44,7 @@ impl<'a, B: Naming> Drop for Shown<'a, B> {
     fn drop(self)
         ensures { self.exit.0.now ≡ record self.entry.pass.now { shown = false } }
     {
-        self.pass.leave();
-        let Shown { pass: _ } = self;
+        let Shown { pass } = self;
+        pass.leave();
     }
 }

@@ -3,7 +3,7 @@ use Rattle.keep_desk.proofs.crew.Desk+B+Locked+B+R+K.plan_and_commit.Goals as go
 
 pub returns-in-Ok : goal.returns-in-Ok
 returns-in-Ok g c = record {
-  shown = c.plan_on.new.pass;
+  shown = c.plan.new.pass;
   begins = c.in-Ok.ensures.begins;
   counted = c.in-Ok.ensures.counted;
   planned = Ok c.in-Ok.planned;

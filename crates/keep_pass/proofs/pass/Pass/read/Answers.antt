@@ -9,6 +9,6 @@ pub goes_on-requires-clause-counted : goal.goes_on-requires-clause-counted
 goes_on-requires-clause-counted g c =
     let opening = g.B.Naming.opening in (
       length_of opening.events,
-      rw c.get-page.ensures (page_length g.B.Chronicled.book g.B.Naming.hooks.vetoes opening c.args.reading.part.value c.requires),
+      rw c.get-page.ensures (page_length g.B.Chronicled.book g.B.Naming.hooks.vetoes opening c.args.reading.part.value c.requires.page),
       c.self.invariant.2 ∙ length_at-all opening (events_of c.self.inside.sight.log),
     )
