@@ -1,6 +1,6 @@
 ghost use Rattle.keep_book.specs.Armed.{HasSums};
 
-use anyhow::Result;
+use anyhow::{Result, anyhow};
 use keep_book::Book;
 use keep_change::{Change, Listed, Planned, StoredFile};
 use keep_ledger::{Refusal, Told};
@@ -15,14 +15,18 @@ const COMMITS: u32 = 1_024;
 
 /// The length of the history once all changes were made.
 pub(crate) fn commits(alloc: Global) -> Result<u64> {
-    let mut book = Book::open(alloc, filled(alloc)?)?;
+    let Ok(mut book) = Book::open(alloc, filled(alloc)?) else {
+        return Err(anyhow!("the shelf isn't opened"));
+    };
     commit_all(alloc, &mut book)?;
     Ok(book.ledger().history().length())
 }
 
 /// The undo of the first change, once all were made.
 pub(crate) fn undo_first(alloc: Global) -> Result<Told> {
-    let mut book = Book::open(alloc, filled(alloc)?)?;
+    let Ok(mut book) = Book::open(alloc, filled(alloc)?) else {
+        return Err(anyhow!("the shelf isn't opened"));
+    };
     commit_all(alloc, &mut book)?;
     Ok(book.undo(1)?)
 }

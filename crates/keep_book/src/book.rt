@@ -5,7 +5,7 @@ use crate::hooks::{Hooks, has_veto, has_watch};
 use crate::not_armed::NotArmed;
 use keep_change::Planned;
 use keep_hooks::{ArmedWatch, Veto, Watch};
-use keep_ledger::{Ledger, OpenError, Refusal, Request, Told};
+use keep_ledger::{Ledger, NotOpened, Refusal, Request, Told};
 use keep_shelf::Shelf;
 use std::alloc::{AllocError, Global};
 
@@ -29,19 +29,20 @@ impl<S: Shelf> Book<S> {
     ghost use Rattle.keep_ledger.specs.Ends.{heard};
     ghost use Rattle.keep_ledger.specs.LedgerState.{JustCommitted, LedgerState};
     ghost use Rattle.keep_ledger.specs.Limits.{event_limit};
-    ghost use Rattle.keep_ledger.specs.Opened.{IsNotOpened, IsOpened};
+    ghost use Rattle.keep_ledger.specs.Opened.{IsGivenBack, IsNotOpened, IsOpened};
     ghost use Rattle.keep_ledger.specs.Reply.{Restores, TakesBack};
     ghost use Rattle.keep_ledger.specs.Sums.{sums_of};
     ghost use Rattle.keep_journal.specs.declared.request.Request.TheVariants as request;
     ghost use Rattle.keep_book.specs.Armed.{Responds, HasSums, IsUnchanged, hook_of, hooks_of, is_double, ledger_of, on_shelf, with_veto, with_watch};
     ghost use Rattle.keep_book.specs.Names.{is_armed};
 
-    /// Opens a shelf as what it says, without vetoes and watches: `Ledger::open`, with the same errors.
-    pub fn open(alloc: Global, shelf: S) -> Result<Book<S>, OpenError>
+    /// Opens a shelf as what it says, without vetoes and watches: `Ledger::open`, which hands it back with the same errors.
+    pub fn open(alloc: Global, shelf: S) -> Result<Book<S>, NotOpened<S>>
         ensures opened { IfOk result (λ book. IsOpened (S.shelved shelf) (on_shelf book)) }
         ensures hooks { IfOk result (λ book. hooks_of book ≡ record { vetoes = []; watches = [] }) }
         ensures sums { IfOk result (λ book. HasSums book) }
-        ensures refused { IfErr result (IsNotOpened (S.shelved shelf)) }
+        ensures refused { IfErr result (λ given. IsNotOpened (S.shelved shelf) given.error) }
+        ensures given { IfErr result (λ given. IsGivenBack (S.shelved shelf) given.error (S.shelved given.shelf)) }
     {
         let ledger = Ledger::open(alloc, shelf)?;
         Ok(Book {

@@ -57,7 +57,7 @@ fn serve_on<'a, C: Crew, R: Read, W: Write>(
 {
     match Book::open(terms.alloc, shelf) {
         Ok(book) => serve_over(crew, terms, book, kit, reader, writer),
-        Err(error) => Ending::Ran(Status::from(error)),
+        Err(given) => Ending::Ran(Status::from(given.error)),
     }
 }
 

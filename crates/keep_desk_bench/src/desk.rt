@@ -31,7 +31,9 @@ pub(crate) fn run<R>(rt: &R, alloc: Global, crew: &Crew) -> Result<Ran>
 where
     R: Wait + Threads + Clock + CpuClock + Copy + Send + Sync,
 {
-    let book = Book::open(alloc, filled(alloc)?)?;
+    let Ok(book) = Book::open(alloc, filled(alloc)?) else {
+        return Err(anyhow!("the shelf isn't opened"));
+    };
     run_over(rt, alloc, book, crew)
 }
 

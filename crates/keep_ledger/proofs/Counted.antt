@@ -16,7 +16,7 @@ use Rattle.keep_journal.specs.declared.request.Told.{Told}
 use Rattle.keep_journal.specs.declared.request.Request.{Request}
 use Rattle.keep_journal.specs.declared.request.Request.TheVariants.{Commit, Undo, Redo, Empty}
 
-played_more : (xs ys : List Call) (s : Shelved) → played (xs ++ ys) s ≡ played ys (played xs s)
+pub played_more : (xs ys : List Call) (s : Shelved) → played (xs ++ ys) s ≡ played ys (played xs s)
 played_more xs ys s = fold-append (λ (t : Shelved) call. called t (left_by t.content call)) s xs ys
 
 -- all calls of an event are those that enter it and its moves
@@ -55,7 +55,7 @@ accepted_counted before after none = record {
 
 -- ---- failures
 
-no_failure : (calls : List Call) (s : Shelved) → (played calls s).failures ≡ s.failures
+pub no_failure : (calls : List Call) (s : Shelved) → (played calls s).failures ≡ s.failures
 no_failure [] s = refl
 no_failure (call ∷ calls) s = no_failure calls (called s (left_by s.content call))
 

@@ -18,3 +18,4 @@ pub mod Taken
 pub mod Telling
 pub mod Totals
 pub mod Undoing
+pub mod Unopened

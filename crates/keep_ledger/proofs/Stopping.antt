@@ -24,16 +24,16 @@ use Rattle.keep_journal.specs.declared.request.Request.{Request}
 
 -- ---- the record of a shelf grew by contents of which something holds
 
-record Grown (P : Content → Type 0) (s t : Shelved) : Type 0 where
-  more : List Content
-  is : t.calls ≡ s.calls ++ more
-  all : AllByRecursion P more
+pub record Grown (P : Content → Type 0) (s t : Shelved) : Type 0 where
+  pub more : List Content
+  pub is : t.calls ≡ s.calls ++ more
+  pub all : AllByRecursion P more
 
 module _ (P : Content → Type 0) where
-  grown_by : (calls : List Call) (s : Shelved) → AllByRecursion P (contents_along calls s.content) → Grown P s (played calls s)
+  pub grown_by : (calls : List Call) (s : Shelved) → AllByRecursion P (contents_along calls s.content) → Grown P s (played calls s)
   grown_by calls s all = record { more = contents_along calls s.content; is = calls_added calls s; all = all }
 
-  grown_then : (s t u : Shelved) → Grown P s t → Grown P t u → Grown P s u
+  pub grown_then : (s t u : Shelved) → Grown P s t → Grown P t u → Grown P s u
   grown_then s t u first later = record {
     more = first.more ++ later.more;
     is = later.is ∙ ap (λ cs. cs ++ later.more) first.is ∙ append_assoc s.calls first.more later.more;
@@ -47,10 +47,10 @@ module _ (P : Content → Type 0) where
     all = all_append P grown.more (content ∷ []) grown.all (holds, tt);
   }
 
-  grown_failed : (s t : Shelved) → Grown P s t → Grown P s (failed t)
+  pub grown_failed : (s t : Shelved) → Grown P s t → Grown P s (failed t)
   grown_failed s t grown = record { more = grown.more; is = grown.is; all = grown.all }
 
-  grown_all : (s t : Shelved) → Grown P s t → AllByRecursion P (drop (length s.calls) t.calls)
+  pub grown_all : (s t : Shelved) → Grown P s t → AllByRecursion P (drop (length s.calls) t.calls)
   grown_all s t grown =
       subst (AllByRecursion P) (sym (ap (drop (length s.calls)) grown.is ∙ drop-append_seam s.calls grown.more)) grown.all
 

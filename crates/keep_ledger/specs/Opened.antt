@@ -1,11 +1,12 @@
--- What is opened of a shelf, and why nothing is.
-use Rattle.std.specs.Prelude.{◌≡◌, ℕ, ◌+◌, Bool, true, false, List, [], ◌++◌, length, map, Option, Some, None}
+-- What is opened of a shelf, why nothing is, and what is given back then.
+use Rattle.std.specs.Prelude.{◌≡◌, ◌≢◌, ℕ, ◌+◌, ◌<◌, ◌≤◌, ◌⊎◌, Bool, true, false, List, [], ◌++◌, drop, length, map, take, Option, Some, None}
 use Rattle.std.specs.FinMap as finite
-use Rattle.std.specs.List.{filter_map, list_all}
+use Rattle.std.specs.List.{AllByRecursion, filter_map, list_all}
 use Rattle.keep_names.specs.declared.file_name.FileName.{FileName}
 use Rattle.keep_repo.specs.Repository.{Repository}
+use Rattle.keep_journal.specs.Journal.{Journal}
 use Rattle.keep_journal.specs.Opening.{IsOpen}
-use Rattle.keep_shelf.specs.Shelved.{Content, Shelved}
+use Rattle.keep_shelf.specs.Shelved.{Content, Shelved, failed, risen}
 use Rattle.keep_shelf.specs.declared.key.Key.{Key}
 use Rattle.keep_shelf.specs.declared.key.Key.TheVariants.{Live, Trash, Entry}
 use Rattle.keep_moves.specs.Calls.{Make, looks, played}
@@ -37,6 +38,47 @@ abbrev pub IsNotOpened : Shelved → OpenError → Type 0
 IsNotOpened s (BadEntry k) = IsRefused (finite.get s.content) k
 IsNotOpened s Fault = Unit {0}
 IsNotOpened s Memory = Unit {0}
+
+-- ---- what is given back where nothing is opened
+
+-- one of the reads failed, the keys' list or what is under a key
+abbrev pub FaultsAtReads : Shelved → Shelved → Type 0
+FaultsAtReads s left = (i : ℕ) × (i < 1 + length (finite.keys s.content)) × (left ≡ failed (played (looks i) s))
+
+-- all were made, and then one of the moves failed that were left of the last event of what stands there
+pub record FaultsAtRest (s left : Shelved) : Type 0 where
+  pub opening : Repository
+  pub events : Journal
+  pub reads : Reads (finite.get s.content) opening events
+  pub made : ℕ
+  pub within : made < length (due_in events s.content)
+  pub shelf : left ≡ failed (played (looks (1 + length (finite.keys s.content)) ++ map Make (take made (due_in events s.content))) s)
+
+-- which calls were made: all reads where what stands there says nothing; some reads where memory ran out; and where a call failed it is the last one
+abbrev pub StopsOpening : Shelved → OpenError → Shelved → Type 0
+StopsOpening s (BadEntry k) left = left ≡ played (looks (1 + length (finite.keys s.content))) s
+StopsOpening s Fault left = FaultsAtReads s left ⊎ FaultsAtRest s left
+StopsOpening s Memory left = (i : ℕ) × (i ≤ 1 + length (finite.keys s.content)) × (left ≡ played (looks i) s)
+
+-- the shelf's count of failures: one more, up to the last value, just where that is why
+abbrev pub failures_left : OpenError → ℕ → ℕ
+failures_left (BadEntry k) n = n
+failures_left Fault n = risen n
+failures_left Memory n = n
+
+-- the content says what was said before, where something was
+abbrev pub SaysStill : Content → Content → Type 0
+SaysStill before content = (opening : Repository) (events : Journal) → Reads (finite.get before) opening events → Reads (finite.get content) opening events
+
+-- what becomes of a shelf that isn't opened
+pub record IsGivenBack (s : Shelved) (error : OpenError) (left : Shelved) : Type 0 where
+  pub calls : StopsOpening s error left
+  pub failures : left.failures ≡ failures_left error s.failures
+  -- where no call failed, all that stands there is as it was
+  pub same : error ≢ Fault → left.content ≡ s.content
+  -- and if one did, it says what it said, as does what each call left
+  pub says : SaysStill s.content left.content
+  pub stops : AllByRecursion (SaysStill s.content) (drop (length s.calls) left.calls)
 
 -- ---- a shelf that has live files alone
 

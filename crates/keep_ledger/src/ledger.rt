@@ -15,7 +15,7 @@ ghost use Rattle.keep_ledger.specs.Ends.{Ends, FaultsAtMoves, FaultsLast, heard}
 ghost use Rattle.keep_ledger.specs.Entering.{Enters, is_plain};
 ghost use Rattle.keep_ledger.specs.Guarding.{IsOutline, event_outline};
 ghost use Rattle.keep_ledger.specs.OnShelf.{settled};
-ghost use Rattle.keep_ledger.specs.Opened.{IsNotOpened, IsOpened};
+ghost use Rattle.keep_ledger.specs.Opened.{IsGivenBack, IsNotOpened, IsOpened};
 ghost use Rattle.keep_ledger.specs.Reply.{IsFormed, Replies, early_refusal, late_refusal, state_after, told_of};
 ghost use Rattle.keep_ledger.specs.Request.{CanBegin, CanBeMade};
 ghost use Rattle.keep_ledger.specs.Stops.{EachCallReads, IsShown};
@@ -23,6 +23,7 @@ ghost use Rattle.keep_ledger.specs.Sums.{AreSums};
 
 use crate::checks::{check_blocked, check_commit, check_empty, check_met, check_redo, check_undo};
 use crate::guarding::{check_vetoes, outline_at, outline_for, tell};
+use crate::not_opened::NotOpened;
 use crate::reply::Refusal;
 use keep_catalog::LiveRepo;
 use keep_change::{Outline, What};
@@ -92,15 +93,38 @@ impl<S: Shelf> Ledger<S> {
     /// Opens a shelf as what it says: the keys are listed and each file is read, and then the moves that were left of the
     /// last event are made.
     ///
-    /// `BadEntry` where what stands there says nothing; `Fault` where one of those calls fails; `Memory` where there is
-    /// none. The shelf is let go then, and nothing was changed on it before it was read.
-    pub fn open(alloc: Global, shelf: S) -> Result<Ledger<S>, OpenError>
+    /// `BadEntry` where what stands there says nothing; `Fault` where one of those calls fails, which is the last one;
+    /// `Memory` where there is none. The shelf is handed back then. But for `Fault` it was only read, and what stands
+    /// there says what it said, if something.
+    pub fn open(alloc: Global, shelf: S) -> Result<Ledger<S>, NotOpened<S>>
         ensures opened { IfOk result (λ ledger. IsOpened (S.shelved shelf) ledger) }
-        ensures refused { IfErr result (IsNotOpened (S.shelved shelf)) }
+        ensures refused { IfErr result (λ given. IsNotOpened (S.shelved shelf) given.error) }
+        ensures given { IfErr result (λ given. IsGivenBack (S.shelved shelf) given.error (S.shelved given.shelf)) }
     {
         let mut ledger = Ledger::read(alloc, shelf)?;
-        ledger.finish()?;
-        Ok(ledger)
+        match ledger.finish() {
+            Ok(()) => Ok(ledger),
+            Err(Fault) => Err(NotOpened {
+                shelf: ledger.into_shelf(),
+                error: OpenError::Fault,
+            }),
+        }
+    }
+
+    /// The shelf. All else is let go.
+    fn into_shelf(self) -> S
+        ensures { S.shelved result ≡ self.shelf }
+    {
+        let Ledger {
+            alloc: _,
+            live: _,
+            history: _,
+            touch: _,
+            moves: _,
+            made: _,
+            shelf,
+        } = self;
+        shelf
     }
 
     /// The present repository, with the bytes shared.

@@ -6,6 +6,7 @@ pub mod Going
 pub mod Joined
 pub mod Lasting
 pub mod Remade
+pub mod Short
 pub mod Trashed
 pub mod Unmade
 pub mod Whole

@@ -57,7 +57,7 @@ pub fn run<S: Shelf, R: Read, W: Write>(
 {
     match Book::open(setup.alloc, shelf) {
         Ok(mut book) => run_on(setup, &mut book, kit, reader, writer),
-        Err(error) => Status::from(error),
+        Err(given) => Status::from(given.error),
     }
 }
 

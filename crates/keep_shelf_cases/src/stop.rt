@@ -1,4 +1,4 @@
-use keep_ledger::OpenError;
+use keep_ledger::{NotOpened, OpenError};
 use keep_shelf::Fault;
 use std::alloc::{AllocError, AllocFailed};
 use std::io;
@@ -24,9 +24,9 @@ pub(crate) enum Stop {
     ReadFailed,
 }
 
-impl From<OpenError> for Stop {
-    fn from(error: OpenError) -> Stop {
-        Stop::NotOpened(error)
+impl<S: Drop> From<NotOpened<S>> for Stop {
+    fn from(given: NotOpened<S>) -> Stop {
+        Stop::NotOpened(given.error)
     }
 }
 

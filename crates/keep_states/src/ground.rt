@@ -4,7 +4,7 @@ use crate::stop::Stop;
 use keep_catalog::LiveRepo;
 use keep_hooks::NoHooks;
 use keep_journal::History;
-use keep_ledger::{Ledger, Refusal, Request, Told};
+use keep_ledger::{Ledger, OpenError, Refusal, Request, Told};
 use keep_repo::Repo;
 use keep_shelf::{Key, MemoryShelf, Shelf};
 use keep_view::View;
@@ -81,5 +81,5 @@ fn ledger_over(alloc: Global, repo: &Repo) -> Result<Ledger<MemoryShelf>, Stop> 
             shelf.write(Key::Live(*name), bytes)?;
         }
     }
-    Ok(Ledger::open(alloc, shelf)?)
+    Ok(Ledger::open(alloc, shelf).map_err(OpenError::from)?)
 }

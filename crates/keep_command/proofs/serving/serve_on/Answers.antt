@@ -17,9 +17,9 @@ returns-in-Ok-clause-lines g c = c.serve_over.ensures.lines
 pub returns-in-Err-clause-serves : goal.returns-in-Err-clause-serves
 returns-in-Err-clause-serves g c =
     serves-refused (shelved_of c.args.shelf) (options_view c.args.terms.options) (kit_view c.args.kit.now)
-    (g.R.Read.remaining c.args.reader.now) (g.W.Write.contents c.args.writer.now) c.in-Err.error c.from.result
+    (g.R.Read.remaining c.args.reader.now) (g.W.Write.contents c.args.writer.now) c.in-Err.given.error c.from.result
     c.from.ensures c.in-Err.ensures.refused
 
 pub returns-in-Err-clause-lines : goal.returns-in-Err-clause-lines
 returns-in-Err-clause-lines g c =
-    keeps-unopened (g.R.Read.remaining c.args.reader.now) (g.W.Write.contents c.args.writer.now) c.in-Err.error c.from.result c.from.ensures
+    keeps-unopened (g.R.Read.remaining c.args.reader.now) (g.W.Write.contents c.args.writer.now) c.in-Err.given.error c.from.result c.from.ensures

@@ -35,5 +35,5 @@ returns-in-Err-clause-answers g c =
     let settings = settings_view c.args.setup.settings in
     let kit = kit_view c.args.kit.now in
     let state = begun settings kit (record { state = new_ledger (record { files = map.empty; marks = map.empty }); due = []; shelf = shelf }) in
-    let h = EndsOver-refused shelf settings kit state (g.R.Read.remaining c.args.reader.now) (g.W.Write.contents c.args.writer.now) c.in-Err.error refl c.in-Err.ensures.refused in
+    let h = EndsOver-refused shelf settings kit state (g.R.Read.remaining c.args.reader.now) (g.W.Write.contents c.args.writer.now) c.in-Err.given.error refl c.in-Err.ensures.refused in
     rw c.from.ensures (h.0, h.1, (state, refl, h.2))
