@@ -1,0 +1,2 @@
+echo list | keepd --folder kept | grep snapshot
+grep -o '"time":"[^"]*"' kept/snapshots/*

@@ -1,0 +1,1 @@
+echo count | keepd --crew 3
