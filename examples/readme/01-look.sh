@@ -1,0 +1,1 @@
+tools/look < examples/cascade.txt
