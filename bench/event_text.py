@@ -1,4 +1,4 @@
-"""The event that the bytes of a journal entry tell, by docs/REFERENCE.md."""
+"""The event that the bytes of a journal entry tell, by docs/FORMATS.md."""
 import hashlib, json
 
 KINDS = ("pack", "index", "snapshot")

@@ -1,5 +1,5 @@
-"""What a folder says, told from its files in another way than the program does: by docs/REFERENCE.md,
-docs/ARCHITECTURE.md and the definitions of keep_reading."""
+"""What a folder says, told from its files in another way than the program does: by docs/FORMATS.md,
+docs/DESIGN.md and the definitions of keep_reading."""
 import hashlib, json, os, stat
 from dataclasses import dataclass
 
