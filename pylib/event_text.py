@@ -98,4 +98,4 @@ def change_in(value):
     require(len(set(files)) == len(files) and len(set(packs)) == len(packs) and len(files) + len(packs) <= 65_536)
     require(any(change[name] for name in ("adds", "drops", "sets", "clears")) and isinstance(value["strict"], bool))
     require(all(hashlib.sha256(content).hexdigest() == name for (_, name), content in change["adds"].items()))
-    return change
+    return change | {"strict": value["strict"]}
