@@ -78,7 +78,7 @@ marks_stay : (content : Content) (keys : List Key) (r : Repository) → (live_in
 marks_stay content [] r = refl
 marks_stay content (key ∷ keys) r = marks_stay content keys (with_live key (finite.get content key) r) ∙ same_marks key (finite.get content key) r
 
-live_found : (content : Content) (r : Repository) (name : FileName) → r.files ≡ finite.empty → finite.get (live_with content r).files name ≡ finite.get content (Live name)
+pub live_found : (content : Content) (r : Repository) (name : FileName) → r.files ≡ finite.empty → finite.get (live_with content r).files name ≡ finite.get content (Live name)
 live_found content r name bare =
     live_at content (finite.keys content) r name
     ∙ ap (option_or (cond (list_any (key_eq (Live name)) (finite.keys content)) (finite.get content (Live name)) None)) (ap (λ (files : Files). finite.get files name) bare ∙ finite.get-empty name_cmp name)

@@ -15,7 +15,7 @@ use keep_shelf::{Key, Stock};
 use std::alloc::AllocError;
 
 /// Puts the live files of the stock into the repository.
-pub(crate) fn put_live(stock: &Stock, repo: &mut Repo) -> Result<(), AllocError>
+pub fn put_live(stock: &Stock, repo: &mut Repo) -> Result<(), AllocError>
     ensures { OnOk result (repo.new ≡ live_into stock.now (map.keys stock.now) repo.old) }
 {
     let keys = stock.keys()?;
@@ -63,6 +63,16 @@ fn take_back(change: &Change, repo: &mut Repo) -> Result<(), AllocError>
 {
     put_files(change.drops.as_slice(), repo)?;
     take_files(change.adds.as_slice(), repo);
+    Ok(())
+}
+
+/// Does to files what the change does to them, be it met or not. Where memory runs out some are put.
+pub fn make_files(change: &Change, repo: &mut Repo) -> Result<(), AllocError>
+    ensures { let files = made.take_files change.now.drops (made.put_files change.now.adds repo.old.files) in
+        OnOk result (repo.new ≡ record repo.old { files = files }) }
+{
+    put_files(change.adds.as_slice(), repo)?;
+    take_files(change.drops.as_slice(), repo);
     Ok(())
 }
 

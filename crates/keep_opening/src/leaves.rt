@@ -11,7 +11,7 @@ use keep_shelf::{Key, Stock};
 use std::alloc::{AllocError, Global};
 
 /// What stands under the keys of entries, each read.
-pub(crate) fn leaves_of(alloc: Global, stock: &Stock) -> Result<Vec<Leaf>, AllocError>
+pub fn leaves_of(alloc: Global, stock: &Stock) -> Result<Vec<Leaf>, AllocError>
     ensures { IfOk result (λ leaves. AreLeaves (map.get stock.now) leaves.items) }
 {
     let keys = stock.keys()?;

@@ -14,7 +14,7 @@ use std::alloc::{AllocError, Global};
 
 /// Makes the last event's moves on what was taken in, but for the erasures of entries, be they made already or not.
 /// Where memory runs out, some are made.
-pub(crate) fn settle(alloc: Global, stock: &mut Stock, history: &History) -> Result<(), AllocError>
+pub fn settle(alloc: Global, stock: &mut Stock, history: &History) -> Result<(), AllocError>
     ensures { OnOk result (map.get stock.new ≡ settled history.now.journal (map.get stock.old)) }
 {
     let Some(last) = history.notices().last() else {

@@ -14,7 +14,7 @@ use keep_reading::Leaf;
 use std::alloc::Global;
 
 /// The history of what the leaves of a shelf still tell, or the first of them with which something is wrong.
-pub(crate) fn history_of(alloc: Global, leaves: Vec<Leaf>) -> Result<History, OpenError>
+pub fn history_of(alloc: Global, leaves: Vec<Leaf>) -> Result<History, OpenError>
     requires { (stand : Stand) × AreLeaves stand leaves.items }
     ensures told { IfOk result (λ history. history.journal ≡ told (entries_of leaves.items)) }
     ensures right { OnOk result (first_bad leaves.items ≡ None) }

@@ -17,7 +17,7 @@ use std::alloc::{AllocError, Global};
 
 /// What has to stand under the keys of files: the live ones, and in the trash what the changes that aren't final left
 /// there.
-pub(crate) fn wanted(alloc: Global, history: &History, live: &Repo) -> Result<Stock, AllocError>
+pub fn wanted(alloc: Global, history: &History, live: &Repo) -> Result<Stock, AllocError>
     requires formed { AreWellFormed history.now.journal }
     ensures live { IfOk result (λ stock. (name : FileName)
         → map.get stock (key.Live name) ≡ map.get live.now.files name) }
