@@ -1,0 +1,7 @@
+pub mod Asked
+pub mod Blame
+pub mod Compared
+pub mod Damage
+pub mod Entries
+pub mod Report
+pub mod Teller
