@@ -1,3 +1,4 @@
 pub mod Act
+pub mod Laws
 pub mod Path
 pub mod Stands

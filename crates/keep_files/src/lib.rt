@@ -2,9 +2,13 @@
 #![tactic(auto)]
 
 mod error;
+mod home;
+mod laws;
 mod node;
 mod tree;
 
 pub use error::TreeError;
+pub use home::home_of;
+pub use laws::acts_keep_folders;
 pub use node::Node;
 pub use tree::FileTree;
