@@ -1,4 +1,5 @@
 pub mod Act
+pub mod Content
 pub mod Laws
 pub mod Path
 pub mod Stands
