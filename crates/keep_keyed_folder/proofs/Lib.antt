@@ -1,0 +1,5 @@
+pub mod Acts
+pub mod Apart
+pub mod Cleared
+pub mod Content
+pub mod Left

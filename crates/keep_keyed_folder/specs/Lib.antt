@@ -1,0 +1,4 @@
+pub mod Keyed
+pub mod Left
+pub mod Order
+pub mod Tmp

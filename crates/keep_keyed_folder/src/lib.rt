@@ -1,0 +1,11 @@
+//! Files by keys in a tree: where each is put, moved and taken away, and in which order, so that a loss of power leaves
+//! each act done or not.
+#![tactic(auto)]
+
+mod files;
+mod keyed;
+mod leftovers;
+mod path;
+
+pub use keyed::KeyedFolder;
+pub use path::KeyPath;
