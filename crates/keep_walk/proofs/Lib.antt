@@ -1,0 +1,2 @@
+pub mod Awaited
+pub mod Way
