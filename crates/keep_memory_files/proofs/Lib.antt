@@ -1,2 +1,4 @@
+pub mod Between
 pub mod Listing
+pub mod Nearer
 pub mod Putting

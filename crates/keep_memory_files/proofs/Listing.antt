@@ -1,17 +1,22 @@
 -- A walk over the paths of a tree in memory, for those that a folder holds.
-use Rattle.std.proofs.Common.{◌≡◌, ◌∙◌, ◌↔◌, ℕ, Bool, true, false, cond, List, [], ◌∷◌, ◌++◌, Option, Some, None, IsTrue, is_some, refl, sym, ap, subst, inl, inr, ◌⊎◌, string_bytes}
+use Rattle.std.proofs.Common.{◌≡◌, ◌∙◌, ◌↔◌, ℕ, Bool, true, false, cond, Bor, List, [], ◌∷◌, ◌++◌, map, Option, Some, IsTrue, is_some, refl, sym, ap, subst, inl, inr, ◌⊎◌, string_bytes}
 use Rattle.std.proofs.lemmas.Map.Text.{is_eq-slice_cmp}
 use Rattle.std.proofs.lemmas.Slice.Eq.{bytes_eq-Decides}
-use Rattle.std.specs.BTreeMap.{BTreeMap, is_at, keys}
+use Rattle.std.specs.BTreeMap.{BTreeMap, is_at}
+use Rattle.std.specs.BTreeMap.Range.{entries_between, range_contains}
 use Rattle.std.specs.Bool.{Decides}
 use Rattle.std.specs.Cmp.Lexicographic.{slice_cmp}
+use Rattle.std.specs.List.{filter}
 use Rattle.std.specs.Map.{keys_of, lookup}
+use Rattle.std.specs.Map.Iter.{deref_pair}
 use Rattle.std.specs.Ordering.{nat_cmp}
-use Rattle.std.specs.Str.{bytes_eq}
+use Rattle.std.specs.String.{string_cmp}
 use Rattle.std.specs.declared.alloc.Global.{Global}
+use Rattle.std.specs.declared.ops.Bound.{Bound}
 use Rattle.std.specs.declared.string.String.{String}
 use Rattle.keep_files.specs.Path.{IsHeldIn, IsListed}
 use Rattle.keep_files.specs.declared.node.Node.{Node}
+use Rattle.keep_memory_files.specs.Bounds.{BoundAllIn}
 use Rattle.keep_memory_files.specs.Memory.{standing}
 
 -- of these paths those are found that the folder holds
@@ -89,10 +94,45 @@ there_listed (e ∷ es) path =
       λ h. elim h [ inl is ↦ one.1 (inl is) | inr there ↦ one.1 (inr (more.1 there)) ],
     )
 
--- once all paths were walked over
-pub all_found : (nodes : BTreeMap (String Global) Node) (found : List (String Global)) (folder : List ℕ) → Finds found (keys nodes) folder
+-- one entry more, if it passes
+one_kept : (b : Bool) (e : String Global × Node) (es kept : List (String Global × Node)) (path : List ℕ) → (IsListed (keys_of kept) path → IsListed (keys_of es) path)
+    → IsListed (keys_of (cond b (e ∷ kept) kept)) path → (string_bytes e.0 ≡ path) ⊎ IsListed (keys_of es) path
+one_kept true e es kept path more (inl is) = inl is
+one_kept true e es kept path more (inr rest) = inr (more rest)
+one_kept false e es kept path more rest = inr (more rest)
+
+still_kept : (b : Bool) (e : String Global × Node) (kept : List (String Global × Node)) (path : List ℕ) → IsListed (keys_of kept) path → IsListed (keys_of (cond b (e ∷ kept) kept)) path
+still_kept true e kept path rest = inr rest
+still_kept false e kept path rest = rest
+
+-- what passes a test is among all, and is all that is asked for where that passes
+passed_there : (test : String Global × Node → Bool) (entries : List (String Global × Node)) (path : List ℕ) → IsListed (keys_of (filter test entries)) path → IsListed (keys_of entries) path
+passed_there test [] path none = absurd none
+passed_there test (e ∷ es) path is = one_kept (test e) e es (filter test es) path (passed_there test es path) is
+
+there_passed : (test : String Global × Node → Bool) (entries : List (String Global × Node)) (path : List ℕ) → ((e : String Global × Node) → string_bytes e.0 ≡ path → test e ≡ true)
+    → IsListed (keys_of entries) path → IsListed (keys_of (filter test entries)) path
+there_passed test [] path passes none = absurd none
+there_passed test (e ∷ es) path passes (inl is) = subst (λ (b : Bool). IsListed (keys_of (cond b (e ∷ filter test es) (filter test es))) path) (sym (passes e is)) (inl is)
+there_passed test (e ∷ es) path passes (inr more) = still_kept (test e) e (filter test es) path (there_passed test es path passes more)
+
+-- once all paths between the bounds were walked over
+pub all_found : (nodes : BTreeMap (String Global) Node) (found : List (String Global)) (folder : List ℕ) (from to : Bound (String Global)) → BoundAllIn from to folder
+    → Finds found (keys_of (entries_between string_cmp from to nodes.entries)) folder
     → (path : List ℕ) → IsListed found path ↔ (IsTrue (is_some (standing nodes path)) × IsHeldIn path folder)
-all_found nodes found folder whole path = (
-  λ h. ((there_listed nodes.entries path).1 ((whole path).0 h).0, ((whole path).0 h).1),
-  λ h. (whole path).1 ((there_listed nodes.entries path).0 h.0, h.1),
-)
+all_found nodes found folder from to bounds whole path =
+    let test = λ (e : String Global × Node). range_contains string_cmp from to e.0 in (
+      λ h. ((there_listed nodes.entries path).1 (passed_there test nodes.entries path ((whole path).0 h).0), ((whole path).0 h).1),
+      λ h. (whole path).1 (
+        there_passed test nodes.entries path (λ e is. bounds.all e.0 (subst (λ p. IsHeldIn p folder) (sym is) h.1)) ((there_listed nodes.entries path).0 h.0),
+        h.1,
+      ),
+    )
+
+-- the paths of the entries that were walked over
+abbrev pub paths_of : List (Bor (String Global) × Bor Node) → List (String Global)
+paths_of pairs = keys_of (map deref_pair pairs)
+
+pub paths_of-push : (pairs : List (Bor (String Global) × Bor Node)) (pair : Bor (String Global) × Bor Node) → paths_of (pairs ++ pair ∷ []) ≡ paths_of pairs ++ pair.0.now ∷ []
+paths_of-push [] pair = refl
+paths_of-push (first ∷ pairs) pair = ap (λ (texts : List (String Global)). first.0.now ∷ texts) (paths_of-push pairs pair)

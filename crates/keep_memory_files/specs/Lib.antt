@@ -1,1 +1,4 @@
+pub mod Bounds
+pub mod Failing
 pub mod Memory
+pub mod Plan

@@ -1,5 +1,5 @@
 -- A tree in memory as a value.
-use Rattle.std.specs.Prelude.{List, [], ◌∷◌, ◌++◌, map, string_bytes}
+use Rattle.std.specs.Prelude.{[], ◌∷◌, ◌++◌, map, string_bytes}
 use Rattle.std.specs.BTreeMap.{BTreeMap, get_by_text}
 use Rattle.std.specs.declared.alloc.Global.{Global}
 use Rattle.std.specs.declared.string.String.{String}

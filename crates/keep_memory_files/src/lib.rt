@@ -2,7 +2,10 @@
 #![tactic(auto)]
 
 mod deed;
+mod failing;
 mod memory;
 mod place;
+mod plan;
 
+pub use failing::FailingTree;
 pub use memory::MemoryTree;

@@ -5,7 +5,7 @@ ghost use Rattle.keep_files.specs.Stands.{HasHome, put_at};
 ghost use Rattle.keep_files.specs.Stands as stands;
 
 use super::MemoryTree;
-use crate::place::is_held_in;
+use crate::place::{bounds_of, is_held_in};
 use keep_files::{Node, home_of};
 use std::alloc::AllocError;
 
@@ -40,13 +40,14 @@ impl MemoryTree {
         }
     }
 
-    /// The paths of what lies right in the folder.
+    /// The paths of what lies right in the folder. It looks at all that lies below it.
     pub(super) fn paths_in(&self, folder: &str) -> Result<Vec<String>, AllocError>
         ensures { IfOk result (λ found. (path : List ℕ) → IsListed found.items path
             ↔ (IsTrue (is_some ((seen_in self.now).stands path)) × IsHeldIn path folder.now)) }
     {
+        let bounds = bounds_of(self.alloc, folder)?;
         let mut found = Vec::new(self.alloc);
-        for path in self.nodes.keys() {
+        for (path, _) in self.nodes.range(bounds) {
             if is_held_in(path.as_str(), folder) {
                 found.push(path.clone()?)?;
             }

@@ -1,4 +1,4 @@
-use Rattle.std.proofs.Common.{◌∙◌, Option, Some, List, ℕ, ap}
+use Rattle.std.proofs.Common.{◌∙◌, Some, List, ℕ, ap}
 use Rattle.std.specs.String.{string_bytes}
 use Rattle.keep_files.specs.Stands.{put_at}
 use Rattle.keep_memory_files.proofs.Putting.{put_one}
