@@ -6,7 +6,7 @@ ghost use Rattle.keep_walk.specs.Walked.{IsOnTheWay, IsOpened, IsOrderly, IsRead
 use keep_files::{FileTree, Node, TreeError};
 use keep_paths::{holds_keys, key_is_sized, key_of_path};
 use keep_repo::Bytes;
-use keep_shelf::{Fault, MemoryShelf, Shelf};
+use keep_shelf::Stock;
 use std::alloc::Global;
 
 /// How many paths are looked at, at most. A tree that has more is given up.
@@ -14,14 +14,14 @@ const MAX_TURNS: u32 = 67_108_864;
 
 /// Reads all that is under keys in the tree. What has no key's path is passed over. A folder where a key's file would
 /// be is refused, and so is a file where a folder of such files would be.
-pub fn read_keys<T: FileTree>(alloc: Global, tree: &mut T) -> Result<MemoryShelf, TreeError>
+pub fn read_keys<T: FileTree>(alloc: Global, tree: &mut T) -> Result<Stock, TreeError>
     requires { IsClosed (T.seen tree.old).stands }
-    ensures read { IfOk result (λ shelf. HoldsFiles (T.seen tree.old).stands shelf.content) }
+    ensures read { IfOk result (λ found. HoldsFiles (T.seen tree.old).stands found) }
     ensures orderly { OnOk result (IsOrderly (T.seen tree.old).stands) }
     ensures ok { OnOk result (T.seen tree.new ≡ T.seen tree.old) }
     ensures err { OnErr result ((T.seen tree.new).stands ≡ (T.seen tree.old).stands) }
 {
-    let mut found = MemoryShelf::new(alloc);
+    let mut found = Stock::new(alloc);
     let mut paths = tree.list("")?;
     for _ in 0..MAX_TURNS {
         match paths.pop() {
@@ -35,13 +35,13 @@ pub fn read_keys<T: FileTree>(alloc: Global, tree: &mut T) -> Result<MemoryShelf
 /// Takes what stands at the path: a file's bytes under its key, and of a folder the paths in it.
 fn take<T: FileTree>(
     tree: &mut T,
-    found: &mut MemoryShelf,
+    found: &mut Stock,
     paths: &mut Vec<String>,
     path: String,
 ) -> Result<(), TreeError>
     requires closed { IsClosed (T.seen tree.old).stands }
-    requires way { IsOnTheWay (T.seen tree.old).stands found.old.content (paths.old.items ++ path ∷ []) }
-    ensures way { OnOk result (IsOnTheWay (T.seen tree.old).stands found.new.content paths.new.items) }
+    requires way { IsOnTheWay (T.seen tree.old).stands found.old (paths.old.items ++ path ∷ []) }
+    ensures way { OnOk result (IsOnTheWay (T.seen tree.old).stands found.new paths.new.items) }
     ensures ok { OnOk result (T.seen tree.new ≡ T.seen tree.old) }
     ensures err { OnErr result ((T.seen tree.new).stands ≡ (T.seen tree.old).stands) }
 {
@@ -74,8 +74,8 @@ fn take_folder<T: FileTree>(
 }
 
 /// Notes the bytes of a key's file, and passes another file over.
-fn take_file(found: &mut MemoryShelf, path: &str, bytes: &Bytes) -> Result<(), TreeError>
-    ensures { OnOk result (IsRead path.now bytes.now found.old.content found.new.content) }
+fn take_file(found: &mut Stock, path: &str, bytes: &Bytes) -> Result<(), TreeError>
+    ensures { OnOk result (IsRead path.now bytes.now found.old found.new) }
 {
     if holds_keys(path) {
         return Err(TreeError::Broken);
@@ -84,8 +84,6 @@ fn take_file(found: &mut MemoryShelf, path: &str, bytes: &Bytes) -> Result<(), T
         return Ok(());
     };
     key_is_sized(key);
-    match found.write(key, bytes) {
-        Ok(()) => Ok(()),
-        Err(Fault) => Err(TreeError::Broken),
-    }
+    found.write(key, bytes.clone()?)?;
+    Ok(())
 }

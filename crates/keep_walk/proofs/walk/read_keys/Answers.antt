@@ -1,6 +1,6 @@
 use Rattle.std.proofs.Common.{◌≡◌, ◌∙◌, List, Global, String, ap, length, refl, subst, sym, arith}
 use Rattle.std.specs.FinMap as map
-use Rattle.keep_shelf.specs.Shelved.{Shelved}
+use Rattle.keep_shelf.specs.Shelved.{Content}
 use Rattle.keep_files.specs.Act.{Seen}
 use Rattle.keep_files.specs.Content.{HoldsFiles}
 use Rattle.keep_files.specs.Stands.{IsClosed}
@@ -16,13 +16,13 @@ loop-init g c =
     let now = subst (λ (s : Seen). IsOnTheWay s.stands map.empty paths) (sym c.in_ok-paths.ensures.ok) way in
     record {
       same = refl;
-      way = subst (λ (s : Shelved). IsOnTheWay (seen c.list.new.self).stands s.content paths) (sym c.new-found.ensures) now;
+      way = subst (λ (s : Content). IsOnTheWay (seen c.list.new.self).stands s paths) (sym c.new-found.ensures) now;
     }
 
 pub loop-preserved : goal.loop-preserved
 loop-preserved g c = record {
   same = c.in_ok-take-in-Some.ensures.ok ∙ c.loop.invariant.same;
-  way = subst (λ (s : Seen). IsOnTheWay s.stands c.take.new.found.content c.take.new.paths.items) c.loop.invariant.same c.in_ok-take-in-Some.ensures.way;
+  way = subst (λ (s : Seen). IsOnTheWay s.stands c.take.new.found c.take.new.paths.items) c.loop.invariant.same c.in_ok-take-in-Some.ensures.way;
 }
 
 pub take-requires-clause-closed : goal.take-requires-clause-closed
@@ -30,8 +30,8 @@ take-requires-clause-closed g c = subst (λ (s : Seen). IsClosed s.stands) (sym 
 
 pub take-requires-clause-way : goal.take-requires-clause-way
 take-requires-clause-way g c =
-    let way = subst (λ (s : Seen). IsOnTheWay s.stands c.loop.found.content c.loop.paths.items) (sym c.loop.invariant.same) c.loop.invariant.way in
-    subst (λ (l : List (String Global)). IsOnTheWay (g.T.FileTree.seen c.loop.tree).stands c.loop.found.content l) c.in-Some.ensures.items way
+    let way = subst (λ (s : Seen). IsOnTheWay s.stands c.loop.found c.loop.paths.items) (sym c.loop.invariant.same) c.loop.invariant.way in
+    subst (λ (l : List (String Global)). IsOnTheWay (g.T.FileTree.seen c.loop.tree).stands c.loop.found l) c.in-Some.ensures.items way
 
 pub returns-in_err-take-in-Some-clause-err : goal.returns-in_err-take-in-Some-clause-err
 returns-in_err-take-in-Some-clause-err g c =
@@ -41,14 +41,14 @@ returns-in_err-take-in-Some-clause-err g c =
 pub returns-in-None-clause-read : goal.returns-in-None-clause-read
 returns-in-None-clause-read g c =
     let none : length c.loop.paths.items ≡ 0 = omega (arith, c.loop.paths.ok.0, c.in-None.ensures.cases.0) in
-    let content = c.loop.found.content in
+    let content = c.loop.found in
     let way = subst (λ (l : List (String Global)). IsOnTheWay (g.T.FileTree.seen c.list.new.self).stands content l) (none_left c.loop.paths.items none) c.loop.invariant.way in
     subst (λ (s : Seen). HoldsFiles s.stands content) c.in_ok-paths.ensures.ok (ended {A = Global} (g.T.FileTree.seen c.list.new.self).stands content way)
 
 pub returns-in-None-clause-orderly : goal.returns-in-None-clause-orderly
 returns-in-None-clause-orderly g c =
     let none : length c.loop.paths.items ≡ 0 = omega (arith, c.loop.paths.ok.0, c.in-None.ensures.cases.0) in
-    let content = c.loop.found.content in
+    let content = c.loop.found in
     let way = subst (λ (l : List (String Global)). IsOnTheWay (g.T.FileTree.seen c.list.new.self).stands content l) (none_left c.loop.paths.items none) c.loop.invariant.way in
     subst (λ (s : Seen). IsOrderly s.stands) c.in_ok-paths.ensures.ok (orderly {A = Global} (g.T.FileTree.seen c.list.new.self).stands content way)
 

@@ -6,5 +6,5 @@ use Rattle.keep_walk.proofs.walk.read_keys.Given as goal
 abbrev pub invariant-loop : goal.invariant-loop
 invariant-loop g l = record {
   same : g.T.FileTree.seen l.tree ≡ g.T.FileTree.seen l.initial.tree;
-  way : IsOnTheWay (g.T.FileTree.seen l.initial.tree).stands l.found.content l.paths.items;
+  way : IsOnTheWay (g.T.FileTree.seen l.initial.tree).stands l.found l.paths.items;
 }
