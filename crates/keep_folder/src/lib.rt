@@ -1,15 +1,14 @@
-//! A shelf in a folder of the file system, which holds a repository in restic's layout beside the journal and the
-//! trash.
+//! A shelf in a folder, over any tree of files: a repository in restic's layout, beside the journal and the trash.
 #![tactic(auto)]
 
-mod config;
-mod error;
-mod folder;
-mod lock;
-mod private;
-mod reading;
+mod content;
+mod not_opened;
+mod on_disk;
+mod run;
 mod shelf;
-mod walk;
 
-pub use error::FolderError;
+pub use keep_disk::{Cause, DiskTree, FolderError};
+pub use not_opened::NotOpened;
+pub use on_disk::open_folder;
+pub use run::name_of_run;
 pub use shelf::FolderShelf;

@@ -1,97 +1,294 @@
-ghost use Rattle.std.specs.Prelude.{◌≡◌, [], Err, IfOk, is_ok};
-ghost use Rattle.keep_folder.specs.declared.error.FolderError.TheVariants as the_error;
-ghost use Rattle.keep_shelf.specs.Shelved.{stocked};
+ghost use Rattle.std.specs.Prelude.{◌≡◌, ◌↔◌, IfErr, IfOk, IsTrue, OnErr, OnOk, is_some, string_bytes, true};
+ghost use Rattle.std.specs.FinMap as map;
+ghost use Rattle.keep_files.specs.Content.{HoldsFiles};
+ghost use Rattle.keep_files.specs.Stands.{IsClosed};
+ghost use Rattle.keep_keyed_folder.specs.Tmp.{IsTmp};
+ghost use Rattle.keep_files.specs.declared.error.TreeError.TheVariants.{Broken};
+ghost use Rattle.keep_shelf.specs.Shelved.{called, failed, shifted, stocked};
 
-use crate::config::check_config;
-use crate::error::FolderError;
-use crate::folder::Folder;
-use crate::lock::lock_folder;
-use crate::reading::PIECE;
-use crate::walk::read_keys;
+use crate::content::put_back;
+use crate::not_opened::NotOpened;
+use keep_files::{FileTree, TreeError};
+use keep_keyed_folder::{KeyPath, KeyedFolder};
+use keep_log::Log;
+use keep_paths::key_is_sized;
 use keep_repo::Bytes;
-use keep_shelf::{Fault, Key, MemoryShelf, Shelf};
+use keep_shelf::{Fault, Key, Shelf, Stock};
+use keep_walk::read_keys;
 use std::alloc::Global;
-use std::fs::{File, Files};
-use std::io;
 use std::marker::Model;
 
-/// A shelf in a folder of the file system. What stands on it is in memory too, from where it is read, and nothing else:
-/// the bytes of each file that is there now, and its key. What was replaced or erased is let go.
+/// A shelf in a folder. What stands on it is in memory too, from where it is read, and nothing else: the bytes of each
+/// file that is there now, and its key. What was replaced or erased is let go.
 ///
-/// The folder is this shelf's alone as long as it is open: others that open it are refused.
+/// What stands on it is what its folder holds, as long as that can be told. Where it isn't known of a call whether it was
+/// done, each later one fails before it does anything.
 #[derive(Drop)]
-pub struct FolderShelf<R> {
-    folder: Folder<R>,
-    memory: MemoryShelf,
+pub struct FolderShelf<T: FileTree> {
+    alloc: Global,
+    folder: KeyedFolder<T>,
+    content: Stock,
+    failures: u64,
+    /// What stood there when it was opened, as the one item.
+    made: Log<Stock>,
+    /// What each call that didn't fail left.
+    calls: Log<Stock>,
+    is_told: bool,
 }
 
-impl<R> Model for FolderShelf<R> {
-    ghost use Rattle.keep_shelf.specs.Shelved.{Shelved, coded_shelved};
+impl<T: FileTree> Model for FolderShelf<T> {
+    ghost use Rattle.std.specs.Prelude.{IsTrue, get_or};
+    ghost use Rattle.std.specs.FinMap as map;
+    ghost use Rattle.keep_files.specs.Content.{HoldsFiles};
+    ghost use Rattle.keep_files.specs.Stands.{IsClosed};
+    ghost use Rattle.keep_keyed_folder.specs.Keyed.{stands_in};
+    ghost use Rattle.keep_folder.specs.Told.{Told, coded_told};
 
-    ghost Value = { Shelved };
+    ghost Value = { Told };
 
-    ghost coded = { coded_shelved };
+    ghost coded = { coded_told };
 
-    ghost view = { λ s. s.memory };
+    ghost view = { λ s. record {
+      shelved = record {
+        made = get_or s.made.items 0 map.empty;
+        content = s.content;
+        failures = s.failures;
+        calls = s.calls.items;
+      };
+      is_told = s.is_told;
+    } };
+
+    ghost invariant = { λ s. IsClosed (stands_in T.seen s.folder)
+        × (IsTrue s.is_told → HoldsFiles (stands_in T.seen s.folder) s.content) };
 }
 
-impl<R: Files<File = File> + Alloc<A = Global> + Clone + Drop> FolderShelf<R> {
-    /// Reads the whole folder, which has to hold a config. What has no key's path there is passed over.
-    pub fn open(rt: R, root: &str) -> Result<FolderShelf<R>, FolderError>
-        ensures opened { IfOk result (λ shelf. shelf ≡ stocked shelf.content) }
-        ensures named { root.now ≡ [] → result ≡ Err the_error.Fault }
+impl<T: FileTree> FolderShelf<T> {
+    /// Reads all that lies under keys in the tree. Files that are under way get this name.
+    pub fn open(alloc: Global, tree: T, tmp: String) -> Result<FolderShelf<T>, NotOpened<T>>
+        requires closed { IsClosed (T.seen tree).stands }
+        requires tmp { IsTmp (string_bytes tmp) }
+        ensures opened { IfOk result (λ shelf. shelf.shelved ≡ stocked shelf.shelved.content) }
+        ensures told { IfOk result (λ shelf. IsTrue shelf.is_told) }
+        ensures read { IfOk result (λ shelf. HoldsFiles (T.seen tree).stands shelf.shelved.content) }
+        ensures given { IfErr result (λ given. (T.seen given.tree).stands ≡ (T.seen tree).stands) }
     {
-        if root.is_empty() {
-            return Err(FolderError::Fault);
+        let mut tree = tree;
+        match read_keys(alloc, &mut tree) {
+            Ok(content) => {
+                let made = Log::new().and(&content);
+                Ok(FolderShelf {
+                    alloc,
+                    folder: KeyedFolder::new(tree, tmp),
+                    content,
+                    failures: 0,
+                    made,
+                    calls: Log::new(),
+                    is_told: true,
+                })
+            }
+            Err(error) => Err(NotOpened { tree, error }),
         }
-        let alloc = rt.alloc();
-        let mut piece = vec![in alloc; 0u8; PIECE]?;
-        check_config(&rt, root, piece.as_mut_slice())?;
-        let lock = lock_folder(&rt, root)?;
-        let read = read_keys(&rt, root, piece)?;
-        let root = String::from_str(alloc, root)?;
-        Ok(FolderShelf {
-            folder: Folder::new(rt, root, lock),
-            memory: read.afresh(),
-        })
+    }
+
+    /// Whether it is known of each call whether it was done. Where it isn't, what stands in the folder can't be told
+    /// before it is opened again.
+    pub fn is_told(&self) -> bool
+        ensures { result ≡ self.now.is_told }
+    {
+        self.is_told
+    }
+
+    fn try_read(&mut self, key: Key) -> Result<Option<Bytes>, Fault>
+        ensures found { IfOk result (λ found. found ≡ map.get self.old.shelved.content key) }
+        ensures ok { OnOk result (self.new.shelved ≡ called self.old.shelved self.old.shelved.content) }
+        ensures err { OnErr result (self.new.shelved ≡ self.old.shelved) }
+        ensures told { OnOk result (IsTrue self.old.is_told) }
+        ensures same { self.new.is_told ≡ self.old.is_told }
+    {
+        self.require_told()?;
+        let found = self.content.shared(key)?;
+        self.note();
+        Ok(found)
+    }
+
+    fn try_list(&mut self) -> Result<Vec<Key>, Fault>
+        ensures listed { IfOk result (λ keys. keys.items ≡ map.keys self.old.shelved.content) }
+        ensures ok { OnOk result (self.new.shelved ≡ called self.old.shelved self.old.shelved.content) }
+        ensures err { OnErr result (self.new.shelved ≡ self.old.shelved) }
+        ensures told { OnOk result (IsTrue self.old.is_told) }
+        ensures same { self.new.is_told ≡ self.old.is_told }
+    {
+        self.require_told()?;
+        let keys = self.content.keys()?;
+        self.note();
+        Ok(keys)
+    }
+
+    fn try_write(&mut self, key: Key, bytes: &Bytes) -> Result<(), Fault>
+        ensures ok { OnOk result (self.new.shelved
+            ≡ called self.old.shelved (map.insert self.old.shelved.content key bytes.now)) }
+        ensures err { OnErr result (self.new.shelved ≡ self.old.shelved) }
+        ensures told { OnOk result (IsTrue self.old.is_told) }
+        ensures still { OnOk result (IsTrue self.new.is_told) }
+    {
+        self.require_told()?;
+        let path = KeyPath::new(self.alloc, key)?;
+        let was = self.content.write(key, bytes.clone()?)?;
+        if let Err(error) = self.folder.put(&path, bytes) {
+            put_back(&mut self.content, key, was);
+            self.is_told = is_told_by(error);
+            return Err(Fault);
+        }
+        self.note();
+        Ok(())
+    }
+
+    fn try_shift(&mut self, from: Key, to: Key) -> Result<(), Fault>
+        requires filled { IsTrue (is_some (map.get self.old.shelved.content from)) }
+        requires free { map.get self.old.shelved.content to ≡ None }
+        ensures ok { OnOk result (self.new.shelved
+            ≡ called self.old.shelved (shifted self.old.shelved.content from to)) }
+        ensures err { OnErr result (self.new.shelved ≡ self.old.shelved) }
+        ensures told { OnOk result (IsTrue self.old.is_told) }
+        ensures still { OnOk result (IsTrue self.new.is_told) }
+    {
+        self.require_told()?;
+        key_is_sized(from);
+        let source = KeyPath::new(self.alloc, from)?;
+        let target = KeyPath::new(self.alloc, to)?;
+        let Some(bytes) = self.content.shared(from)? else {
+            unreachable!()
+        };
+        self.content.write(to, bytes)?;
+        if let Err(error) = self.folder.shift(&source, &target) {
+            put_back(&mut self.content, to, None);
+            self.is_told = is_told_by(error);
+            return Err(Fault);
+        }
+        self.content.erase(from);
+        self.note();
+        Ok(())
+    }
+
+    fn try_erase(&mut self, key: Key) -> Result<(), Fault>
+        ensures ok { OnOk result (self.new.shelved
+            ≡ called self.old.shelved (map.remove self.old.shelved.content key)) }
+        ensures err { OnErr result (self.new.shelved ≡ self.old.shelved) }
+        ensures told { OnOk result (IsTrue self.old.is_told) }
+        ensures still { OnOk result (IsTrue self.new.is_told) }
+    {
+        self.require_told()?;
+        let path = KeyPath::new(self.alloc, key)?;
+        if self.content.get(key).is_none() {
+            self.note();
+            return Ok(());
+        }
+        if let Err(error) = self.folder.remove(&path) {
+            self.is_told = is_told_by(error);
+            return Err(Fault);
+        }
+        self.content.erase(key);
+        self.note();
+        Ok(())
+    }
+
+    /// Refuses a shelf that can't be told.
+    fn require_told(&self) -> Result<(), Fault>
+        ensures { OnOk result (IsTrue self.now.is_told) }
+    {
+        if self.is_told { Ok(()) } else { Err(Fault) }
+    }
+
+    /// Notes that a call was done, and left what stands there now.
+    fn note(&mut self)
+        ensures called { self.new.shelved ≡ called self.old.shelved self.old.shelved.content }
+        ensures same { self.new.is_told ≡ self.old.is_told }
+    {
+        self.calls = self.calls.and(&self.content);
+    }
+
+    /// Counts a call that failed.
+    fn fail(&mut self) -> Fault
+        ensures failed { self.new.shelved ≡ failed self.old.shelved }
+        ensures same { self.new.is_told ≡ self.old.is_told }
+    {
+        self.failures = self.failures.saturating_add(1);
+        Fault
     }
 }
 
-impl<R: Files<File = File> + Alloc<A = Global> + Drop> Shelf for FolderShelf<R> {
-    ghost shelved = { λ s. s };
+impl<T: FileTree> Shelf for FolderShelf<T> {
+    ghost shelved = { λ s. s.shelved };
 
-    fn read(&mut self, key: Key) -> Result<Option<Bytes>, Fault> {
-        self.memory.read(key)
+    fn read(&mut self, key: Key) -> Result<Option<Bytes>, Fault>
+        ensures found { IfOk result (λ found. found ≡ map.get self.old.shelved.content key) }
+        ensures ok { OnOk result (self.new.shelved ≡ called self.old.shelved self.old.shelved.content) }
+        ensures err { OnErr result (self.new.shelved ≡ failed self.old.shelved) }
+        ensures told { OnOk result (IsTrue self.old.is_told) }
+    {
+        match self.try_read(key) {
+            Ok(found) => Ok(found),
+            Err(Fault) => Err(self.fail()),
+        }
     }
 
-    fn write(&mut self, key: Key, bytes: &Bytes) -> Result<(), Fault> {
-        let folder = &mut self.folder;
-        self.memory
-            .write_with(key, bytes, || answer(folder.put(key, bytes.as_slice())))
+    fn write(&mut self, key: Key, bytes: &Bytes) -> Result<(), Fault>
+        ensures ok { OnOk result (self.new.shelved
+            ≡ called self.old.shelved (map.insert self.old.shelved.content key bytes.now)) }
+        ensures err { OnErr result (self.new.shelved ≡ failed self.old.shelved) }
+        ensures told { OnOk result (IsTrue self.old.is_told) }
+        ensures still { OnOk result (IsTrue self.new.is_told) }
+    {
+        match self.try_write(key, bytes) {
+            Ok(()) => Ok(()),
+            Err(Fault) => Err(self.fail()),
+        }
     }
 
-    fn shift(&mut self, from: Key, to: Key) -> Result<(), Fault> {
-        let folder = &mut self.folder;
-        self.memory
-            .shift_with(from, to, || answer(folder.shift(from, to)))
+    fn shift(&mut self, from: Key, to: Key) -> Result<(), Fault>
+        requires filled { IsTrue (is_some (map.get self.old.shelved.content from)) }
+        requires free { map.get self.old.shelved.content to ≡ None }
+        ensures ok { OnOk result (self.new.shelved
+            ≡ called self.old.shelved (shifted self.old.shelved.content from to)) }
+        ensures err { OnErr result (self.new.shelved ≡ failed self.old.shelved) }
+        ensures told { OnOk result (IsTrue self.old.is_told) }
+        ensures still { OnOk result (IsTrue self.new.is_told) }
+    {
+        match self.try_shift(from, to) {
+            Ok(()) => Ok(()),
+            Err(Fault) => Err(self.fail()),
+        }
     }
 
-    fn erase(&mut self, key: Key) -> Result<(), Fault> {
-        let folder = &mut self.folder;
-        self.memory.erase_with(key, || answer(folder.remove(key)))
+    fn erase(&mut self, key: Key) -> Result<(), Fault>
+        ensures ok { OnOk result (self.new.shelved
+            ≡ called self.old.shelved (map.remove self.old.shelved.content key)) }
+        ensures err { OnErr result (self.new.shelved ≡ failed self.old.shelved) }
+        ensures told { OnOk result (IsTrue self.old.is_told) }
+        ensures still { OnOk result (IsTrue self.new.is_told) }
+    {
+        match self.try_erase(key) {
+            Ok(()) => Ok(()),
+            Err(Fault) => Err(self.fail()),
+        }
     }
 
-    fn list(&mut self) -> Result<Vec<Key>, Fault> {
-        self.memory.list()
+    fn list(&mut self) -> Result<Vec<Key>, Fault>
+        ensures listed { IfOk result (λ keys. keys.items ≡ map.keys self.old.shelved.content) }
+        ensures ok { OnOk result (self.new.shelved ≡ called self.old.shelved self.old.shelved.content) }
+        ensures err { OnErr result (self.new.shelved ≡ failed self.old.shelved) }
+        ensures told { OnOk result (IsTrue self.old.is_told) }
+    {
+        match self.try_list() {
+            Ok(keys) => Ok(keys),
+            Err(Fault) => Err(self.fail()),
+        }
     }
 }
 
-/// What a call of the shelf answers, where the file system answered this.
-fn answer(done: io::Result<()>) -> Result<(), Fault>
-    ensures { is_ok result ≡ is_ok done }
+/// Whether it is known what became of an act that ended so.
+fn is_told_by(error: TreeError) -> bool
+    ensures { IsTrue result ↔ (error ≡ Broken) }
 {
-    match done {
-        Ok(()) => Ok(()),
-        Err(_) => Err(Fault),
-    }
+    matches!(error, TreeError::Broken)
 }
