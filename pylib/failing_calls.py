@@ -5,7 +5,7 @@ from folders import TOPS, new_folder, start
 from hostile import Harm
 from lines import answer_to
 
-# A call with what it is given: `mkdir("/x/journal", 0777) = 0`, `fsync(5</x/tmp>) = 0`.
+# A call with what it is given: `mkdir("/x/journal", 0777) = 0`, `fsync(5</x/tmp-17>) = 0`.
 CALL = re.compile(r"(\w+)\((.*)\) += ")
 PATH = re.compile(r'"((?:[^"\\]|\\.)*)"')
 OPEN_FILE = re.compile(r"\d+<(.*?)>")
@@ -51,6 +51,11 @@ def traced(top, lines):
     return folder, parts[:len(lines) + 1]
 
 
+def is_ours(path):
+    """Whether a run may write at this path below the folder."""
+    return path.startswith("/") and (path.startswith("/tmp-") or path.split("/")[1] in ("lock", *TOPS))
+
+
 def require_inside(folder, parts):
     """Sees that each call that may write does so below the folder; how many there are."""
     count = 0
@@ -59,7 +64,7 @@ def require_inside(folder, parts):
         if READS_ONLY.fullmatch(name) or opens_to_read or "sync" in name and paths == [""]:
             continue
         count += 1
-        if not paths or not all(path.startswith("/") and path.split("/")[1] in ("lock", "tmp", *TOPS) for path in paths):
+        if not paths or not all(is_ours(path) for path in paths):
             sys.exit(f"{name}({given}) is no call below {folder}")
     return count
 
@@ -71,7 +76,7 @@ def harms(course, parts):
         entry = next(number for number, (name, paths) in enumerate(calls) if name.startswith("rename"))
         for number, (name, paths) in enumerate(calls):
             turn = [other for other, _ in calls[:number + 1]].count(name)
-            syncs_folder = "sync" in name and paths != ["/tmp"]
+            syncs_folder = "sync" in name and not paths[0].startswith("/tmp-")
             ends = {"Fault"} if number <= entry else {"ok", "Unsettled"} if syncs_folder else {"Unsettled"}
             words = ("strace", "-qq", "-o", "/dev/null", "-e", f"inject={name}:error=ENOSPC:when={turn}")
             yield at, Harm(f"{name} {turn} of {', '.join(paths)} fails", lambda folder: None, lambda folder: None, ends,

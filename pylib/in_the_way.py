@@ -50,7 +50,7 @@ def harms(course):
     for at in course.events():
         after = course.stands[at + 1]
         for sort in FOR_FILES:
-            yield at, of_name("tmp", sort, {"Fault"} if "folder" in sort.split() else {"ok"})
+            yield at, of_name("tmp", sort, {"ok"})
         for name in sorted(course.comes(at)):
             first = "Fault" if name.startswith("journal") else "Unsettled"
             if after[name] == ("folder",):

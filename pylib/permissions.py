@@ -40,7 +40,7 @@ def of_folder(course, at, name, mode):
     def refusal(folder, end):
         if mode == UNWRITTEN:
             return "Fault" if end == "Unsettled" else None
-        return "BadConfig" if not name and mode == CLOSED else "Fault"
+        return "Fault"
 
     unsynced = mode == UNREAD and name in course.moves_in(at)
     return Harm(f"mode {mode:o} of the folder {name or 'itself'}", do, mend, ends_of(course, at, name, mode), refusal,
@@ -55,7 +55,7 @@ def of_file(name):
         os.chmod(os.path.join(folder, name), 0o644)
 
     def refusal(folder, end):
-        return "BadConfig" if name == "config" else "Fault"
+        return "Fault"
 
     return Harm(f"mode 0 of the file {name}", do, mend, {"ok"}, refusal, user=user())
 

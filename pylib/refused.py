@@ -43,7 +43,8 @@ class Trial:
         run = self.refuser.run(["--folder", self.folder], ASKED)
         if run.status != 0:
             raise Wrong(f"the folder isn't opened again: {run.status} {run.errors!r}")
-        files = {path: what for path, what in what_stands(self.folder).items() if what[0] == "file" and path != "tmp"}
+        stands = what_stands(self.folder)
+        files = {path: what for path, what in stands.items() if what[0] == "file" and not path.startswith("tmp-")}
         return "".join(run.answers), files
 
     def right(self, lines):
