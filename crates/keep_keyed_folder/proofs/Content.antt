@@ -1,5 +1,5 @@
 -- What lies under keys after an act.
-use Rattle.std.proofs.Common.{◌≡◌, ◌≢◌, ℕ, true, false, cond, IsTrue, inl, inr, List, Option, Some, None, Result, Ok, Err, refl, sym, ap, ◌∙◌, subst}
+use Rattle.std.proofs.Common.{◌⊎◌, ◌≡◌, ◌≢◌, ℕ, true, false, cond, IsTrue, inl, inr, List, Option, Some, None, Result, Ok, Err, refl, sym, ap, ◌∙◌, subst}
 use Rattle.std.proofs.lemmas.Bool.{cases_Bool, false≢true}
 use Rattle.std.specs.FinMap as map
 use Rattle.std.specs.FinMap.{get-insert, get-remove}
@@ -18,6 +18,10 @@ use Rattle.keep_files.specs.declared.error.TreeError.{TreeError}
 use Rattle.keep_files.specs.declared.error.TreeError.TheVariants.{Broken, Unknown}
 use Rattle.keep_files.specs.declared.node.Node.{Node}
 use Rattle.keep_files.specs.declared.node.Node.TheVariants.{Folder, File}
+use Rattle.keep_files.specs.Act.{Seen}
+use Rattle.keep_keyed_folder.proofs.Course.{InPut, InRemoval, InShift}
+use Rattle.keep_keyed_folder.proofs.Stopping.{keeps_still, keeps_weaker}
+use Rattle.keep_keyed_folder.specs.Stops.{Keeps}
 use Rattle.keep_keyed_folder.proofs.Apart.{not_tmp}
 use Rattle.keep_keyed_folder.specs.Left.{EndsAs, IsLeft, IsPut, IsSameOrMade, IsShifted, IsTaken, IsWidened}
 use Rattle.keep_keyed_folder.specs.Tmp.{IsCleared, IsTmp}
@@ -142,3 +146,47 @@ shifted_content {A} r s a b d from to source target content answer same leads_fr
     (ends_held r (IsShifted a b (key_path from) (key_path to)) (IsWidened a b (key_path to)) (HoldsFiles b (shifted content from to)) (HoldsFiles b content)
     (λ shift. held_shifted a b from to content from_is to_is apart file shift held)
     (λ widened. held_widened a b (key_path to) content widened held) at_both)
+
+-- ---- wherever the program stops
+
+put_held : (before now : Stands) (key : Key) (bytes tmp : List ℕ) (content : Content) → IsTmp tmp → IsKey key → HoldsFiles before content → InPut before (key_path key) bytes tmp now
+    → HoldsFiles now content ⊎ HoldsFiles now (map.insert content key bytes)
+put_held before now key bytes tmp content tmp_is key_is held (inl left) = inl (held_left before now (key_path key) tmp content tmp_is left held)
+put_held before now key bytes tmp content tmp_is key_is held (inr put) = inr (held_put before now key bytes tmp content tmp_is key_is put held)
+
+pub put_stops : (a b d : Seen) (key : Key) (path bytes tmp name : List ℕ) (content : Content) → d ≡ b → path ≡ key_path key → tmp ≡ name → IsTmp name → IsKey key
+    → Keeps (InPut a.stands path bytes tmp) a b → HoldsFiles a.stands content → Keeps (λ now. HoldsFiles now content ⊎ HoldsFiles now (map.insert content key bytes)) a d
+put_stops a b d key path bytes tmp name content same leads called tmp_is key_is keeps held =
+    let at_name = subst (λ t. Keeps (InPut a.stands path bytes t) a b) called keeps in
+    let at_key = subst (λ p. Keeps (InPut a.stands p bytes name) a b) leads at_name in
+    subst (λ (s : Seen). Keeps (λ now. HoldsFiles now content ⊎ HoldsFiles now (map.insert content key bytes)) a s) (sym same)
+    (keeps_weaker (InPut a.stands (key_path key) bytes name) (λ now. HoldsFiles now content ⊎ HoldsFiles now (map.insert content key bytes)) a b (λ now. put_held a.stands now key bytes name content tmp_is key_is held) at_key)
+
+taken_held : (before now : Stands) (key : Key) (content : Content) → IsKey key → HoldsFiles before content → InRemoval before (key_path key) now → HoldsFiles now content ⊎ HoldsFiles now (map.remove content key)
+taken_held before now key content key_is held (inl still) = inl (subst (λ e. HoldsFiles e content) (sym still) held)
+taken_held before now key content key_is held (inr taken) = inr (held_taken before now key content key_is taken held)
+
+pub taken_stops : (a b d : Seen) (key : Key) (path : List ℕ) (content : Content) → d ≡ b → path ≡ key_path key → IsKey key
+    → Keeps (InRemoval a.stands path) a b → HoldsFiles a.stands content → Keeps (λ now. HoldsFiles now content ⊎ HoldsFiles now (map.remove content key)) a d
+taken_stops a b d key path content same leads key_is keeps held =
+    let at_key = subst (λ p. Keeps (InRemoval a.stands p) a b) leads keeps in
+    subst (λ (s : Seen). Keeps (λ now. HoldsFiles now content ⊎ HoldsFiles now (map.remove content key)) a s) (sym same)
+    (keeps_weaker (InRemoval a.stands (key_path key)) (λ now. HoldsFiles now content ⊎ HoldsFiles now (map.remove content key)) a b (λ now. taken_held a.stands now key content key_is held) at_key)
+
+shifted_held : (before now : Stands) (from to : Key) (content : Content) → IsKey from → IsKey to → from ≢ to → IsTrue (is_file (before (key_path from))) → HoldsFiles before content
+    → InShift before (key_path from) (key_path to) now → HoldsFiles now content ⊎ HoldsFiles now (shifted content from to)
+shifted_held before now from to content from_is to_is apart file held (inl widened) = inl (held_widened before now (key_path to) content widened held)
+shifted_held before now from to content from_is to_is apart file held (inr shift) = inr (held_shifted before now from to content from_is to_is apart file shift held)
+
+pub shifted_stops : (a b d : Seen) (from to : Key) (source target : List ℕ) (content : Content) → d ≡ b → source ≡ key_path from → target ≡ key_path to → IsKey from → IsKey to → from ≢ to → IsTrue (is_file (a.stands (key_path from)))
+    → Keeps (InShift a.stands source target) a b → HoldsFiles a.stands content → Keeps (λ now. HoldsFiles now content ⊎ HoldsFiles now (shifted content from to)) a d
+shifted_stops a b d from to source target content same leads_from leads_to from_is to_is apart file keeps held =
+    let at_from = subst (λ p. Keeps (InShift a.stands p target) a b) leads_from keeps in
+    let at_both = subst (λ p. Keeps (InShift a.stands (key_path from) p) a b) leads_to at_from in
+    subst (λ (s : Seen). Keeps (λ now. HoldsFiles now content ⊎ HoldsFiles now (shifted content from to)) a s) (sym same)
+    (keeps_weaker (InShift a.stands (key_path from) (key_path to)) (λ now. HoldsFiles now content ⊎ HoldsFiles now (shifted content from to)) a b
+    (λ now. shifted_held a.stands now from to content from_is to_is apart file held) at_both)
+
+-- nothing was done
+pub still_stops : (a : Seen) (content other : Content) → HoldsFiles a.stands content → Keeps (λ now. HoldsFiles now content ⊎ HoldsFiles now other) a a
+still_stops a content other held = keeps_still (λ now. HoldsFiles now content ⊎ HoldsFiles now other) a a (inl held) refl refl

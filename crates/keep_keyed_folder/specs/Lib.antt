@@ -1,4 +1,5 @@
 pub mod Keyed
 pub mod Left
 pub mod Order
+pub mod Stops
 pub mod Tmp

@@ -1,11 +1,12 @@
 //! Acts on a tree by paths, after each of which what holds the name is synced.
-ghost use Rattle.std.specs.Prelude.{◌≡◌, ◌≢◌, ◌++◌, ◌∷◌, [], Err, IsTrue, List, OnOk, OnErr, false};
+ghost use Rattle.std.specs.Prelude.{◌≡◌, ◌≢◌, ◌⊎◌, ◌++◌, ◌∷◌, [], Err, IsTrue, List, OnOk, OnErr, false};
 ghost use Rattle.keep_files.specs.Act.{Act, Seen};
 ghost use Rattle.keep_files.specs.Path.{IsHeldIn};
 ghost use Rattle.keep_files.specs.Stands.{HasHome, IsClosed, is_file};
 ghost use Rattle.keep_keyed_folder.specs.Keyed.{HasFailure};
 ghost use Rattle.keep_keyed_folder.specs.Left.{EndsAs, IsLeft, IsPut, IsShifted, IsTaken, IsWidened};
 ghost use Rattle.keep_keyed_folder.specs.Order.{AreMade, AreSettled, IsPutInOrder, IsShiftedInOrder, IsTakenInOrder};
+ghost use Rattle.keep_keyed_folder.specs.Stops.{Keeps};
 ghost use Rattle.keep_keyed_folder.specs.Tmp.{IsApart};
 ghost use Rattle.keep_files.specs.declared.error.TreeError.TheVariants as the_error;
 
@@ -29,6 +30,9 @@ impl<T: FileTree> SoundFiles<T> {
         ensures closed { IsClosed (T.seen self.new.tree).stands }
         ensures left { let before = (T.seen self.old.tree).stands in let after = (T.seen self.new.tree).stands in
             EndsAs result (IsPut before after path.now bytes.now tmp.now) (IsLeft before after path.now tmp.now) }
+        ensures stops { let before = (T.seen self.old.tree).stands in
+            Keeps (λ now. IsLeft before now path.now tmp.now ⊎ IsPut before now path.now bytes.now tmp.now)
+            (T.seen self.old.tree) (T.seen self.new.tree) }
         ensures order { OnOk result (IsPutInOrder (T.seen self.old.tree).acts (T.seen self.new.tree).acts
             path.now bytes.now tmp.now self.new.is_sound) }
         ensures err { OnErr result (HasFailure (T.seen self.old.tree) (T.seen self.new.tree)) }
@@ -51,6 +55,9 @@ impl<T: FileTree> SoundFiles<T> {
         ensures closed { IsClosed (T.seen self.new.tree).stands }
         ensures left { let before = (T.seen self.old.tree).stands in let after = (T.seen self.new.tree).stands in
             EndsAs result (IsShifted before after from.now to.now) (IsWidened before after to.now) }
+        ensures stops { let before = (T.seen self.old.tree).stands in
+            Keeps (λ now. IsWidened before now to.now ⊎ IsShifted before now from.now to.now)
+            (T.seen self.old.tree) (T.seen self.new.tree) }
         ensures order { OnOk result (IsShiftedInOrder (T.seen self.old.tree).acts (T.seen self.new.tree).acts
             from.now to.now self.new.is_sound) }
         ensures err { OnErr result (HasFailure (T.seen self.old.tree) (T.seen self.new.tree)) }
@@ -70,6 +77,8 @@ impl<T: FileTree> SoundFiles<T> {
         ensures closed { IsClosed (T.seen self.new.tree).stands }
         ensures left { let before = (T.seen self.old.tree).stands in let after = (T.seen self.new.tree).stands in
             EndsAs result (IsTaken before after path.now) (after ≡ before) }
+        ensures stops { let before = (T.seen self.old.tree).stands in
+            Keeps (λ now. (now ≡ before) ⊎ IsTaken before now path.now) (T.seen self.old.tree) (T.seen self.new.tree) }
         ensures order { OnOk result (IsTakenInOrder (T.seen self.old.tree).acts (T.seen self.new.tree).acts
             path.now self.new.is_sound) }
         ensures err { OnErr result (HasFailure (T.seen self.old.tree) (T.seen self.new.tree)) }
@@ -100,6 +109,8 @@ impl<T: FileTree> SoundFiles<T> {
         ensures closed { IsClosed (T.seen self.new.tree).stands }
         ensures left { IsWidened (T.seen self.old.tree).stands (T.seen self.new.tree).stands path.now }
         ensures home { OnOk result (HasHome (T.seen self.new.tree).stands path.now) }
+        ensures stops { Keeps (λ now. IsWidened (T.seen self.old.tree).stands now path.now)
+            (T.seen self.old.tree) (T.seen self.new.tree) }
         ensures order { OnOk result ((made : List Act) × AreMade made
             × ((T.seen self.new.tree).acts ≡ (T.seen self.old.tree).acts ++ made)) }
         ensures none_failed { OnOk result ((T.seen self.new.tree).failures ≡ (T.seen self.old.tree).failures) }

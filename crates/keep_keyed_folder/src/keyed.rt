@@ -5,6 +5,7 @@ ghost use Rattle.keep_files.specs.Stands.{IsClosed, is_file};
 ghost use Rattle.keep_files.specs.declared.error.TreeError.TheVariants as the_error;
 ghost use Rattle.keep_keyed_folder.specs.Left.{EndsAs, IsLeft, IsPut, IsShifted, IsTaken, IsWidened};
 ghost use Rattle.keep_keyed_folder.specs.Order.{IsPutInOrder, IsShiftedInOrder, IsTakenInOrder};
+ghost use Rattle.keep_keyed_folder.specs.Stops.{Keeps};
 ghost use Rattle.keep_keyed_folder.specs.Tmp.{HasNoLeftovers, IsCleared, IsTmp};
 ghost use Rattle.keep_paths.specs.KeyPath.{key_path};
 ghost use Rattle.keep_shelf.specs.Shelved.{Content, shifted};
@@ -65,6 +66,9 @@ impl<T: FileTree> KeyedFolder<T> {
         ensures content { (content : Content) → HoldsFiles (stands_in T.seen self.old) content
             → EndsAs result (HoldsFiles (stands_in T.seen self.new) (map.insert content path.now.key bytes.now))
             (HoldsFiles (stands_in T.seen self.new) content) }
+        ensures stops { (content : Content) → HoldsFiles (stands_in T.seen self.old) content
+            → Keeps (λ now. HoldsFiles now content ⊎ HoldsFiles now (map.insert content path.now.key bytes.now))
+            (seen_in T.seen self.old) (seen_in T.seen self.new) }
         ensures order { OnOk result (IsPutInOrder (acts_in T.seen self.old) (acts_in T.seen self.new)
             (key_path path.now.key) bytes.now (tmp_in self.old) (is_sound_in self.new)) }
         ensures refused { is_sound_in self.old ≡ false → (result ≡ Err the_error.Broken) × (self.new ≡ self.old) }
@@ -92,6 +96,9 @@ impl<T: FileTree> KeyedFolder<T> {
         ensures content { (content : Content) → HoldsFiles (stands_in T.seen self.old) content
             → EndsAs result (HoldsFiles (stands_in T.seen self.new) (shifted content from.now.key to.now.key))
             (HoldsFiles (stands_in T.seen self.new) content) }
+        ensures stops { (content : Content) → HoldsFiles (stands_in T.seen self.old) content
+            → Keeps (λ now. HoldsFiles now content ⊎ HoldsFiles now (shifted content from.now.key to.now.key))
+            (seen_in T.seen self.old) (seen_in T.seen self.new) }
         ensures order { OnOk result (IsShiftedInOrder (acts_in T.seen self.old) (acts_in T.seen self.new)
             (key_path from.now.key) (key_path to.now.key) (is_sound_in self.new)) }
         ensures refused { is_sound_in self.old ≡ false → (result ≡ Err the_error.Broken) × (self.new ≡ self.old) }
@@ -118,6 +125,9 @@ impl<T: FileTree> KeyedFolder<T> {
         ensures content { (content : Content) → HoldsFiles (stands_in T.seen self.old) content
             → EndsAs result (HoldsFiles (stands_in T.seen self.new) (map.remove content path.now.key))
             (HoldsFiles (stands_in T.seen self.new) content) }
+        ensures stops { (content : Content) → HoldsFiles (stands_in T.seen self.old) content
+            → Keeps (λ now. HoldsFiles now content ⊎ HoldsFiles now (map.remove content path.now.key))
+            (seen_in T.seen self.old) (seen_in T.seen self.new) }
         ensures order { OnOk result (IsTakenInOrder (acts_in T.seen self.old) (acts_in T.seen self.new)
             (key_path path.now.key) (is_sound_in self.new)) }
         ensures refused { is_sound_in self.old ≡ false → (result ≡ Err the_error.Broken) × (self.new ≡ self.old) }

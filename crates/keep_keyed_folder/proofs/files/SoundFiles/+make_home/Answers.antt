@@ -1,9 +1,12 @@
-use Rattle.std.proofs.Common.{◌≡◌, Some, true, sym, ap, ◌∙◌, subst}
+use Rattle.std.proofs.Common.{◌≡◌, Some, true, sym, ap, ◌∙◌, subst, inl, refl}
 use Rattle.keep_files.specs.Act.{Made, Seen}
 use Rattle.keep_files.specs.Stands.{IsClosed, is_folder}
 use Rattle.keep_files.specs.declared.node.Node.TheVariants.{Folder}
 use Rattle.keep_keyed_folder.proofs.Acts.{closed_done, closed_failed, made_order}
 use Rattle.keep_keyed_folder.proofs.Left.{folder_there, home_made, widened_above, widened_made, widened_making, widened_same, widened_then}
+use Rattle.keep_keyed_folder.proofs.Course.{homed, making, making_failed}
+use Rattle.keep_keyed_folder.proofs.Stopping.{keeps_failing, keeps_still}
+use Rattle.keep_keyed_folder.specs.Left.{IsWidened}
 use Rattle.keep_keyed_folder.proofs.files.SoundFiles.+make_home.Goals as goal
 
 pub returns-in_default-clause-home : goal.returns-in_default-clause-home
@@ -90,3 +93,48 @@ returns-else-self-clause-left g t c =
     let third = widened_made homed made path c.in-Some.home.now c.in-Some.ensures.home c.in_ok-make_folder.ensures.can.0 (ap (λ (s : Seen). s.stands) c.in_ok-make_folder.ensures.ok) in
     let last = widened_same made after path c.settle.ensures.stands in
     widened_then before asked after path first (widened_then asked homed after path next (widened_then homed made after path third last))
+
+pub returns-in_default-clause-stops : goal.returns-in_default-clause-stops
+returns-in_default-clause-stops g t c =
+    let seen = g.T.FileTree.seen in
+    let s0 = seen c.args.self.now.tree in
+    keeps_still (λ now. IsWidened s0.stands now c.args.path.now) s0 s0 (λ q. inl refl) refl refl
+
+pub returns-in_err-has_folder-clause-stops : goal.returns-in_err-has_folder-clause-stops
+returns-in_err-has_folder-clause-stops g t c =
+    let seen = g.T.FileTree.seen in
+    let s0 = seen c.args.self.now.tree in
+    keeps_failing (λ now. IsWidened s0.stands now c.args.path.now) s0 (seen c.has_folder.new.self) (λ q. inl refl) c.in_err-has_folder.ensures.err
+
+pub returns-then-branch-clause-stops : goal.returns-then-branch-clause-stops
+returns-then-branch-clause-stops g t c =
+    let seen = g.T.FileTree.seen in
+    let s0 = seen c.args.self.now.tree in
+    keeps_still (λ now. IsWidened s0.stands now c.args.path.now) s0 (seen c.has_folder.new.self) (λ q. inl refl) (ap (λ (s : Seen). s.acts) c.in_ok-has_folder.ensures.ok) (ap (λ (s : Seen). s.stands) c.in_ok-has_folder.ensures.ok)
+
+pub returns-in_err-make_home-clause-stops : goal.returns-in_err-make_home-clause-stops
+returns-in_err-make_home-clause-stops g t c =
+    let seen = g.T.FileTree.seen in
+    let s0 = seen c.args.self.now.tree in
+    homed s0 (seen c.has_folder.new.self) (seen c.make_home.new.self.tree) c.args.path.now c.in-Some.home.now c.in_ok-has_folder.ensures.ok c.in-Some.ensures.home c.in_err-make_home.ensures.stops
+
+pub returns-in_err-make_folder-clause-stops : goal.returns-in_err-make_folder-clause-stops
+returns-in_err-make_folder-clause-stops g t c =
+    let seen = g.T.FileTree.seen in
+    let s0 = seen c.args.self.now.tree in
+    let above = homed s0 (seen c.has_folder.new.self) (seen c.make_home.new.self.tree) c.args.path.now c.in-Some.home.now c.in_ok-has_folder.ensures.ok c.in-Some.ensures.home c.in_ok-make_home.ensures.stops in
+    making_failed s0 (seen c.make_home.new.self.tree) (seen c.make_folder.new.self) c.args.path.now c.in-Some.home.now _ c.in-Some.ensures.home above c.in_err-make_folder.ensures.err
+
+pub returns-then-self-clause-stops : goal.returns-then-self-clause-stops
+returns-then-self-clause-stops g t c =
+    let seen = g.T.FileTree.seen in
+    let s0 = seen c.args.self.now.tree in
+    let above = homed s0 (seen c.has_folder.new.self) (seen c.make_home.new.self.tree) c.args.path.now c.in-Some.home.now c.in_ok-has_folder.ensures.ok c.in-Some.ensures.home c.in_ok-make_home.ensures.stops in
+    making s0 (seen c.make_home.new.self.tree) (seen c.make_folder.new.self) (seen c.settle.new.self.tree) c.args.path.now c.in-Some.home.now c.settle.new.self.is_sound c.in-Some.ensures.home above c.in_ok-make_folder.ensures.can c.in_ok-make_folder.ensures.ok c.settle.ensures.stands (c.settle.ensures.synced c.in_ok-make_home.ensures.still_sound)
+
+pub returns-else-self-clause-stops : goal.returns-else-self-clause-stops
+returns-else-self-clause-stops g t c =
+    let seen = g.T.FileTree.seen in
+    let s0 = seen c.args.self.now.tree in
+    let above = homed s0 (seen c.has_folder.new.self) (seen c.make_home.new.self.tree) c.args.path.now c.in-Some.home.now c.in_ok-has_folder.ensures.ok c.in-Some.ensures.home c.in_ok-make_home.ensures.stops in
+    making s0 (seen c.make_home.new.self.tree) (seen c.make_folder.new.self) (seen c.settle.new.self.tree) c.args.path.now c.in-Some.home.now c.settle.new.self.is_sound c.in-Some.ensures.home above c.in_ok-make_folder.ensures.can c.in_ok-make_folder.ensures.ok c.settle.ensures.stands (c.settle.ensures.synced c.in_ok-make_home.ensures.still_sound)

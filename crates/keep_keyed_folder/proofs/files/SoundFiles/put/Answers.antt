@@ -4,6 +4,7 @@ use Rattle.keep_files.specs.Act.{Removed, Renamed, Seen, Wrote}
 use Rattle.keep_files.specs.Stands.{IsClosed, is_file}
 use Rattle.keep_files.specs.declared.node.Node.TheVariants.{File}
 use Rattle.keep_keyed_folder.proofs.Acts.{closed_done, closed_failed, put_acts}
+use Rattle.keep_keyed_folder.proofs.Course.{cleared, clearing_failed, named, naming_failed, widened, writing_failed, written}
 use Rattle.keep_keyed_folder.proofs.Left.{ends_undone, handed_on, left_removing, left_then, left_tmp, left_widened, left_writing, put_ends, put_failed}
 use Rattle.keep_keyed_folder.proofs.files.SoundFiles.put.Goals as goal
 
@@ -171,3 +172,83 @@ returns-clause-order g c =
       settled = synced.1;
       acts = put_acts s0.acts s1.acts s2.acts s3.acts s4.acts s5.acts made.0 synced.0 (Removed tmp) (Wrote tmp bytes) (Renamed tmp path) (ap acts c.in_ok-remove.ensures.ok) made.2 (ap acts c.in_ok-write_new.ensures.ok) (ap acts c.in_ok-rename.ensures.ok) synced.2;
     }
+
+pub returns-in_err-remove-clause-stops : goal.returns-in_err-remove-clause-stops
+returns-in_err-remove-clause-stops g c =
+    let seen = g.T.FileTree.seen in
+    let s0 = seen c.args.self.now.tree in
+    let s1 = seen c.remove.new.self in
+    let path = c.args.path.now in
+    let bytes = c.args.bytes.now in
+    let tmp = c.args.tmp.now in
+    clearing_failed s0 s1 path bytes tmp _ c.in_err-remove.ensures.err
+
+pub returns-in_err-make_home-clause-stops : goal.returns-in_err-make_home-clause-stops
+returns-in_err-make_home-clause-stops g c =
+    let seen = g.T.FileTree.seen in
+    let s0 = seen c.args.self.now.tree in
+    let s1 = seen c.remove.new.self in
+    let s2 = seen c.make_home.new.self.tree in
+    let path = c.args.path.now in
+    let bytes = c.args.bytes.now in
+    let tmp = c.args.tmp.now in
+    let left1 = left_tmp s0.stands s1.stands path tmp None (ap (λ (s : Seen). s.stands) c.in_ok-remove.ensures.ok) in
+    let keeps1 = cleared s0 s1 path bytes tmp c.in_ok-remove.ensures.ok in
+    widened s0 s1 s2 path bytes tmp keeps1 left1 c.in_err-make_home.ensures.stops
+
+pub returns-in_err-write_new-clause-stops : goal.returns-in_err-write_new-clause-stops
+returns-in_err-write_new-clause-stops g c =
+    let seen = g.T.FileTree.seen in
+    let s0 = seen c.args.self.now.tree in
+    let s1 = seen c.remove.new.self in
+    let s2 = seen c.make_home.new.self.tree in
+    let s3 = seen c.write_new.new.self in
+    let path = c.args.path.now in
+    let bytes = c.args.bytes.now in
+    let tmp = c.args.tmp.now in
+    let left1 = left_tmp s0.stands s1.stands path tmp None (ap (λ (s : Seen). s.stands) c.in_ok-remove.ensures.ok) in
+    let left2 = left_then s0.stands s1.stands s2.stands path tmp left1 (left_widened s1.stands s2.stands path tmp c.in_ok-make_home.ensures.left) in
+    let keeps1 = cleared s0 s1 path bytes tmp c.in_ok-remove.ensures.ok in
+    let keeps2 = widened s0 s1 s2 path bytes tmp keeps1 left1 c.in_ok-make_home.ensures.stops in
+    writing_failed s0 s2 s3 path bytes tmp _ keeps2 left2 c.in_err-write_new.ensures.err
+
+pub returns-in_err-rename-clause-stops : goal.returns-in_err-rename-clause-stops
+returns-in_err-rename-clause-stops g c =
+    let seen = g.T.FileTree.seen in
+    let s0 = seen c.args.self.now.tree in
+    let s1 = seen c.remove.new.self in
+    let s2 = seen c.make_home.new.self.tree in
+    let s3 = seen c.write_new.new.self in
+    let s4 = seen c.rename.new.self in
+    let path = c.args.path.now in
+    let bytes = c.args.bytes.now in
+    let tmp = c.args.tmp.now in
+    let left1 = left_tmp s0.stands s1.stands path tmp None (ap (λ (s : Seen). s.stands) c.in_ok-remove.ensures.ok) in
+    let left2 = left_then s0.stands s1.stands s2.stands path tmp left1 (left_widened s1.stands s2.stands path tmp c.in_ok-make_home.ensures.left) in
+    let left3 = left_then s0.stands s2.stands s3.stands path tmp left2 (left_tmp s2.stands s3.stands path tmp (Some (File bytes)) (ap (λ (s : Seen). s.stands) c.in_ok-write_new.ensures.ok)) in
+    let there : s3.stands tmp ≡ Some (File bytes) = ap (λ (s : Seen). s.stands tmp) c.in_ok-write_new.ensures.ok ∙ put_at-here s2.stands tmp (Some (File bytes)) in
+    let keeps1 = cleared s0 s1 path bytes tmp c.in_ok-remove.ensures.ok in
+    let keeps2 = widened s0 s1 s2 path bytes tmp keeps1 left1 c.in_ok-make_home.ensures.stops in
+    let keeps3 = written s0 s2 s3 path bytes tmp keeps2 left2 c.in_ok-write_new.ensures.ok in
+    naming_failed s0 s3 s4 path bytes tmp _ keeps3 c.requires.apart.0 left3 there c.in_err-rename.ensures.err
+
+pub returns-clause-stops : goal.returns-clause-stops
+returns-clause-stops g c =
+    let seen = g.T.FileTree.seen in
+    let s0 = seen c.args.self.now.tree in
+    let s1 = seen c.remove.new.self in
+    let s2 = seen c.make_home.new.self.tree in
+    let s3 = seen c.write_new.new.self in
+    let s4 = seen c.rename.new.self in
+    let s5 = seen c.settle.new.self.tree in
+    let path = c.args.path.now in
+    let bytes = c.args.bytes.now in
+    let tmp = c.args.tmp.now in
+    let left1 = left_tmp s0.stands s1.stands path tmp None (ap (λ (s : Seen). s.stands) c.in_ok-remove.ensures.ok) in
+    let left2 = left_then s0.stands s1.stands s2.stands path tmp left1 (left_widened s1.stands s2.stands path tmp c.in_ok-make_home.ensures.left) in
+    let left3 = left_then s0.stands s2.stands s3.stands path tmp left2 (left_tmp s2.stands s3.stands path tmp (Some (File bytes)) (ap (λ (s : Seen). s.stands) c.in_ok-write_new.ensures.ok)) in
+    let there : s3.stands tmp ≡ Some (File bytes) = ap (λ (s : Seen). s.stands tmp) c.in_ok-write_new.ensures.ok ∙ put_at-here s2.stands tmp (Some (File bytes)) in
+    let keeps1 = cleared s0 s1 path bytes tmp c.in_ok-remove.ensures.ok in
+    let keeps2 = widened s0 s1 s2 path bytes tmp keeps1 left1 c.in_ok-make_home.ensures.stops in
+    let keeps3 = written s0 s2 s3 path bytes tmp keeps2 left2 c.in_ok-write_new.ensures.ok in
+    named s0 s3 s4 s5 path bytes tmp c.settle.new.self.is_sound keeps3 c.requires.apart.0 left3 there c.in_ok-rename.ensures.ok c.settle.ensures.stands (c.settle.ensures.synced c.in_ok-make_home.ensures.still_sound)

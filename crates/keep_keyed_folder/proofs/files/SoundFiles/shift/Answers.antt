@@ -2,6 +2,8 @@ use Rattle.std.proofs.Common.{◌≡◌, ◌∙◌, IsTrue, ap, subst, sym}
 use Rattle.keep_files.specs.Act.{Renamed, Seen}
 use Rattle.keep_files.specs.Stands.{IsClosed, is_file}
 use Rattle.keep_keyed_folder.proofs.Acts.{closed_done, closed_failed, settled_two, shift_acts}
+use Rattle.keep_keyed_folder.proofs.Course.{InShift, settled, shift_begun, shifted_over, shifting_failed}
+use Rattle.keep_keyed_folder.proofs.Stopping.{keeps_end, keeps_settled, keeps_then}
 use Rattle.keep_keyed_folder.proofs.Left.{ends_undone, file_stays, handed_on, shift_ends, shift_failed}
 use Rattle.keep_keyed_folder.specs.declared.files.SoundFiles.{SoundFiles}
 use Rattle.keep_keyed_folder.proofs.files.SoundFiles.shift.Goals as goal
@@ -84,3 +86,40 @@ returns-clause-order g c =
       settled = synced.1;
       acts = shift_acts s0.acts s1.acts s2.acts s4.acts made.0 synced.0 (Renamed from to) made.2 (ap acts c.in_ok-rename.ensures.ok) synced.2;
     }
+
+pub returns-in_err-make_home-clause-stops : goal.returns-in_err-make_home-clause-stops
+returns-in_err-make_home-clause-stops g c =
+    let seen = g.T.FileTree.seen in
+    let s0 = seen c.args.self.now.tree in
+    let s1 = seen c.make_home.new.self.tree in
+    let from = c.args.from.now in
+    let to = c.args.to.now in
+    shift_begun s0 s1 from to c.in_err-make_home.ensures.stops
+
+pub returns-in_err-rename-clause-stops : goal.returns-in_err-rename-clause-stops
+returns-in_err-rename-clause-stops g c =
+    let seen = g.T.FileTree.seen in
+    let s0 = seen c.args.self.now.tree in
+    let s1 = seen c.make_home.new.self.tree in
+    let s2 = seen c.rename.new.self in
+    let from = c.args.from.now in
+    let to = c.args.to.now in
+    let still : s1.stands from ≡ s0.stands from = file_stays s0.stands s1.stands to from c.requires.file c.in_ok-make_home.ensures.left in
+    shifting_failed s0 s1 s2 from to _ c.in_ok-make_home.ensures.stops c.requires.apart still c.in_err-rename.ensures.err
+
+pub returns-clause-stops : goal.returns-clause-stops
+returns-clause-stops g c =
+    let seen = g.T.FileTree.seen in
+    let s0 = seen c.args.self.now.tree in
+    let s1 = seen c.make_home.new.self.tree in
+    let s2 = seen c.rename.new.self in
+    let s3 = seen c.settle.new.self.tree in
+    let s4 = seen c.settle-2.new.self.tree in
+    let from = c.args.from.now in
+    let to = c.args.to.now in
+    let still : s1.stands from ≡ s0.stands from = file_stays s0.stands s1.stands to from c.requires.file c.in_ok-make_home.ensures.left in
+    let over = shifted_over s0 s1 s2 from to c.in_ok-make_home.ensures.stops c.requires.apart still c.in_ok-rename.ensures.ok in
+    let first = keeps_then (InShift s0.stands from to) s0 s2 s3 over
+    (keeps_settled (InShift s0.stands from to) s2 s3 to c.settle.new.self.is_sound (keeps_end (InShift s0.stands from to) s0 s2 over) c.settle.ensures.stands (c.settle.ensures.synced c.in_ok-make_home.ensures.still_sound)) in
+    settled (InShift s0.stands from to) s0 s3 s4 from c.settle.new.self.is_sound c.settle-2.new.self.is_sound first c.settle-2.ensures.stands
+    (λ unsound. ap (λ (f : SoundFiles g.row.T.Denot). (seen f.tree).acts) (c.settle-2.ensures.unsound unsound)) c.settle-2.ensures.synced
