@@ -1,9 +1,7 @@
--- The file that is under way is no key's, and no folder of one.
+-- The file that is under way is no key's.
 use Rattle.std.proofs.Common.{◌≡◌, ◌≢◌, ℕ, false, inl, inr, List, refl, sym, ap, ◌∙◌}
 use Rattle.std.proofs.lemmas.Bool.{false≢true}
-use Rattle.keep_paths.proofs.Folders.{in_top}
-use Rattle.keep_paths.specs.Folder.{IsTopFolder, LiesIn}
-use Rattle.keep_paths.specs.KeyPath.{IsKey, key_path}
+use Rattle.keep_paths.specs.KeyPath.{key_path}
 use Rattle.keep_shelf.specs.declared.key.Key.{Key}
 use Rattle.keep_shelf.specs.declared.key.Key.TheVariants.{Live, Trash, Entry}
 use Rattle.keep_names.specs.FileName.{path_with}
@@ -11,18 +9,7 @@ use Rattle.keep_names.specs.Id.{id_text}
 use Rattle.keep_names.specs.declared.file_name.Kind.{Kind}
 use Rattle.keep_names.specs.declared.file_name.Kind.TheVariants.{Pack, Index, Snapshot}
 use Rattle.keep_names.specs.declared.id.Id.{Id}
-use Rattle.keep_keyed_folder.specs.Tmp.{IsApart, IsTmp, is_tmp_name}
-
--- no top folder is called so
-no_top : (name : List ℕ) → IsTopFolder name → is_tmp_name name ≡ false
-no_top name (inl e) = ap is_tmp_name e
-no_top name (inr (inl e)) = ap is_tmp_name e
-no_top name (inr (inr (inl e))) = ap is_tmp_name e
-no_top name (inr (inr (inr (inl e)))) = ap is_tmp_name e
-no_top name (inr (inr (inr (inr e)))) = ap is_tmp_name e
-
-not_in_tmp : (key : Key) (tmp : List ℕ) → IsKey key → IsTmp tmp → LiesIn (key_path key) tmp → ⊥
-not_in_tmp key tmp is tmp_is lies = false≢true (sym (no_top tmp (in_top key tmp is tmp_is.0 lies)) ∙ tmp_is.1)
+use Rattle.keep_keyed_folder.specs.Tmp.{IsTmp, is_tmp_name}
 
 live_name : (kind : Kind) (id : Id) → is_tmp_name (path_with kind (id_text id)) ≡ false
 live_name Pack id = refl
@@ -37,6 +24,3 @@ key_name (Entry n) = refl
 
 pub not_tmp : (key : Key) (tmp : List ℕ) → IsTmp tmp → key_path key ≢ tmp
 not_tmp key tmp tmp_is e = false≢true (sym (key_name key) ∙ ap is_tmp_name e ∙ tmp_is.1)
-
-pub apart : (key : Key) (tmp : List ℕ) → IsKey key → IsTmp tmp → IsApart (key_path key) tmp
-apart key tmp is tmp_is = (not_tmp key tmp tmp_is, not_in_tmp key tmp is tmp_is)

@@ -20,7 +20,7 @@ use Rattle.keep_files.specs.declared.node.Node.{Node}
 use Rattle.keep_files.specs.declared.node.Node.TheVariants.{Folder, File}
 use Rattle.keep_files.specs.Act.{Seen}
 use Rattle.keep_keyed_folder.proofs.Course.{InPut, InRemoval, InShift}
-use Rattle.keep_keyed_folder.proofs.Stopping.{keeps_still, keeps_weaker}
+use Rattle.keep_keyed_folder.proofs.Stopping.{keeps_weaker}
 use Rattle.keep_keyed_folder.specs.Stops.{Keeps}
 use Rattle.keep_keyed_folder.proofs.Apart.{not_tmp}
 use Rattle.keep_keyed_folder.specs.Left.{EndsAs, IsLeft, IsPut, IsSameOrMade, IsShifted, IsTaken, IsWidened}
@@ -186,7 +186,3 @@ shifted_stops a b d from to source target content same leads_from leads_to from_
     subst (λ (s : Seen). Keeps (λ now. HoldsFiles now content ⊎ HoldsFiles now (shifted content from to)) a s) (sym same)
     (keeps_weaker (InShift a.stands (key_path from) (key_path to)) (λ now. HoldsFiles now content ⊎ HoldsFiles now (shifted content from to)) a b
     (λ now. shifted_held a.stands now from to content from_is to_is apart file held) at_both)
-
--- nothing was done
-pub still_stops : (a : Seen) (content other : Content) → HoldsFiles a.stands content → Keeps (λ now. HoldsFiles now content ⊎ HoldsFiles now other) a a
-still_stops a content other held = keeps_still (λ now. HoldsFiles now content ⊎ HoldsFiles now other) a a (inl held) refl refl

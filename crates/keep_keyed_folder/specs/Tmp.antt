@@ -2,7 +2,6 @@
 use Rattle.std.specs.Prelude.{◌≡◌, ◌≢◌, ◌||◌, ◌⊎◌, ℕ, Bool, false, IsTrue, None, List, codes, nat_eq}
 use Rattle.std.specs.List.{starts_with}
 use Rattle.std.specs.Str.{bytes_eq}
-use Rattle.keep_paths.specs.Folder.{LiesIn}
 use Rattle.keep_files.specs.Path.{LiesAtRoot}
 use Rattle.keep_files.specs.Stands.{Stands, is_file, is_folder}
 
@@ -13,10 +12,6 @@ is_tmp_name name = bytes_eq name (codes "tmp") || starts_with nat_eq name (codes
 -- a file that is under way lies at the root
 abbrev pub IsTmp : List ℕ → Type 0
 IsTmp path = LiesAtRoot path × IsTrue (is_tmp_name path)
-
--- the path isn't this one, and doesn't lead into it
-abbrev pub IsApart : List ℕ → List ℕ → Type 0
-IsApart path tmp = (path ≢ tmp) × (LiesIn path tmp → ⊥)
 
 -- no file is under way
 abbrev pub HasNoLeftovers : Stands → Type 0

@@ -7,7 +7,6 @@ ghost use Rattle.keep_keyed_folder.specs.Keyed.{HasFailure};
 ghost use Rattle.keep_keyed_folder.specs.Left.{EndsAs, IsLeft, IsPut, IsShifted, IsTaken, IsWidened};
 ghost use Rattle.keep_keyed_folder.specs.Order.{AreMade, AreSettled, IsPutInOrder, IsShiftedInOrder, IsTakenInOrder};
 ghost use Rattle.keep_keyed_folder.specs.Stops.{Keeps};
-ghost use Rattle.keep_keyed_folder.specs.Tmp.{IsApart};
 ghost use Rattle.keep_files.specs.declared.error.TreeError.TheVariants as the_error;
 
 use keep_files::{FileTree, TreeError, home_of};
@@ -26,7 +25,7 @@ impl<T: FileTree> SoundFiles<T> {
     pub(crate) fn put(&mut self, tmp: &str, path: &str, bytes: &Bytes) -> Result<(), TreeError>
         requires closed { IsClosed (T.seen self.old.tree).stands }
         requires sound { IsTrue self.old.is_sound }
-        requires apart { IsApart path.now tmp.now }
+        requires apart { path.now ≢ tmp.now }
         ensures closed { IsClosed (T.seen self.new.tree).stands }
         ensures left { let before = (T.seen self.old.tree).stands in let after = (T.seen self.new.tree).stands in
             EndsAs result (IsPut before after path.now bytes.now tmp.now) (IsLeft before after path.now tmp.now) }

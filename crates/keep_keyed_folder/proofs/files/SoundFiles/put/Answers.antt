@@ -31,7 +31,7 @@ rename-requires-clause-file g c =
     ap is_file there
 
 pub rename-requires-clause-apart : goal.rename-requires-clause-apart
-rename-requires-clause-apart g c = λ e. c.requires.apart.0 (sym e)
+rename-requires-clause-apart g c = λ e. c.requires.apart (sym e)
 
 pub returns-in_err-remove-clause-closed : goal.returns-in_err-remove-clause-closed
 returns-in_err-remove-clause-closed g c =
@@ -119,7 +119,7 @@ returns-in_err-rename-clause-left g c =
     let left2 = left_then s0.stands s1.stands s2.stands path tmp left1 (left_widened s1.stands s2.stands path tmp c.in_ok-make_home.ensures.left) in
     let left3 = left_then s0.stands s2.stands s3.stands path tmp left2 (left_tmp s2.stands s3.stands path tmp (Some (File bytes)) (ap (λ (s : Seen). s.stands) c.in_ok-write_new.ensures.ok)) in
     let there : s3.stands tmp ≡ Some (File bytes) = ap (λ (s : Seen). s.stands tmp) c.in_ok-write_new.ensures.ok ∙ put_at-here s2.stands tmp (Some (File bytes)) in
-    put_failed _ _ s0.stands s3 s4 path bytes tmp _ (handed_on _ _ _ c.from_residual-in_err-rename.ensures.1) c.requires.apart.0 left3 there c.in_err-rename.ensures.err
+    put_failed _ _ s0.stands s3 s4 path bytes tmp _ (handed_on _ _ _ c.from_residual-in_err-rename.ensures.1) c.requires.apart left3 there c.in_err-rename.ensures.err
 
 pub returns-clause-closed : goal.returns-clause-closed
 returns-clause-closed g c =
@@ -148,7 +148,7 @@ returns-clause-left g c =
     let left2 = left_then s0.stands s1.stands s2.stands path tmp left1 (left_widened s1.stands s2.stands path tmp c.in_ok-make_home.ensures.left) in
     let left3 = left_then s0.stands s2.stands s3.stands path tmp left2 (left_tmp s2.stands s3.stands path tmp (Some (File bytes)) (ap (λ (s : Seen). s.stands) c.in_ok-write_new.ensures.ok)) in
     let there : s3.stands tmp ≡ Some (File bytes) = ap (λ (s : Seen). s.stands tmp) c.in_ok-write_new.ensures.ok ∙ put_at-here s2.stands tmp (Some (File bytes)) in
-    put_ends s0.stands s3.stands s5.stands path bytes tmp c.requires.apart.0 left3 there (c.settle.ensures.stands ∙ ap (λ (s : Seen). s.stands) c.in_ok-rename.ensures.ok)
+    put_ends s0.stands s3.stands s5.stands path bytes tmp c.requires.apart left3 there (c.settle.ensures.stands ∙ ap (λ (s : Seen). s.stands) c.in_ok-rename.ensures.ok)
 
 pub returns-clause-order : goal.returns-clause-order
 returns-clause-order g c =
@@ -230,7 +230,7 @@ returns-in_err-rename-clause-stops g c =
     let keeps1 = cleared s0 s1 path bytes tmp c.in_ok-remove.ensures.ok in
     let keeps2 = widened s0 s1 s2 path bytes tmp keeps1 left1 c.in_ok-make_home.ensures.stops in
     let keeps3 = written s0 s2 s3 path bytes tmp keeps2 left2 c.in_ok-write_new.ensures.ok in
-    naming_failed s0 s3 s4 path bytes tmp _ keeps3 c.requires.apart.0 left3 there c.in_err-rename.ensures.err
+    naming_failed s0 s3 s4 path bytes tmp _ keeps3 c.requires.apart left3 there c.in_err-rename.ensures.err
 
 pub returns-clause-stops : goal.returns-clause-stops
 returns-clause-stops g c =
@@ -251,4 +251,4 @@ returns-clause-stops g c =
     let keeps1 = cleared s0 s1 path bytes tmp c.in_ok-remove.ensures.ok in
     let keeps2 = widened s0 s1 s2 path bytes tmp keeps1 left1 c.in_ok-make_home.ensures.stops in
     let keeps3 = written s0 s2 s3 path bytes tmp keeps2 left2 c.in_ok-write_new.ensures.ok in
-    named s0 s3 s4 s5 path bytes tmp c.settle.new.self.is_sound keeps3 c.requires.apart.0 left3 there c.in_ok-rename.ensures.ok c.settle.ensures.stands (c.settle.ensures.synced c.in_ok-make_home.ensures.still_sound)
+    named s0 s3 s4 s5 path bytes tmp c.settle.new.self.is_sound keeps3 c.requires.apart left3 there c.in_ok-rename.ensures.ok c.settle.ensures.stands (c.settle.ensures.synced c.in_ok-make_home.ensures.still_sound)
