@@ -1,5 +1,5 @@
 -- The file that is under way is no key's.
-use Rattle.std.proofs.Common.{◌≡◌, ◌≢◌, ℕ, false, inl, inr, List, refl, sym, ap, ◌∙◌}
+use Rattle.std.proofs.Common.{◌≡◌, ◌≢◌, ℕ, false, List, refl, sym, ap, ◌∙◌}
 use Rattle.std.proofs.lemmas.Bool.{false≢true}
 use Rattle.keep_paths.specs.KeyPath.{key_path}
 use Rattle.keep_shelf.specs.declared.key.Key.{Key}

@@ -24,7 +24,7 @@ use Rattle.keep_keyed_folder.proofs.Stopping.{keeps_weaker}
 use Rattle.keep_keyed_folder.specs.Stops.{Keeps}
 use Rattle.keep_keyed_folder.proofs.Apart.{not_tmp}
 use Rattle.keep_keyed_folder.specs.Left.{EndsAs, IsLeft, IsPut, IsSameOrMade, IsShifted, IsTaken, IsWidened}
-use Rattle.keep_keyed_folder.specs.Tmp.{IsCleared, IsTmp}
+use Rattle.keep_keyed_folder.specs.Tmp.{IsTmp}
 
 -- a folder that was made holds no bytes
 same_file : (a b : Stands) (path q : List ℕ) → IsSameOrMade a b path q → file_in (b q) ≡ file_in (a q)
@@ -104,12 +104,6 @@ ends_held {A} (Ok x) Done Undone HeldDone HeldUndone done undone h = done h
 ends_held {A} (Err Broken) Done Undone HeldDone HeldUndone done undone h = undone h
 ends_held {A} (Err Unknown) Done Undone HeldDone HeldUndone done undone (inl h) = inl (undone h)
 ends_held {A} (Err Unknown) Done Undone HeldDone HeldUndone done undone (inr h) = inr (done h)
-
-pub held_cleared : (a b : Stands) (content : Content) → IsCleared a b → HoldsFiles a content → HoldsFiles b content
-held_cleared a b content cleared held key is = elim (cleared (key_path key)) [
-  | inl same ↦ held key is ∙ sym (ap file_in same)
-  | inr gone ↦ absurd (not_tmp key (key_path key) gone.0 refl)
-]
 
 -- ---- for the calls by key
 

@@ -1,12 +1,11 @@
 -- The course of each act, wherever the program stops in it.
-use Rattle.std.proofs.Common.{◌≡◌, ◌≢◌, ℕ, Bool, true, false, ◌⊎◌, inl, inr, IsTrue, Option, Some, None, List, [], ◌∷◌, ◌++◌, refl, sym, ap, ◌∙◌, subst}
-use Rattle.keep_files.proofs.Kept.{put_at-here}
+use Rattle.std.proofs.Common.{◌≡◌, ◌≢◌, ℕ, Bool, true, false, ◌⊎◌, inl, inr, IsTrue, Some, None, List, [], ◌∷◌, ◌++◌, refl, subst}
 use Rattle.keep_files.specs.Act.{Act, CanDo, HasFailed, Made, Removed, Renamed, Seen, Wrote, done}
 use Rattle.keep_files.specs.Path.{LiesRightIn}
 use Rattle.keep_files.specs.Stands.{Stands, moved, put_at}
 use Rattle.keep_files.specs.declared.error.TreeError.{TreeError}
 use Rattle.keep_files.specs.declared.node.Node.TheVariants.{Folder, File}
-use Rattle.keep_keyed_folder.proofs.Left.{left_then, left_tmp, left_widened, put_ends, shift_ends, widened_above, widened_made, widened_same, widened_then}
+use Rattle.keep_keyed_folder.proofs.Left.{left_then, left_tmp, left_widened, put_ends, shift_ends, widened_above, widened_made, widened_then}
 use Rattle.keep_keyed_folder.proofs.Stopping.{keeps_done, keeps_end, keeps_failed, keeps_settled, keeps_still, keeps_then, keeps_weaker}
 use Rattle.keep_keyed_folder.specs.Left.{IsLeft, IsPut, IsShifted, IsTaken, IsWidened}
 use Rattle.keep_keyed_folder.specs.Order.{AreSettled}

@@ -1,12 +1,10 @@
 -- What holds wherever the program stops.
-use Rattle.std.proofs.Common.{◌≡◌, ℕ, Bool, true, false, ◌⊎◌, inl, inr, IsTrue, Option, Some, None, List, [], ◌∷◌, ◌++◌, refl, sym, ap, ◌∙◌, subst, append_assoc}
-use Rattle.std.proofs.lemmas.Bool.{cases_Bool}
+use Rattle.std.proofs.Common.{◌≡◌, ℕ, Bool, ◌⊎◌, inl, inr, List, [], ◌∷◌, ◌++◌, refl, sym, ap, ◌∙◌, subst, append_assoc}
 use Rattle.std.proofs.lemmas.List.{append-nil}
 use Rattle.keep_files.specs.Act.{Act, CanDo, HasFailed, Made, Removed, Renamed, Seen, Synced, Wrote, after, done, failed}
-use Rattle.keep_files.specs.Stands.{Stands, put_at}
+use Rattle.keep_files.specs.Stands.{Stands}
 use Rattle.keep_files.specs.declared.error.TreeError.{TreeError}
 use Rattle.keep_files.specs.declared.error.TreeError.TheVariants.{Broken, Unknown}
-use Rattle.keep_files.specs.declared.node.Node.TheVariants.{File}
 use Rattle.keep_keyed_folder.specs.Order.{AreSettled}
 use Rattle.keep_keyed_folder.specs.Stops.{HoldsAtStops, HoldsWithin, Keeps, after_all}
 

@@ -1,5 +1,5 @@
 -- The file that is under way.
-use Rattle.std.specs.Prelude.{◌≡◌, ◌≢◌, ◌||◌, ◌⊎◌, ℕ, Bool, false, IsTrue, None, List, codes, nat_eq}
+use Rattle.std.specs.Prelude.{◌≡◌, ◌||◌, ◌⊎◌, ℕ, Bool, false, IsTrue, None, List, codes, nat_eq}
 use Rattle.std.specs.List.{starts_with}
 use Rattle.std.specs.Str.{bytes_eq}
 use Rattle.keep_files.specs.Path.{LiesAtRoot}
