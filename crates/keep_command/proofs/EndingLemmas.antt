@@ -18,9 +18,9 @@ use Rattle.keep_command.specs.declared.ending.Ending.TheVariants.{Ran}
 -- a folder that isn't opened
 not-run : (options : OptionsData) (error : FolderError) → IsSome options.folder → IsNotRun options (ending_unopened error)
 not-run options unopened.Memory named = inl refl
-not-run options unopened.BadConfig named = inr (named, (unopened.BadConfig, (λ e. cc e), refl))
-not-run options unopened.Locked named = inr (named, (unopened.Locked, (λ e. cc e), refl))
-not-run options unopened.Fault named = inr (named, (unopened.Fault, (λ e. cc e), refl))
+not-run options unopened.BadConfig named = inr (inl (named, (unopened.BadConfig, (λ e. cc e), refl)))
+not-run options unopened.Locked named = inr (inl (named, (unopened.Locked, (λ e. cc e), refl)))
+not-run options unopened.Fault named = inr (inl (named, (unopened.Fault, (λ e. cc e), refl)))
 
 pub ends-unopened : (kit : KitData) (options : OptionsData) (known old : Option (List ℕ)) (error : FolderError) (ended : Ending) → IsSome options.folder
     → ended ≡ ending_unopened error → EndsWith kit options known known old old ended

@@ -3,9 +3,10 @@ use Rattle.std.proofs.Common.{◌≡◌, ◌∙◌, ℕ, IfSome, List, Option, a
 use Rattle.std.specs.FinMap as map
 use Rattle.std.specs.Prelude.{◌≢◌, []}
 use Rattle.keep_hooks.specs.Guards.{Rule}
-use Rattle.keep_shelf.specs.Shelved.{Shelved}
+use Rattle.std.proofs.KnownBytes.{Keeps-refl}
+use Rattle.keep_shelf.specs.Shelved.{Content, Shelved}
 use Rattle.keep_ledger.specs.LedgerState.{LedgerState, new_ledger}
-use Rattle.keep_ledger.specs.Opened.{IsNotOpened, IsOpened}
+use Rattle.keep_ledger.specs.Opened.{IsGivenBack, IsNotOpened, IsOpened}
 use Rattle.keep_opening.specs.declared.open_error.OpenError.{OpenError}
 use Rattle.keep_opening.specs.declared.open_error.OpenError.TheVariants.{BadEntry, Fault, Memory}
 use Rattle.keep_book.specs.Armed.{hooks_of, on_shelf}
@@ -22,7 +23,8 @@ use Rattle.keep_script.specs.Status.{status_unopened}
 use Rattle.keep_script.specs.declared.status.Status.{Status}
 use Rattle.keep_script.specs.declared.status.Status.TheVariants.{Done, ScriptTooLong, WriteFailed}
 use Rattle.keep_command.proofs.CrewLemmas.{crews-short}
-use Rattle.keep_command.specs.Following.{Follows, Serves}
+use Rattle.keep_command.specs.Damage.{IsRefusedSo, TellsDamage}
+use Rattle.keep_command.specs.Following.{Follows, Serves, ServesOrTells}
 use Rattle.keep_command.specs.Option.{OptionsData}
 use Rattle.keep_command.specs.Running.{KeepsLines, RunsWith, settings_of}
 use Rattle.keep_command.specs.declared.ending.Ending.{Ending}
@@ -55,11 +57,11 @@ not-done Memory e = cc e
 not-done (BadEntry n) e = cc e
 not-done Fault e = cc e
 
--- where no book was opened
-pub serves-refused : (shelf : Shelved) (options : OptionsData) (kit : KitData) (known old : Option (List ℕ)) (error : OpenError) (status : Status)
-    → status ≡ status_unopened error → IsNotOpened shelf error
-    → Serves (RunsWith shelf kit options known known) options old old (Ran status)
-serves-refused shelf options kit known old error status is refused =
+-- where no book was opened, and that alone is told
+serves-unopened : (shelf : Shelved) (options : OptionsData) (kit : KitData) (known old : Option (List ℕ)) (error : OpenError) (ended : Ending)
+    → ended ≡ Ran (status_unopened error) → IsNotOpened shelf error
+    → Serves (RunsWith shelf kit options known known) options old old ended
+serves-unopened shelf options kit known old error ended is refused =
     let state = begun (settings_of options) kit (record { state = new_ledger (record { files = map.empty; marks = map.empty }); due = []; shelf = shelf }) in
     let h = EndsOver-refused shelf (settings_of options) kit state known old error refl refused in
     record {
@@ -67,8 +69,18 @@ serves-refused shelf options kit known old error status is refused =
       after = state;
       middle = old;
       answered = h;
-      follows = inl ((λ due. not-done error due.1), refl, ap Ran is);
+      follows = inl ((λ due. not-done error due.1), refl, is);
     }
+
+-- where no book was opened
+pub serves-refused : (shelf left : Shelved) (options : OptionsData) (kit : KitData) (known old : Option (List ℕ)) (error : OpenError) (ended : Ending)
+    → IsNotOpened shelf error → IsGivenBack shelf error left → IsRefusedSo left.content error ended
+    → ServesOrTells shelf kit options known known old old ended
+serves-refused shelf left options kit known old error ended refused given (inl is) = inl (serves-unopened shelf options kit known old error ended is refused)
+serves-refused shelf left options kit known old error ended refused given (inr (number, is, tells)) =
+    let same : left.content ≡ shelf.content = given.same (λ fault. cc (is, fault)) in
+    let bad : IsNotOpened shelf (BadEntry number) = subst (IsNotOpened shelf) is refused in
+    inr ((number, bad, subst (λ (content : Content). TellsDamage content number ended) same tells), (Keeps-refl known, Keeps-refl old))
 
 -- a script that was answered so, and what followed
 pub serves-answered : (options : OptionsData) (begun begun' after : State) (known left old middle new : Option (List ℕ)) (status : Status) (ended : Ending)
@@ -102,11 +114,16 @@ keeps-followed options rules before known old middle new status ended whole past
 )
 
 -- nothing is written where no book is opened
-pub keeps-unopened : (known old : Option (List ℕ)) (error : OpenError) (status : Status) → status ≡ status_unopened error → KeepsLines known old old (Ran status)
-keeps-unopened known old error status is =
-    ((λ other. WritesLines-none old), (λ same. absurd (short error (sym is ∙ ran-same status ScriptTooLong same))))
+keeps-unopened : (known old : Option (List ℕ)) (error : OpenError) (ended : Ending) → ended ≡ Ran (status_unopened error) → KeepsLines known old old ended
+keeps-unopened known old error ended is =
+    ((λ other. WritesLines-none old), (λ same. absurd (short error (ran-same (status_unopened error) ScriptTooLong (sym is ∙ same)))))
   where
     short : (e : OpenError) → status_unopened e ≡ ScriptTooLong → ⊥
     short Memory h = cc h
     short (BadEntry n) h = cc h
     short Fault h = cc h
+
+pub keeps-refused : (known old : Option (List ℕ)) (content : Content) (error : OpenError) (ended : Ending) → IsRefusedSo content error ended → KeepsLines known old old ended
+keeps-refused known old content error ended (inl is) = keeps-unopened known old error ended is
+keeps-refused known old content error ended (inr (number, is, tells)) =
+    ((λ other. WritesLines-none old), (λ same. cc (tells.is, same)))

@@ -1,5 +1,5 @@
 -- How the program tells of its end.
-use Rattle.std.specs.Prelude.{◌≡◌, ℕ, List, [], ◌++◌, Some, None, Result, Ok, Err, codes}
+use Rattle.std.specs.Prelude.{◌≡◌, ℕ, List, [], ◌++◌, Some, None, Result, Ok, Err, codes, string_bytes}
 use Rattle.std.specs.Borrow.{Bor}
 use Rattle.std.specs.Fmt.{decimal}
 use Rattle.keep_folder.specs.declared.error.FolderError.{FolderError}
@@ -31,6 +31,7 @@ code_of (ending.Ran NoMemory) = 1
 code_of (ending.Ran (NotOpened error)) = 1
 code_of (ending.BadOptions word) = 2
 code_of (ending.NoFolder error) = 1
+code_of (ending.Damaged number damage) = 1
 code_of (ending.NoCrew error) = 1
 
 -- the end where no options are read, and no word is named
@@ -57,9 +58,13 @@ ending_uncrewed uncrewed.NoPass = ending.NoCrew uncrewed.NoPass
 abbrev pub usage : List ℕ
 usage = codes "usage: keepd [--cut N] [--now TIME] [--host H] [--tagged T] [--drops N] [--folder DIR] [--crew N] < SCRIPT"
 
+-- what to do where what stands on a shelf can't be read
+abbrev pub copy_advice : List ℕ
+copy_advice = codes "put journal, trash and files back from one copy"
+
 -- what to do where a shelf isn't opened for this cause
 abbrev pub advice_on : OpenError → List ℕ
-advice_on (BadEntry number) = codes "put journal, trash and files back from one copy"
+advice_on (BadEntry number) = copy_advice
 advice_on unread.Fault = codes "make room, and see that all in it can be read and written"
 advice_on unread.Memory = codes "run it with more memory"
 
@@ -78,6 +83,8 @@ ending_text (ending.Ran (NotOpened error)) =
 ending_text (ending.BadOptions None) = codes "keepd: bad options; " ++ usage
 ending_text (ending.BadOptions (Some word)) =
     codes "keepd: bad options: " ++ (word.now ++ (codes "; " ++ usage))
+ending_text (ending.Damaged number damage) =
+    codes "keepd: cannot open: BadEntry " ++ (decimal number ++ (string_bytes damage ++ (codes "; " ++ copy_advice)))
 ending_text (ending.NoFolder unopened.BadConfig) =
     codes "keepd: cannot open: BadConfig; name a folder with the config of a repository"
 ending_text (ending.NoFolder unopened.Locked) =

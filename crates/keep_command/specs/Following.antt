@@ -15,6 +15,7 @@ use Rattle.keep_folder.specs.declared.error.FolderError.{FolderError}
 use Rattle.keep_folder.specs.declared.error.FolderError.TheVariants as unopened
 use Rattle.keep_script.specs.declared.status.Status.{Status}
 use Rattle.keep_script.specs.declared.status.Status.TheVariants.{Done, NoMemory, WriteFailed}
+use Rattle.keep_command.specs.Damage.{IsToldDamaged}
 use Rattle.keep_command.specs.Option.{OptionsData}
 use Rattle.keep_command.specs.Running.{IsShelfBy, IsUntouched, RunsWith, settings_of, stored, stored_filters}
 use Rattle.keep_operators.specs.declared.order.NoCrew.{NoCrew}
@@ -83,11 +84,20 @@ pub record Runs (shelf : Shelved) (options : OptionsData) (known left old new : 
   pub of_tag : string_bytes tag ≡ options.tagged
   pub serves : Serves (RunsWith shelf (stored (stored_filters host tag) options.drops) options known left) options old new ended
 
--- the script isn't answered at all: there is no memory for that, or the folder that the options name isn't opened
+-- the script is answered over this shelf, with this kit, and then what follows is done; or what is wrong there is told, and
+-- nothing is read or written
+abbrev pub ServesOrTells : Shelved → KitData → OptionsData → (known left old new : Option (List ℕ)) → Ending → Type 0
+ServesOrTells shelf kit options known left old new ended =
+    Serves (RunsWith shelf kit options known left) options old new ended
+    ⊎ (IsToldDamaged shelf ended × IsUntouched known left old new)
+
+-- the script isn't answered at all: there is no memory for that, the folder that the options name isn't opened, or nothing
+-- on the shelf that they name is read
 abbrev pub IsNotRun : OptionsData → Ending → Type 0
 IsNotRun options ended =
     (ended ≡ ending.Ran NoMemory)
-    ⊎ (IsSome options.folder × ((error : FolderError) × (error ≢ unopened.Memory) × (ended ≡ ending.NoFolder error)))
+    ⊎ ((IsSome options.folder × ((error : FolderError) × (error ≢ unopened.Memory) × (ended ≡ ending.NoFolder error)))
+    ⊎ ((shelf : Shelved) × IsShelfBy options shelf × IsToldDamaged shelf ended))
 
 -- how the program ends by options with this kit: the script is answered over the shelf that they name, and what follows
 -- is done, or nothing is read or written

@@ -1,3 +1,4 @@
+pub mod Damage
 pub mod Ending
 pub mod Following
 pub mod NamedShelf

@@ -14,6 +14,9 @@ use std::io::{self, Write};
 const USAGE: &str =
     "usage: keepd [--cut N] [--now TIME] [--host H] [--tagged T] [--drops N] [--folder DIR] [--crew N] < SCRIPT";
 
+/// What to do where what stands on a shelf can't be read.
+const COPY: &str = "put journal, trash and files back from one copy";
+
 /// Says on standard error why the program ended, unless each line was answered and the shelf never failed. Answers the
 /// exit status, which is the same where that can't be written, and whether it could.
 pub fn tell<E: Write>(ending: Ending<'_>, errors: &mut E) -> (u8, io::Result<()>)
@@ -37,6 +40,9 @@ pub enum Ending<'a> {
     BadOptions(Option<&'a str>),
     /// The folder isn't opened, for this cause. Nothing was read or written.
     NoFolder(FolderError),
+    /// What stands there can't be read: this is the number that `BadEntry` has, and what is wrong there, each thing
+    /// behind a semicolon. Nothing was read or written.
+    Damaged(u64, String),
     /// The script was answered, and the crew was refused behind it, for this cause.
     NoCrew(NoCrew),
 }
@@ -55,7 +61,7 @@ impl Ending<'_> {
             Ending::Ran(Status::ReadFailed | Status::ScriptTooLong) => 1,
             Ending::Ran(Status::WriteFailed | Status::NoMemory) => 1,
             Ending::Ran(Status::Faulted | Status::NotOpened(_)) => 1,
-            Ending::NoFolder(_) | Ending::NoCrew(_) => 1,
+            Ending::NoFolder(_) | Ending::Damaged(_, _) | Ending::NoCrew(_) => 1,
             Ending::Ran(Status::BadLine(_, _)) | Ending::BadOptions(_) => 2,
         }
     }
@@ -127,6 +133,9 @@ impl fmt::Display for Ending<'_> {
             Ending::Ran(Status::NotOpened(error)) => {
                 write!(f, "keepd: cannot open: {error}; {}", advice_on(error))
             }
+            Ending::Damaged(number, damage) => {
+                write!(f, "keepd: cannot open: BadEntry {number}{damage}; {COPY}")
+            }
             Ending::NoFolder(FolderError::BadConfig) => {
                 f.write_str(
                     "keepd: cannot open: BadConfig; name a folder with the config of a repository",
@@ -158,7 +167,7 @@ fn advice_on(error: &OpenError) -> &'static str
     ensures { result.now ≡ advice_on error.now }
 {
     match error {
-        OpenError::BadEntry(_) => "put journal, trash and files back from one copy",
+        OpenError::BadEntry(_) => COPY,
         OpenError::Fault => "make room, and see that all in it can be read and written",
         OpenError::Memory => "run it with more memory",
     }

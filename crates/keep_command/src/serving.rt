@@ -1,14 +1,15 @@
-ghost use Rattle.std.specs.Prelude.{◌≡◌, ◌≢◌, ◌≤◌, ◌↔◌, IsTrue};
+ghost use Rattle.std.specs.Prelude.{◌≡◌, ◌≢◌, ◌≤◌, ◌↔◌, IfOk, IsTrue, string_bytes};
 ghost use Rattle.keep_book.specs.Armed.{HasSums, hooks_of, ledger_of};
 ghost use Rattle.keep_jobs.specs.Kits.{kit_view};
 ghost use Rattle.keep_answers.specs.Known.{WritesLines};
 ghost use Rattle.keep_script.specs.Begun.{begun_over};
 ghost use Rattle.keep_script.specs.Run.{Ends};
 ghost use Rattle.keep_script.specs.declared.status.Status.{Status};
-ghost use Rattle.keep_command.specs.Following.{Crews, EndsWith, Follows, IsCrewDue, Serves};
+ghost use Rattle.keep_command.specs.Damage.{IsRefusedSo, SaysDamage};
+ghost use Rattle.keep_command.specs.Following.{Crews, EndsWith, Follows, IsCrewDue, Serves, ServesOrTells};
 ghost use Rattle.keep_command.specs.NamedShelf.{shelved_of};
 ghost use Rattle.keep_command.specs.Option.{options_view};
-ghost use Rattle.keep_command.specs.Running.{KeepsLines, RunsWith, settings_of};
+ghost use Rattle.keep_command.specs.Running.{KeepsLines, settings_of};
 
 use crate::crew::Crew;
 use crate::ending::Ending;
@@ -16,8 +17,13 @@ use crate::named_shelf::NamedShelf;
 use crate::report::{Report, tell_tally};
 use crate::terms::Terms;
 use keep_book::Book;
+use keep_damage::{damage_on, report};
 use keep_jobs::Kit;
+use keep_ledger::NotOpened;
+use keep_opening::OpenError;
 use keep_script::{Status, run_on};
+use keep_shelf::Shelf;
+use std::alloc::Global;
 use std::io::{Read, Write};
 use std::mem;
 
@@ -50,15 +56,37 @@ fn serve_on<'a, C: Crew, R: Read, W: Write>(
     writer: &mut W,
 ) -> Ending<'a>
     requires few { terms.options.crew ≤ 8 }
-    ensures serves { let options = options_view terms.entry.options in Serves
-        (RunsWith (shelved_of shelf.entry) (kit_view kit.old) options (R.remaining reader.old) (R.remaining reader.new))
-        options (W.contents writer.old) (W.contents writer.new) result }
+    ensures serves { ServesOrTells (shelved_of shelf.entry) (kit_view kit.old) (options_view terms.entry.options)
+        (R.remaining reader.old) (R.remaining reader.new) (W.contents writer.old) (W.contents writer.new) result }
     ensures lines { KeepsLines (R.remaining reader.old) (W.contents writer.old) (W.contents writer.new) result }
 {
     match Book::open(terms.alloc, shelf) {
         Ok(book) => serve_over(crew, terms, book, kit, reader, writer),
-        Err(given) => Ending::Ran(Status::from(given.error)),
+        Err(given) => refused(terms.alloc, given),
     }
+}
+
+/// How the program ends where the shelf isn't opened: what is wrong there is said, where it can be found.
+fn refused<'a, S: Shelf>(alloc: Global, given: NotOpened<S>) -> Ending<'a>
+    ensures { IsRefusedSo (S.shelved given.shelf).content given.error result }
+{
+    let NotOpened { mut shelf, error } = given;
+    let OpenError::BadEntry(number) = error else {
+        return Ending::Ran(Status::from(error));
+    };
+    match damage_said(alloc, &mut shelf) {
+        Ok(damage) => Ending::Damaged(number, damage),
+        Err(_) => Ending::Ran(Status::NotOpened(OpenError::BadEntry(number))),
+    }
+}
+
+/// What is wrong with what stands on the shelf, in words.
+fn damage_said<S: Shelf>(alloc: Global, shelf: &mut S) -> Result<String, OpenError>
+    ensures { IfOk result (λ damage. SaysDamage (S.shelved shelf.old).content (string_bytes damage)) }
+{
+    let found = damage_on(alloc, shelf)?;
+    let damage = report(alloc, found.as_slice())?;
+    Ok(damage)
 }
 
 /// Answers the script over this book, and has the crew work that is asked for.

@@ -1,4 +1,4 @@
-use Rattle.std.proofs.Common.{inl}
+use Rattle.std.proofs.Common.{inl, inr}
 use Rattle.keep_jobs.specs.Kits.{kit_view}
 use Rattle.keep_command.proofs.EndingLemmas.{ends-unopened, keeps-idle}
 use Rattle.keep_command.specs.NamedShelf.{shelved_of}
@@ -6,7 +6,11 @@ use Rattle.keep_command.specs.Option.{options_view}
 use Rattle.keep_command.proofs.serving.serve.Goals as goal
 
 pub returns-in-Ok-clause-ends : goal.returns-in-Ok-clause-ends
-returns-in-Ok-clause-ends g c = inl (shelved_of c.in-Ok.shelf, c.in-Ok.ensures.opened, c.serve_on.ensures.serves)
+returns-in-Ok-clause-ends g c =
+    elim c.serve_on.ensures.serves [
+      | inl serves ↦ inl (shelved_of c.in-Ok.shelf, c.in-Ok.ensures.opened, serves)
+      | inr told ↦ inr (inr (inr (shelved_of c.in-Ok.shelf, c.in-Ok.ensures.opened, told.0)), told.1)
+    ]
 
 pub returns-in-Ok-clause-lines : goal.returns-in-Ok-clause-lines
 returns-in-Ok-clause-lines g c = c.serve_on.ensures.lines
