@@ -2,7 +2,6 @@
 use Rattle.std.proofs.Common.{◌≡◌, ◌≢◌, ℕ, List, [], Result, Ok, Err, Bool, true, false, Option, IfOk, IfErr, inl, inr, ap, refl, subst}
 use Rattle.std.proofs.KnownBytes.{Appends-nil}
 use Rattle.keep_book.specs.Armed.{IsUnchanged, Responds, ledger_of, on_shelf}
-use Rattle.keep_ledger.proofs.Counted.{faults_counted}
 use Rattle.keep_journal.specs.declared.request.Request.{Request}
 use Rattle.keep_book.specs.declared.book.Book.{Book}
 use Rattle.keep_ledger.specs.declared.reply.Refusal.{Refusal}
@@ -21,7 +20,7 @@ use Rattle.keep_lines.specs.declared.mistake.Mistake.{Mistake}
 use Rattle.keep_lines.specs.declared.reply.Sizes.{Sizes}
 use Rattle.keep_plan.specs.declared.plan_error.PlanError.{PlanError}
 use Rattle.keep_plan.specs.declared.plan_error.PlanError.TheVariants as plan_error
-use Rattle.keep_answers.specs.Answer.{AnswersTo, Committed, Done, JobAnswered, Shows, commit_of, replied, shown_by}
+use Rattle.keep_answers.specs.Answer.{AnswersTo, Asked, Committed, Done, JobAnswered, Shows, commit_of, replied, shown_by}
 use Rattle.keep_answers.specs.Answering.{AnswersDue, AnswersLine, AnswersMeant}
 use Rattle.keep_answers.specs.Halting.{halt_of}
 use Rattle.keep_answers.specs.Known.{Puts, Writes}
@@ -83,21 +82,29 @@ AnswersLine-unread a state line Memory halt r e bad same = rw (same, e) ([], App
 -- what the book replies decides on what is left
 pub left_by : {S I F g J E h : _} (kit : KitData) (session session' : Session) (book book' : Book S I F g J E h) (request : Request) (reply : Result Told Refusal)
     → Responds book request reply book' → session' ≡ session_after session reply
-    → state_of kit session' book' ≡ replied (state_of kit session book) request reply
-left_by kit session session' book book' request reply asks noted =
-    let counted = faults_counted (on_shelf book) (on_shelf book') request reply asks.ends in
-    rw (noted, asks.ledger, asks.hooks, counted) refl
+    → state_of kit session' book' ≡ replied (state_of kit session book) request reply (on_shelf book')
+left_by kit session session' book book' request reply asks noted = rw (noted, asks.ledger, asks.hooks) refl
+
+-- what the book responds is what it is asked for
+pub Asked-by : {S I F g J E h : _} (kit : KitData) (session session' : Session) (book book' : Book S I F g J E h) (request : Request) (accepted : Told → List ℕ) (reply : Result Told Refusal)
+    → Responds book request reply book' → session' ≡ session_after session reply
+    → Asked (state_of kit session book) request accepted (reply_answer accepted reply) (state_of kit session' book')
+Asked-by kit session session' book book' request accepted reply asks noted = record {
+  reply = reply;
+  replies = asks.replies;
+  text = refl;
+  ends = asks.ends;
+  faults = asks.faults;
+  stops = asks.stops;
+  left = left_by kit session session' book book' request reply asks noted;
+}
 
 -- the change that was made ready is committed
 pub Committed-by : {S I F g J E h : _} (kit : KitData) (session session' : Session) (book book' : Book S I F g J E h) (change : Change) (sizes : Sizes) (reply : Result Told Refusal)
     → Responds book (commit_of (ledger_of book) change) reply book' → session' ≡ session_after session reply → sizes ≡ sizes_of change
     → Committed (state_of kit session book) change (reply_answer (commit_text sizes) reply) (state_of kit session' book')
-Committed-by kit session session' book book' change sizes reply asks noted counted = record {
-  reply = reply;
-  replies = asks.replies;
-  text = ap (λ s. reply_answer (commit_text s) reply) counted;
-  left = left_by kit session session' book book' (commit_of (ledger_of book) change) reply asks noted;
-}
+Committed-by kit session session' book book' change sizes reply asks noted counted =
+    rw counted (Asked-by kit session session' book book' (commit_of (ledger_of book) change) (commit_text (sizes_of change)) reply asks noted)
 
 -- ---- jobs
 

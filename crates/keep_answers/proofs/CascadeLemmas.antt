@@ -19,5 +19,8 @@ Cascaded-by kit session session' book book' n back taken noted = record {
   along = taken.along;
   accepted = taken.accepted;
   text = refl;
-  left = rw (noted, taken.ledger, taken.hooks, taken.failures) refl;
+  ends = taken.ends;
+  faults = taken.faults;
+  stops = taken.stops;
+  left = rw (noted, taken.ledger, taken.hooks) refl;
 }

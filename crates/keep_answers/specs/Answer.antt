@@ -6,8 +6,10 @@ use Rattle.keep_change.specs.declared.change.Change.{Change}
 use Rattle.keep_journal.specs.History.{length_of}
 use Rattle.keep_view.specs.Shown.{Shown, shown_of}
 use Rattle.keep_ledger.specs.LedgerState.{LedgerState}
-use Rattle.keep_ledger.specs.Ends.{failures_after, heard}
+use Rattle.keep_ledger.specs.Ends.{Ends, FaultsLast, heard}
+use Rattle.keep_ledger.specs.OnShelf.{OnShelf}
 use Rattle.keep_ledger.specs.Reply.{Replies, state_after}
+use Rattle.keep_ledger.specs.Stops.{EachCallReads}
 use Rattle.keep_ledger.specs.declared.reply.Refusal.{Refusal}
 use Rattle.keep_ledger.specs.declared.reply.Refusal.TheVariants.{Fault}
 use Rattle.keep_journal.specs.declared.request.Request.{Request}
@@ -33,7 +35,7 @@ use Rattle.keep_answers.specs.declared.hook_place.HookPlace.{HookPlace}
 use Rattle.keep_answers.specs.declared.hook_place.HookPlace.TheVariants.{Armed, Veto, Watch}
 use Rattle.keep_answers.specs.declared.meant.Topic.{Topic}
 use Rattle.keep_answers.specs.declared.meant.Topic.TheVariants as topic
-use Rattle.keep_answers.specs.State.{State, is_fault, noted_under}
+use Rattle.keep_answers.specs.State.{State, is_fault, ledger_in, noted_under}
 use Rattle.keep_answers.specs.Text.{armed_answer, commit_text, count_answer, double_name_answer, found_answer, history_answer, list_answer, no_memory_answer, note_answer, reply_answer, restore_answer, same_answer, totals_answer, unplanned_answer}
 
 -- what the book shows
@@ -49,23 +51,27 @@ pub record Shows (state : State) (shown written : List ℕ) (after : State) : Ty
   pub text : written ≡ shown
   pub same : after ≡ state
 
--- what the reply leaves: an event that is in, settled or not, is added; the shelf's count of failures rises at a fault,
--- and nowhere else
-abbrev pub replied : State → Request → Result Told Refusal → State
-replied state request reply = record state {
+-- what the reply leaves, where the ledger is left so on its shelf: an event that is in, settled or not, is added
+abbrev pub replied : State → Request → Result Told Refusal → OnShelf → State
+replied state request reply ledger = record state {
   book = state_after state.book request (heard state.book request reply);
-  failures = failures_after reply state.failures;
+  due = ledger.due;
+  shelf = ledger.shelf;
   faulted = state.faulted || is_fault reply;
 }
 
 -- the book's reply to the request is written, and alone decides on what is left; by its rules the book replies unless
--- the shelf fails before the event is in
+-- the shelf fails before the event is in. The reply tells of the calls of the shelf, too: which were made, and which one
+-- failed; each of them left a shelf that says what was so before the request, or what is so after it
 pub record Asked (state : State) (request : Request) (accepted : Told → List ℕ)
     (written : List ℕ) (after : State) : Type 0 where
   pub reply : Result Told Refusal
   pub replies : reply ≢ Err Fault → Replies state.book state.armed.vetoes request (heard state.book request reply)
   pub text : written ≡ reply_answer accepted reply
-  pub left : after ≡ replied state request reply
+  pub ends : Ends (ledger_in state) request reply (ledger_in after)
+  pub faults : FaultsLast (ledger_in state) state.armed.vetoes request reply (ledger_in after)
+  pub stops : EachCallReads (ledger_in state) request (ledger_in after)
+  pub left : after ≡ replied state request reply (ledger_in after)
 
 -- the change is planned on the present state, and its commit follows at once
 abbrev pub Committed : State → Change → List ℕ → State → Type 0

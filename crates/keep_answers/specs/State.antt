@@ -3,8 +3,11 @@ use Rattle.std.specs.Prelude.{ℕ, Bool, true, false, ◌||◌, List, Option, So
 use Rattle.std.specs.BTreeMap.{get_by_text}
 use Rattle.std.specs.Str.{bytes_eq}
 use Rattle.keep_repo.specs.Repository.{Repository}
+use Rattle.keep_shelf.specs.Shelved.{Shelved}
+use Rattle.keep_moves.specs.declared.moves.Move.{Move}
 use Rattle.keep_book.specs.Armed.{hooks_of, ledger_of, on_shelf}
 use Rattle.keep_ledger.specs.LedgerState.{LedgerState}
+use Rattle.keep_ledger.specs.OnShelf.{OnShelf}
 use Rattle.keep_ledger.specs.declared.reply.Refusal.{Refusal}
 use Rattle.keep_ledger.specs.declared.reply.Refusal.TheVariants.{Fault, Unsettled}
 use Rattle.keep_journal.specs.declared.request.Told.{Told}
@@ -15,19 +18,24 @@ use Rattle.keep_jobs.specs.Job.{SettingsData, settings_view}
 use Rattle.keep_answers.specs.declared.notes.Notes.{Notes}
 use Rattle.keep_answers.specs.declared.session.Session.{Session}
 
--- what jobs go by, and the filters that lines may name; a book, and what is armed over it; the vetoes and watches that
--- can still be armed; under each name the repository that was noted last; how many calls of the shelf failed, and
--- whether a line of the run was answered that one did
+-- what jobs go by, and the filters that lines may name; a book, the moves that are due, and its shelf; what is armed over
+-- it, and the vetoes and watches that can still be armed; under each name the repository that was noted last; and whether
+-- a line of the run was answered that a call of the shelf failed
 pub record State : Type 0 where
   pub settings : SettingsData
   pub filters : List NamedRule
   pub book : LedgerState
+  pub due : List Move
+  pub shelf : Shelved
   pub armed : HooksData
   pub spare_vetoes : List Rule
   pub spare_watches : List WatchData
   pub notes : List ℕ → Option Repository
-  pub failures : ℕ
   pub faulted : Bool
+
+-- the book's ledger, on its shelf
+abbrev pub ledger_in : State → OnShelf
+ledger_in state = record { state = state.book; due = state.due; shelf = state.shelf }
 
 -- no notes
 abbrev pub no_notes : List ℕ → Option Repository
@@ -66,11 +74,12 @@ state_of kit session book = record {
   settings = settings_view session.settings;
   filters = kit.filters;
   book = ledger_of book;
+  due = (on_shelf book).due;
+  shelf = (on_shelf book).shelf;
   armed = hooks_of book;
   spare_vetoes = kit.vetoes;
   spare_watches = kit.watches;
   notes = notes_of session.notes;
-  failures = (on_shelf book).shelf.failures;
   faulted = session.faulted;
 }
 

@@ -13,11 +13,12 @@ begun settings kit ledger = record {
   settings = settings;
   filters = kit.filters;
   book = ledger.state;
+  due = ledger.due;
+  shelf = ledger.shelf;
   armed = record { vetoes = []; watches = [] };
   spare_vetoes = kit.vetoes;
   spare_watches = kit.watches;
   notes = no_notes;
-  failures = ledger.shelf.failures;
   faulted = false;
 }
 
