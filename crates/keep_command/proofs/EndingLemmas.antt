@@ -11,7 +11,8 @@ use Rattle.keep_script.specs.declared.status.Status.TheVariants.{ScriptTooLong, 
 use Rattle.keep_command.specs.Ending.{ending_after, ending_unopened}
 use Rattle.keep_command.specs.Following.{EndsBy, EndsWith, IsNotRun}
 use Rattle.keep_command.specs.Option.{OptionsData}
-use Rattle.keep_command.specs.Running.{IsUntouched, KeepsLines}
+use Rattle.keep_script.specs.Run.{IsUntouched}
+use Rattle.keep_command.specs.Running.{KeepsLines}
 use Rattle.keep_command.specs.declared.ending.Ending.{Ending}
 use Rattle.keep_command.specs.declared.ending.Ending.TheVariants.{Ran}
 

@@ -4,6 +4,7 @@ pub mod Crossing
 mod EndingLemmas
 mod NumberLemmas
 mod OptionLemmas
+mod OverLemmas
 mod ServingLemmas
 mod StoredLemmas
 mod UntouchedLemmas

@@ -15,7 +15,7 @@ use Rattle.keep_jobs.specs.Kits.{KitData}
 use Rattle.keep_answers.proofs.KnownLemmas.{WritesLines-none, WritesLines-trans}
 use Rattle.keep_answers.specs.Known.{Writes, WritesLines}
 use Rattle.keep_answers.specs.State.{State}
-use Rattle.keep_script.proofs.OpeningLemmas.{EndsOver-opened, EndsOver-refused, begun_by}
+use Rattle.keep_script.proofs.OpeningLemmas.{begun_by}
 use Rattle.keep_script.specs.Begun.{begun, begun_over}
 use Rattle.keep_script.specs.Line.{longest_script}
 use Rattle.keep_script.specs.Run.{Ends}
@@ -23,6 +23,7 @@ use Rattle.keep_script.specs.Status.{status_unopened}
 use Rattle.keep_script.specs.declared.status.Status.{Status}
 use Rattle.keep_script.specs.declared.status.Status.TheVariants.{Done, ScriptTooLong, WriteFailed}
 use Rattle.keep_command.proofs.CrewLemmas.{crews-short}
+use Rattle.keep_command.proofs.OverLemmas.{EndsOver-opened, EndsOver-refused}
 use Rattle.keep_command.specs.Damage.{IsRefusedSo, TellsDamage}
 use Rattle.keep_command.specs.Following.{Follows, Serves, ServesOrTells}
 use Rattle.keep_command.specs.Option.{OptionsData}

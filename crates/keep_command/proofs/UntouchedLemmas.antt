@@ -3,7 +3,7 @@ use Rattle.std.proofs.Common.{ℕ, IfSome, List, Option, Some, None, inl, inr, r
 use Rattle.std.specs.Io.KnownBytes.{Keeps}
 use Rattle.keep_command.specs.Option.{OptionsData}
 use Rattle.keep_command.specs.Following.{EndsBy}
-use Rattle.keep_command.specs.Running.{IsUntouched}
+use Rattle.keep_script.specs.Run.{IsUntouched}
 use Rattle.keep_command.specs.declared.ending.Ending.TheVariants.{Ran}
 use Rattle.keep_script.specs.declared.status.Status.TheVariants.{NoMemory}
 

@@ -17,7 +17,8 @@ use Rattle.keep_script.specs.declared.status.Status.{Status}
 use Rattle.keep_script.specs.declared.status.Status.TheVariants.{Done, NoMemory, WriteFailed}
 use Rattle.keep_command.specs.Damage.{IsToldDamaged}
 use Rattle.keep_command.specs.Option.{OptionsData}
-use Rattle.keep_command.specs.Running.{IsShelfBy, IsUntouched, RunsWith, settings_of, stored, stored_filters}
+use Rattle.keep_script.specs.Run.{IsUntouched}
+use Rattle.keep_command.specs.Running.{IsShelfBy, RunsWith, settings_of, stored, stored_filters}
 use Rattle.keep_operators.specs.declared.order.NoCrew.{NoCrew}
 use Rattle.keep_operators.specs.declared.order.NoCrew.TheVariants as uncrewed
 use Rattle.keep_command.specs.declared.ending.Ending.{Ending}

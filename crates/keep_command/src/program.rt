@@ -2,11 +2,12 @@ ghost use Rattle.std.specs.Prelude.{◌≡◌, ◌≢◌, ◌≤◌, ◌⊎◌, 
 ghost use Rattle.keep_jobs.specs.Kits.{named_rule};
 ghost use Rattle.keep_answers.specs.Known.{WritesLines};
 ghost use Rattle.keep_script.specs.Line.{longest_script};
+ghost use Rattle.keep_script.specs.Run.{IsUntouched};
 ghost use Rattle.keep_script.specs.declared.status.Status.{Status};
 ghost use Rattle.keep_command.specs.Ending.{NamesBadWord, ending_after};
 ghost use Rattle.keep_command.specs.Following.{EndsBy, EndsWith};
 ghost use Rattle.keep_command.specs.Option.{options_of, options_view};
-ghost use Rattle.keep_command.specs.Running.{IsUntouched, KeepsLines, stored};
+ghost use Rattle.keep_command.specs.Running.{KeepsLines, stored};
 
 use crate::crew::Crew;
 use crate::ending::Ending;

@@ -1,48 +1,14 @@
--- What a run begins with, and how it ends where its shelf isn't opened.
-use Rattle.std.proofs.Common.{◌≡◌, ℕ, List, [], Option, ap, inl, inr, refl}
-use Rattle.std.proofs.KnownBytes.{Appends-nil, Keeps-refl}
+-- What a run begins with that opens its shelf.
+use Rattle.std.proofs.Common.{◌≡◌, [], ap}
 use Rattle.keep_hooks.specs.Guards.{HooksData}
-use Rattle.keep_shelf.specs.Shelved.{Shelved}
-use Rattle.keep_ledger.specs.OnShelf.{OnShelf}
-use Rattle.keep_ledger.specs.Opened.{IsNotOpened, IsOpened}
-use Rattle.keep_opening.specs.declared.open_error.OpenError.{OpenError}
-use Rattle.keep_opening.specs.declared.open_error.OpenError.TheVariants.{BadEntry, Fault, Memory}
 use Rattle.keep_book.specs.Armed.{hooks_of, on_shelf}
 use Rattle.keep_book.specs.declared.book.Book.{Book}
 use Rattle.keep_jobs.specs.Job.{SettingsData}
 use Rattle.keep_jobs.specs.Kits.{KitData}
-use Rattle.keep_answers.specs.Known.{Writes}
-use Rattle.keep_answers.specs.State.{State, kit_of}
-use Rattle.keep_script.specs.Run.{Ends, EndsOver}
 use Rattle.keep_script.specs.Begun.{begun, begun_over}
-use Rattle.keep_script.specs.Status.{status_unopened}
-use Rattle.keep_script.specs.declared.status.Status.{Status}
-use Rattle.keep_script.specs.declared.status.Status.TheVariants as ended_as
 
 -- a book over which nothing is armed is one that a run begins with
 pub begun_by : {S I F g J E h : _} (settings : SettingsData) (kit : KitData) (book : Book S I F g J E h) → hooks_of book ≡ record { vetoes = []; watches = [] }
     → begun_over settings kit book ≡ begun settings kit (on_shelf book)
 begun_by settings kit book none =
     ap (λ (hooks : HooksData). record (begun settings kit (on_shelf book)) { armed = hooks }) none
-
--- of a shelf that was opened
-pub EndsOver-opened : (shelf : Shelved) (settings : SettingsData) (kit : KitData) (ledger : OnShelf) (after : State) (known left : Option (List ℕ)) (text : List ℕ) (status : Status) → IsOpened shelf ledger
-    → Ends (begun settings kit ledger) known left text status after → EndsOver shelf settings kit known left text status after
-EndsOver-opened shelf settings kit ledger after known left text ended_as.Done is h = (ledger, is, h)
-EndsOver-opened shelf settings kit ledger after known left text ended_as.Faulted is h = (ledger, is, h)
-EndsOver-opened shelf settings kit ledger after known left text (ended_as.BadLine k told) is h = (ledger, is, h)
-EndsOver-opened shelf settings kit ledger after known left text ended_as.ReadFailed is h = (ledger, is, h)
-EndsOver-opened shelf settings kit ledger after known left text ended_as.ScriptTooLong is h = (ledger, is, h)
-EndsOver-opened shelf settings kit ledger after known left text ended_as.WriteFailed is h = (ledger, is, h)
-EndsOver-opened shelf settings kit ledger after known left text ended_as.NoMemory is h = inr (ledger, is, h)
-EndsOver-opened shelf settings kit ledger after known left text (ended_as.NotOpened error) is h = absurd h
-
--- of a shelf that wasn't opened
-pub EndsOver-refused : (shelf : Shelved) (settings : SettingsData) (kit : KitData) (after : State) (known old : Option (List ℕ)) (error : OpenError) → kit_of after ≡ kit → IsNotOpened shelf error
-    → Writes old old (λ text. EndsOver shelf settings kit known known text (status_unopened error) after)
-EndsOver-refused shelf settings kit after known old Memory same refused =
-    ([], Appends-nil old, inl (record { unread = Keeps-refl known; unwritten = refl; kit_stays = same }))
-EndsOver-refused shelf settings kit after known old (BadEntry k) same refused =
-    ([], Appends-nil old, (refused, λ e. cc e, record { unread = Keeps-refl known; unwritten = refl; kit_stays = same }))
-EndsOver-refused shelf settings kit after known old Fault same refused =
-    ([], Appends-nil old, (refused, λ e. cc e, record { unread = Keeps-refl known; unwritten = refl; kit_stays = same }))

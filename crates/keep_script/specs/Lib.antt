@@ -1,5 +1,6 @@
 pub mod Begun
 pub mod Input
+pub mod Left
 pub mod Line
 pub mod Run
 pub mod Status

@@ -1,18 +1,17 @@
 -- What a run over the lines of a script writes, and how it ends.
-use Rattle.std.specs.Prelude.{◌≡◌, ◌≢◌, ℕ, ◌+◌, ◌⊎◌, List, [], ◌∷◌, ◌++◌, Option, None, IfSome}
+use Rattle.std.specs.Prelude.{◌≡◌, ℕ, ◌+◌, ◌⊎◌, List, [], ◌∷◌, ◌++◌, Option, None, IfSome}
 use Rattle.std.specs.Io.KnownBytes.{Appends, Consumes, IsAtEnd, Keeps}
 use Rattle.std.specs.List.{AllByRecursion}
 use Rattle.keep_jobs.specs.Job.{SettingsData}
 use Rattle.keep_jobs.specs.Kits.{KitData}
 use Rattle.keep_shelf.specs.Shelved.{Shelved}
 use Rattle.keep_ledger.specs.OnShelf.{OnShelf}
-use Rattle.keep_ledger.specs.Opened.{IsNotOpened, IsOpened}
-use Rattle.keep_opening.specs.declared.open_error.OpenError.TheVariants.{Memory}
+use Rattle.keep_ledger.specs.Opened.{IsOpened}
 use Rattle.keep_lines.specs.declared.mistake.Mistake.{Mistake}
 use Rattle.keep_answers.specs.Answer.{Answered, IsBad}
 use Rattle.keep_answers.specs.Known.{AppendsPart}
 use Rattle.keep_script.specs.Line.{HasLineEnd, ended, lines_of}
-use Rattle.keep_answers.specs.State.{State, kit_of}
+use Rattle.keep_answers.specs.State.{State}
 use Rattle.keep_script.specs.Begun.{begun}
 use Rattle.keep_script.specs.Status.{status_at_end}
 use Rattle.keep_answers.specs.Text.{bad_line_answer}
@@ -76,24 +75,15 @@ Ends state known left text NoMemory after =
     IfSome known (λ script. BreaksOff state (lines_of script) text after)
 Ends state known left text (NotOpened error) after = ⊥
 
--- nothing is read or written, and the kit stays
-pub record IsIdle (kit : KitData) (known left : Option (List ℕ)) (text : List ℕ) (after : State) : Type 0 where
-  pub unread : Keeps known left
-  pub unwritten : text ≡ []
-  pub kit_stays : kit_of after ≡ kit
-
--- the same of a run from the ledger that is opened of this shelf, with nothing armed
+-- the same of a run from the ledger that is opened of this shelf, with nothing armed: its shelf has the calls of the
+-- opening, and then those of each line that was answered
 abbrev pub EndsFrom : Shelved → SettingsData → KitData → Option (List ℕ) → Option (List ℕ) → List ℕ → Status → State → Type 0
 EndsFrom shelf settings kit known left text status after =
     (ledger : OnShelf) × IsOpened shelf ledger × Ends (begun settings kit ledger) known left text status after
 
--- the same of a run that opens this shelf first, which may fail, or find no memory
-abbrev pub EndsOver : Shelved → SettingsData → KitData → Option (List ℕ) → Option (List ℕ) → List ℕ → Status → State → Type 0
-EndsOver shelf settings kit known left text (NotOpened error) after =
-    IsNotOpened shelf error × (error ≢ Memory) × IsIdle kit known left text after
-EndsOver shelf settings kit known left text NoMemory after =
-    IsIdle kit known left text after ⊎ EndsFrom shelf settings kit known left text NoMemory after
-EndsOver shelf settings kit known left text status after = EndsFrom shelf settings kit known left text status after
+-- nothing is read or written
+abbrev pub IsUntouched : (known left old new : Option (List ℕ)) → Type 0
+IsUntouched known left old new = Keeps known left × Keeps old new
 
 -- what is written at a bad line, and how the run ends then
 abbrev pub Refuses : Option (List ℕ) → Option (List ℕ) → ℕ → Mistake → Status → Type 0

@@ -1,13 +1,15 @@
-ghost use Rattle.std.specs.Prelude.{◌≡◌, ◌≢◌, ◌≤◌, ◌<◌, ◌⊎◌, IfSome, length};
+ghost use Rattle.std.specs.Prelude.{◌≡◌, ◌≢◌, ◌≤◌, ◌<◌, ◌⊎◌, IfErr, IfOk, IfSome, OnErr, length};
 ghost use Rattle.std.specs.Io.KnownBytes.{Keeps};
-ghost use Rattle.keep_book.specs.Armed.{HasSums, hooks_of, ledger_of, on_shelf};
+ghost use Rattle.keep_ledger.specs.Opened.{IsGivenBack, IsNotOpened};
+ghost use Rattle.keep_book.specs.Armed.{HasSums};
 ghost use Rattle.keep_jobs.specs.Job.{settings_view};
 ghost use Rattle.keep_jobs.specs.Kits.{kit_view};
 ghost use Rattle.keep_answers.specs.Known.{Writes, WritesLines};
 ghost use Rattle.keep_answers.specs.State.{State, kit_of};
 ghost use Rattle.keep_script.specs.Begun.{begun_over};
+ghost use Rattle.keep_script.specs.Left.{IsLeft};
 ghost use Rattle.keep_script.specs.Line.{longest_script};
-ghost use Rattle.keep_script.specs.Run.{Ends, EndsOver};
+ghost use Rattle.keep_script.specs.Run.{Ends, EndsFrom, IsUntouched};
 ghost use Rattle.keep_script.specs.Status.{ReachesEnd};
 
 use crate::flushing::flush;
@@ -15,6 +17,7 @@ use crate::status::Status;
 use crate::turns::Turns;
 use keep_book::Book;
 use keep_jobs::{Kit, Settings};
+use keep_ledger::NotOpened;
 use keep_shelf::Shelf;
 use std::alloc::Global;
 use std::io::{Read, Write};
@@ -26,7 +29,8 @@ pub struct Setup {
     pub settings: Settings,
 }
 
-/// Answers the lines of a script in turn, over the book that is opened of a shelf. The shelf is let go at the end.
+/// Answers the lines of a script in turn, over the book that is opened of a shelf. It is handed back with how the run
+/// ended, as the last line left it. Where the shelf isn't opened it is handed back, and nothing is read or written.
 ///
 /// A line has at most 1,048,576 bytes before its end. The reader is given up after 67,108,864
 /// bytes. Whatever ends the run, the lines before were answered.
@@ -43,22 +47,27 @@ pub fn run<S: Shelf, R: Read, W: Write>(
     kit: &mut Kit,
     reader: &mut R,
     writer: &mut W,
-) -> Status
+) -> Result<(Status, Book<S>), NotOpened<S>>
     requires some { 0 < setup.settings.cut.bytes }
-    ensures answers { Writes (W.contents writer.old) (W.contents writer.new) (λ text. (after : State)
-        × (kit_view kit.new ≡ kit_of after)
-        × EndsOver (S.shelved shelf) (settings_view setup.settings) (kit_view kit.old)
-        (R.remaining reader.old) (R.remaining reader.new) text result after) }
-    ensures whole { result ≢ Status.WriteFailed → WritesLines (W.contents writer.old) (W.contents writer.new) }
-    ensures limit { ReachesEnd result →
-        IfSome (R.remaining reader.old) (λ script. length script < longest_script) }
-    ensures past_limit { result ≡ Status.ScriptTooLong →
-        IfSome (R.remaining reader.old) (λ script. longest_script ≤ length script) }
+    ensures answers { IfOk result (λ ran. Writes (W.contents writer.old) (W.contents writer.new) (λ text. (after : State)
+        × IsLeft after ran.1 × (kit_view kit.new ≡ kit_of after)
+        × EndsFrom (S.shelved shelf) (settings_view setup.settings) (kit_view kit.old)
+        (R.remaining reader.old) (R.remaining reader.new) text ran.0 after)) }
+    ensures sums { IfOk result (λ ran. HasSums ran.1) }
+    ensures whole { IfOk result (λ ran. ran.0 ≢ Status.WriteFailed →
+        WritesLines (W.contents writer.old) (W.contents writer.new)) }
+    ensures limit { IfOk result (λ ran. ReachesEnd ran.0 →
+        IfSome (R.remaining reader.old) (λ script. length script < longest_script)) }
+    ensures past_limit { IfOk result (λ ran. ran.0 ≡ Status.ScriptTooLong →
+        IfSome (R.remaining reader.old) (λ script. longest_script ≤ length script)) }
+    ensures refused { IfErr result (λ given. IsNotOpened (S.shelved shelf) given.error) }
+    ensures given { IfErr result (λ given. IsGivenBack (S.shelved shelf) given.error (S.shelved given.shelf)) }
+    ensures untouched { OnErr result (IsUntouched (R.remaining reader.old) (R.remaining reader.new)
+        (W.contents writer.old) (W.contents writer.new) × (kit_view kit.new ≡ kit_view kit.old)) }
 {
-    match Book::open(setup.alloc, shelf) {
-        Ok(mut book) => run_on(setup, &mut book, kit, reader, writer),
-        Err(given) => Status::from(given.error),
-    }
+    let mut book = Book::open(setup.alloc, shelf)?;
+    let status = run_on(setup, &mut book, kit, reader, writer);
+    Ok((status, book))
 }
 
 /// Answers the lines of a script over this book, which is left as the last line left it, as the kit is. The same holds
@@ -72,8 +81,7 @@ pub fn run_on<S: Shelf, R: Read, W: Write>(
 ) -> Status
     requires sums { HasSums book.old }
     ensures answers { Writes (W.contents writer.old) (W.contents writer.new) (λ text. (after : State)
-        × (ledger_of book.new ≡ after.book) × ((on_shelf book.new).shelf.failures ≡ after.failures)
-        × (hooks_of book.new ≡ after.armed) × (kit_view kit.new ≡ kit_of after)
+        × IsLeft after book.new × (kit_view kit.new ≡ kit_of after)
         × Ends (begun_over (settings_view setup.settings) (kit_view kit.old) book.old)
         (R.remaining reader.old) (R.remaining reader.new) text result after) }
     ensures sums { HasSums book.new }

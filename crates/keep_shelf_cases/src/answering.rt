@@ -27,5 +27,8 @@ pub(crate) fn answer_over<S: Shelf>(
     script: &str,
     text: &mut Vec<u8>,
 ) -> Status {
-    run(setup, shelf, kit, &mut script.as_bytes(), text)
+    match run(setup, shelf, kit, &mut script.as_bytes(), text) {
+        Ok((status, _)) => status,
+        Err(given) => Status::from(given.error),
+    }
 }

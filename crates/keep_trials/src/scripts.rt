@@ -32,7 +32,10 @@ pub fn end_over<S: Shelf, R: Read, W: Write>(
             now: 1_000,
         },
     };
-    run(setup, shelf, &mut nothing_stored, reader, writer)
+    match run(setup, shelf, &mut nothing_stored, reader, writer) {
+        Ok((status, _)) => status,
+        Err(given) => Status::from(given.error),
+    }
 }
 
 /// A script whose answers to `list` and `history` have several lines.
@@ -240,13 +243,28 @@ fn lines_are_written_one_by_one(rt: HostRuntime) {
 /// A script of three lines, of which the last lacks its end.
 const THREE_LINES: &str = "add index 61\ncount\nundo 1";
 
+/// One whose last line is bad, and has its end.
+const BAD_AT_LAST: &str = "add index 61\ncount\nhelp\n";
+
 #[test]
 fn each_answer_is_handed_on_before_the_next_read(rt: HostRuntime) {
     let alloc = rt.alloc();
-    for (flushes, lengths, status) in [
-        (99, [0, 22, 38, 38, 48].as_slice(), Status::Done),
-        (4, &[0, 22, 38, 38], Status::WriteFailed),
-        (1, &[0], Status::WriteFailed),
+    for (script, flushes, lengths, status) in [
+        (
+            THREE_LINES,
+            99,
+            [0, 22, 38, 38, 48].as_slice(),
+            Status::Done,
+        ),
+        (THREE_LINES, 4, &[0, 22, 38, 38], Status::WriteFailed),
+        (THREE_LINES, 1, &[0], Status::WriteFailed),
+        (
+            BAD_AT_LAST,
+            99,
+            &[0, 22, 38, 49],
+            Status::BadLine(3, Mistake::NoCommand),
+        ),
+        (BAD_AT_LAST, 3, &[0, 22, 38], Status::WriteFailed),
     ] {
         let mut writer = Flushed {
             held: Vec::new(alloc),
@@ -255,7 +273,7 @@ fn each_answer_is_handed_on_before_the_next_read(rt: HostRuntime) {
             flushes,
         };
         let mut reader = LineByLine {
-            bytes: THREE_LINES.as_bytes(),
+            bytes: script.as_bytes(),
         };
         let ended = end_of(alloc, &mut reader, &mut writer);
         assert!(rt; ended == status, "at {flushes}");

@@ -1,6 +1,7 @@
 use Rattle.std.proofs.Common.{ap}
 use Rattle.keep_book.specs.Armed.{hooks_of, ledger_of}
 use Rattle.keep_hooks.specs.Guards.{HooksData}
+use Rattle.keep_ledger.specs.OnShelf.{OnShelf}
 use Rattle.keep_jobs.specs.Job.{SettingsData, settings_view}
 use Rattle.keep_jobs.specs.Kits.{kit_view}
 use Rattle.keep_script.specs.Begun.{begun_over}
@@ -23,9 +24,9 @@ returns-clause-serves g c =
     let h = c.run_on-status.ensures.answers in
     let start = ap (λ (s : SettingsData). begun_over s kit c.args.book) c.setup.ensures in
     serves-answered options (begun_over (settings_view c.setup.result.settings) kit c.args.book) (begun_over (settings_of options) kit c.args.book) h.2.0
-    known left old middle new c.run_on-status.result c.follow.result start (h.0, h.1, h.2.5)
+    known left old middle new c.run_on-status.result c.follow.result start (h.0, h.1, h.2.3)
     (follows-where options (hooks_of book).vetoes h.2.0.armed.vetoes (ledger_of book) h.2.0.book middle new c.run_on-status.result c.follow.result
-    (ap (λ (hooks : HooksData). hooks.vetoes) h.2.3) h.2.1 c.follow.ensures.follows)
+    (ap (λ (hooks : HooksData). hooks.vetoes) h.2.1.armed) (ap (λ (s : OnShelf). s.state) h.2.1.ledger) c.follow.ensures.follows)
 
 pub returns-clause-lines : goal.returns-clause-lines
 returns-clause-lines g c =

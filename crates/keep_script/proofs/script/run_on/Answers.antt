@@ -16,7 +16,7 @@ pub returns-in_default-clause-answers : goal.returns-in_default-clause-answers
 returns-in_default-clause-answers g c =
     let begun = begun_over (settings_view c.args.setup.settings) (kit_view c.args.kit.now) c.args.book.now in
     let none = Ends-nothing (g.R.Read.remaining c.args.reader.now) (g.R.Read.remaining c.args.reader.now) (g.W.Write.contents c.args.writer.now) begun in
-    (none.0, none.1, (begun, refl, refl, refl, refl, none.2))
+    (none.0, none.1, (begun, record { ledger = refl; armed = refl }, refl, none.2))
 
 pub returns-clause-answers : goal.returns-clause-answers
 returns-clause-answers g c =
@@ -26,7 +26,7 @@ returns-clause-answers g c =
     let read = ap (λ bs. prepend_known bs (g.R.Read.remaining c.args.reader.now)) c.in-Ok.ensures.unread ∙ prepend_known-nil (g.R.Read.remaining c.args.reader.now) in
     let whole = Ends-begun _ (g.R.Read.remaining c.args.reader.now) _ _ _ _ (begun_over (settings_view c.args.setup.settings) (kit_view c.args.kit.now) c.args.book.now) _ _ before read c.answer_all-status.ensures.answers in
     let handed = Ends-finished (g.R.Read.remaining c.args.reader.now) _ _ _ _ (begun_over (settings_view c.args.setup.settings) (kit_view c.args.kit.now) c.args.book.now) _ _ _ whole c.finish.ensures.kept c.finish.ensures.status in
-    (handed.0, handed.1, (state_of (kit_view c.answer_all-status.new.kit) c.answer_all-status.new.self.session c.answer_all-status.new.book, refl, refl, refl, refl, handed.2))
+    (handed.0, handed.1, (state_of (kit_view c.answer_all-status.new.kit) c.answer_all-status.new.self.session c.answer_all-status.new.book, record { ledger = refl; armed = refl }, refl, handed.2))
 
 pub returns-clause-limit : goal.returns-clause-limit
 returns-clause-limit g c done =
