@@ -1,7 +1,7 @@
 ghost use Rattle.std.specs.Prelude.{◌≡◌, ◌≢◌, ℕ, Err};
 ghost use Rattle.keep_hooks.specs.Guards.{HooksData, Tally};
 ghost use Rattle.keep_journal.specs.Opening.{IsOpen};
-ghost use Rattle.keep_ledger.specs.Ends.{heard};
+ghost use Rattle.keep_ledger.specs.Ends.{failures_after, heard};
 ghost use Rattle.keep_ledger.specs.Reply.{Replies, about, state_after};
 ghost use Rattle.keep_ledger.specs.Sums.{AreSums};
 ghost use Rattle.keep_taken.specs.Taken.{AreTaken};
@@ -17,7 +17,7 @@ use keep_shelf::Shelf;
 ///
 /// A desk is generic over it: a book has stored questions in it, and no fact can tie those to a desk's name.
 pub trait Keeper: Drop + Send {
-    ghost use Rattle.std.specs.Prelude.{List};
+    ghost use Rattle.std.specs.Prelude.{ℕ, List};
     ghost use Rattle.keep_hooks.specs.Guards.{HooksData, Tally};
     ghost use Rattle.keep_ledger.specs.LedgerState.{LedgerState};
 
@@ -29,6 +29,9 @@ pub trait Keeper: Drop + Send {
 
     /// The watches with their totals.
     ghost tallies: { Self → List Tally };
+
+    /// How often the shelf failed, up to the last value of that count.
+    ghost failures: { Self → ℕ };
 
     fn history(&self) -> &History
         ensures events { result.now.journal ≡ (ledger self.now).events }
@@ -50,19 +53,22 @@ pub trait Keeper: Drop + Send {
         ensures ledger { ledger self.new
             ≡ state_after (ledger self.old) request (heard (ledger self.old) request result) }
         ensures unsettled { (n : ℕ) → result ≡ Err (Refusal.Unsettled n) → n ≡ about (ledger self.old).events request }
+        ensures failures { failures self.new ≡ failures_after result (failures self.old) }
         ensures hooks { hooks self.new ≡ hooks self.old }
         ensures sums { AreSums (ledger self.new).events (hooks self.new).watches (tallies self.new) };
 }
 
 impl<S: Shelf + Send> Keeper for Book<S> {
     ghost use Rattle.keep_hooks.specs.Rules.{tallies_of};
-    ghost use Rattle.keep_book.specs.Armed.{hooks_of, ledger_of};
+    ghost use Rattle.keep_book.specs.Armed.{hooks_of, ledger_of, on_shelf};
 
     ghost ledger = { λ book. ledger_of book };
 
     ghost hooks = { λ book. hooks_of book };
 
     ghost tallies = { λ book. tallies_of book.hooks.watches.items };
+
+    ghost failures = { λ book. (on_shelf book).shelf.failures };
 
     fn history(&self) -> &History {
         self.ledger().history()
