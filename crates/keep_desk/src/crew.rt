@@ -2,6 +2,7 @@ ghost use Rattle.std.specs.Prelude.{◌≡◌, ℕ, ◌<◌, length};
 ghost use Rattle.std.specs.List.{slice_index_or};
 ghost use mathlib.Core.List.{IsPrefix};
 ghost use Rattle.keep_pages.specs.Histories.{shown_at, IsLegal};
+ghost use Rattle.keep_crew.specs.Allowing.{AllowsPlans, AllowsWork};
 ghost use Rattle.keep_crew.specs.Asking.{PlansAndCommits, as_told};
 ghost use Rattle.keep_crew.specs.Planned.{IsPlanned};
 ghost use Rattle.keep_desk.specs.Crew.{DoesWork, HasWorked};
@@ -32,13 +33,16 @@ impl<B: Naming + Send + Sync, R: Wait + Drop + Send, K: Keeper> Desk<B, Locked<B
     /// Has each operator do its work, in a thread of its own, and waits for all of them. Where no thread can be made,
     /// they work one after another.
     ///
-    /// A worker comes by the gate before its work, and once its answer is there.
+    /// A worker comes by the gate before its work, and once its answer is there. What an operator plans may be committed
+    /// on what it was shown.
     pub fn run_crew<W: Wait + Threads + Sync, P: Plans, G: Gate + Sync>(
         &self,
         rt: &W,
         operators: &mut [Operator<B, P>],
         gate: &G,
     )
+        requires { (i : ℕ) (d : _) → i < length operators.old
+            → AllowsWork B.allows B.opening P.wanted (slice_index_or operators.old i d).work }
         ensures { (i : ℕ) (d : _) → i < length operators.old
             → HasWorked B.hooks.vetoes B.opening P.wanted (slice_index_or operators.old i d) (slice_index_or operators.new i d) }
     {
@@ -46,7 +50,9 @@ impl<B: Naming + Send + Sync, R: Wait + Drop + Send, K: Keeper> Desk<B, Locked<B
             rt,
             operators,
             MOST_WORKERS,
-            &|place, operator| {
+            &|place, operator|
+                requires { AllowsWork B.allows B.opening P.wanted operator.now.work }
+            {
                 gate.before(place);
                 self.serve(rt, operator);
                 gate.after(place);
@@ -55,6 +61,7 @@ impl<B: Naming + Send + Sync, R: Wait + Drop + Send, K: Keeper> Desk<B, Locked<B
     }
 
     fn serve<W: Wait, P: Plans>(&self, rt: &W, operator: &mut Operator<B, P>)
+        requires { AllowsWork B.allows B.opening P.wanted operator.old.work }
         ensures { HasWorked B.hooks.vetoes B.opening P.wanted operator.old operator.new }
     {
         let answer = self.work(rt, &mut operator.pass, &operator.work);
@@ -68,6 +75,7 @@ impl<B: Naming + Send + Sync, R: Wait + Drop + Send, K: Keeper> Desk<B, Locked<B
         pass: &mut Pass<B>,
         work: &Work<P>,
     ) -> Result<Told, NotTold>
+        requires { AllowsWork B.allows B.opening P.wanted work.now }
         ensures { DoesWork B.hooks.vetoes B.opening P.wanted work.now pass.old pass.new result }
     {
         match work {
@@ -85,6 +93,7 @@ impl<B: Naming + Send + Sync, R: Wait + Drop + Send, K: Keeper> Desk<B, Locked<B
         pass: &mut Pass<B>,
         plans: &P,
     ) -> Result<Told, NotTold>
+        requires { AllowsPlans B.allows B.opening (P.wanted plans.now) }
         ensures { PlansAndCommits B.hooks.vetoes B.opening (P.wanted plans.now) pass.old pass.new result }
     {
         match self.plan(rt, pass, plans) {

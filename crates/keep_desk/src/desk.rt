@@ -85,13 +85,14 @@ impl<B: Naming, R: Wait + Drop, K: Keeper> Desk<B, Locked<B, R, K>> {
         }
     }
 
-    /// Makes a change, as the book does.
+    /// Makes a change, as the book does: one that may be committed by who has seen what the pass has.
     pub fn commit<W: Wait>(
         &self,
         rt: &W,
         pass: &mut Pass<B>,
         planned: Planned,
     ) -> Result<Told, DeskError>
+        requires { B.allows pass.old.seen planned }
         ensures answered { IsAnswered B.hooks.vetoes B.opening (request.Commit planned) pass.old pass.new result }
         ensures begins { IsPrefix pass.old.seen pass.new.seen }
         ensures legal { IsLegal B.hooks.vetoes B.opening pass.new.seen }
@@ -146,7 +147,7 @@ impl<B: Naming, R: Wait + Drop, K: Keeper> Desk<B, Locked<B, R, K>> {
 
     /// Takes the passes in, and gives the book back. Pages that are still read are waited for.
     pub fn close(self, passes: Vec<Pass<B>>) -> K
-        ensures closed { IsClosed B.hooks.vetoes B.opening B.parts passes.items (K.ledger result) }
+        ensures closed { IsClosed B.allows B.hooks.vetoes B.opening B.parts passes.items (K.ledger result) }
         ensures hooks { K.hooks result ≡ B.hooks }
         ensures sums { AreSums (K.ledger result).events (K.hooks result).watches (K.tallies result) }
     {

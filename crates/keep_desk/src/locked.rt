@@ -6,6 +6,7 @@ ghost use Rattle.keep_ledger.specs.Sums.{AreSums};
 ghost use Rattle.keep_taken.specs.Taken.{AreTaken};
 ghost use Rattle.keep_book.specs.Cascade.{RefusesOrGives, taken_refusal};
 ghost use Rattle.keep_pages.specs.Histories.{shown_at, state_of, IsHistory, IsLegal};
+ghost use Rattle.keep_register.specs.Allowed.{MayAsk, MayFollow};
 ghost use Rattle.keep_register.specs.Asked.{WasAsked, counted_after, is_in};
 ghost use Rattle.keep_register.specs.Pages.{events_on};
 ghost use Rattle.keep_crew.specs.Answered.{IsAnswered, Tells, has_event, number_in};
@@ -88,6 +89,7 @@ impl<B: Naming, R: Wait + Drop, K: Keeper> Locked<B, R, K> {
 
     /// Publishes an event that came late before, does what is asked, and publishes the event of that.
     pub(crate) fn change(&mut self, pass: &mut Pass<B>, request: Request) -> Result<Told, DeskError>
+        requires { MayAsk B.allows pass.old.seen request }
         ensures answered { IsAnswered B.hooks.vetoes B.opening request pass.old pass.new result }
         ensures begins { IsPrefix pass.old.seen pass.new.seen }
         ensures legal { IsLegal B.hooks.vetoes B.opening pass.new.seen }
@@ -171,6 +173,7 @@ impl<B: Naming, R: Wait + Drop, K: Keeper> Locked<B, R, K> {
     fn change_once(&mut self, pass: &mut Pass<B>, request: Request) -> Result<Told, DeskError>
         requires published { self.old.published ≡ self.old.journal }
         requires seen { pass.old.seen ≡ self.old.journal }
+        requires may { MayFollow B.allows self.old.journal request }
         requires legal { IsLegal B.hooks.vetoes B.opening pass.old.seen }
         ensures tells { Tells B.hooks.vetoes B.opening request result self.old.journal pass.new.seen }
         ensures begins { IsPrefix pass.old.seen pass.new.seen }
@@ -205,7 +208,8 @@ impl<B: Naming, R: Wait + Drop, K: Keeper> Locked<B, R, K> {
 
     /// Asks where all events are published. The event of an accepted request isn't yet.
     fn ask(&mut self, pass: &mut Pass<B>, request: Request) -> Result<Told, Refusal>
-        requires { self.old.published ≡ self.old.journal }
+        requires published { self.old.published ≡ self.old.journal }
+        requires may { MayFollow B.allows self.old.journal request }
         ensures asked { WasAsked B.hooks.vetoes B.opening request result self.old.journal self.new.journal }
         ensures published { self.new.published ≡ self.old.published }
         ensures seen { pass.new.seen ≡ pass.old.seen }
@@ -225,7 +229,7 @@ impl<B: Naming, R: Wait + Drop, K: Keeper> Locked<B, R, K> {
 
     /// Takes the passes in, and gives the book back.
     pub(crate) fn close(self, passes: Vec<Pass<B>>) -> K
-        ensures closed { IsClosed B.hooks.vetoes B.opening B.parts passes.items (K.ledger result) }
+        ensures closed { IsClosed B.allows B.hooks.vetoes B.opening B.parts passes.items (K.ledger result) }
         ensures hooks { K.hooks result ≡ B.hooks }
         ensures sums { AreSums (K.ledger result).events (K.hooks result).watches (K.tallies result) }
     {

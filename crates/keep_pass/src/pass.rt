@@ -2,6 +2,7 @@ ghost use Rattle.std.specs.Prelude.{◌≡◌, [], false, true};
 ghost use mathlib.Core.List.{IsPrefix};
 ghost use Rattle.keep_chronicle.specs.Chronicle.{events_of};
 ghost use Rattle.keep_pages.specs.Histories.{length_at, shown_at, IsHistory, IsLegal};
+ghost use Rattle.keep_register.specs.Allowed.{MayFollow};
 ghost use Rattle.keep_register.specs.Asked.{WasAsked, counted_after, is_in};
 ghost use Rattle.keep_register.specs.Pages.{IsPage};
 
@@ -160,6 +161,7 @@ impl<B: Naming> Pass<B> {
         register: &mut Register<B, K>,
         request: Request,
     ) -> Result<Told, Refusal>
+        requires { MayFollow B.allows register.old request }
         ensures asked { WasAsked B.hooks.vetoes B.opening request result register.old register.new }
         ensures legal { IsLegal B.hooks.vetoes B.opening register.new }
         ensures seen { self.new.seen ≡ self.old.seen }

@@ -1,3 +1,4 @@
+pub mod Allowing
 pub mod Crossing
 pub mod Lasting
 pub mod Recording

@@ -7,6 +7,7 @@ ghost use Rattle.keep_taken.specs.Taken.{AreTaken};
 ghost use Rattle.keep_book.specs.Cascade.{RefusesOrGives, taken_refusal};
 ghost use Rattle.keep_chronicle.specs.Chronicle.{events_of};
 ghost use Rattle.keep_pages.specs.Histories.{length_at, state_of, IsHistory, IsLegal};
+ghost use Rattle.keep_register.specs.Allowed.{AreAllowed, MayFollow};
 ghost use Rattle.keep_register.specs.Asked.{WasAsked, counted_after, is_in};
 ghost use Rattle.keep_register.specs.Pages.{IsStep};
 
@@ -30,10 +31,11 @@ pub struct Register<B: Naming, K: Keeper> {
 }
 
 impl<B: Naming, K: Keeper> Model for Register<B, K> {
-    ghost use Rattle.std.specs.Prelude.{◌≡◌, List, length};
+    ghost use Rattle.std.specs.Prelude.{◌≡◌, List, [], length};
     ghost use Rattle.keep_journal.specs.declared.event.Event.{Event};
     ghost use Rattle.keep_ledger.specs.Sums.{AreSums};
     ghost use Rattle.keep_pages.specs.Histories.{state_of, IsHistory};
+    ghost use Rattle.keep_register.specs.Allowed.{AreAllowed};
 
     ghost Value = { List Event };
 
@@ -43,7 +45,8 @@ impl<B: Naming, K: Keeper> Model for Register<B, K> {
         × IsHistory B.hooks.vetoes B.opening r.chronicle
         × (K.hooks r.keeper ≡ B.hooks)
         × AreSums (K.ledger r.keeper).events (K.hooks r.keeper).watches (K.tallies r.keeper)
-        × (r.counts.total ≡ length r.chronicle) };
+        × (r.counts.total ≡ length r.chronicle)
+        × AreAllowed B.allows B.hooks.vetoes B.opening [] r.chronicle };
 }
 
 impl<B: Naming, K: Keeper> Register<B, K> {
@@ -100,7 +103,8 @@ impl<B: Naming, K: Keeper> Register<B, K> {
 
     /// Asks the keeper. An event that is in, settled or not, is written and counted.
     pub fn ask(&mut self, share: &mut Share<B>, request: Request) -> Result<Told, Refusal>
-        requires { 0 < share.old.parts }
+        requires parts { 0 < share.old.parts }
+        requires may { MayFollow B.allows self.old request }
         ensures asked { WasAsked B.hooks.vetoes B.opening request result self.old self.new }
         ensures legal { IsLegal B.hooks.vetoes B.opening self.new }
         ensures counted { share.new.amount ≡ counted_after (is_in result) share.old.amount }
@@ -130,6 +134,7 @@ impl<B: Naming, K: Keeper> Register<B, K> {
     pub fn close(self, all: &mut Share<B>) -> K
         ensures ledger { K.ledger result ≡ state_of B.opening self }
         ensures history { IsHistory B.hooks.vetoes B.opening self }
+        ensures allowed { AreAllowed B.allows B.hooks.vetoes B.opening [] self }
         ensures hooks { K.hooks result ≡ B.hooks }
         ensures sums { AreSums (K.ledger result).events (K.hooks result).watches (K.tallies result) }
         ensures least { all.old.amount ≤ length self }

@@ -1,5 +1,8 @@
 use Rattle.keep_desk.proofs.crew.Desk+B+Locked+B+R+K.work.Goals as goal
 
+pub plan_and_commit-requires-after_bounds : goal.plan_and_commit-requires-after_bounds
+plan_and_commit-requires-after_bounds g c κs within = rw c.in-Plan.is at c.requires
+
 pub returns-in-Plan : goal.returns-in-Plan
 returns-in-Plan g c = rw (c.in-Plan.is) c.plan_and_commit.ensures
 

@@ -12,7 +12,7 @@ invariant_of-self g c =
     let p = c.self.inside.press.page in
     let pending = c.self.inside.press.pending in
     let all : events_on p ≡ on =
-    ap (λ (h : Held). h.published) c.self.view_is ∙ (c.requires ∙ sym (ap (λ (h : Held). h.journal) c.self.view_is)) in (
+    ap (λ (h : Held). h.published) c.self.view_is ∙ (c.requires.published ∙ sym (ap (λ (h : Held). h.journal) c.self.view_is)) in (
       up_to g.B.Naming.hooks.vetoes g.B.Naming.opening c.args.request on c.ask.new.register book p pending all
           (nothing_waits book on p pending c.self.invariant.0 all) c.ask.result c.ask.ensures.asked,
       c.self.invariant.1,

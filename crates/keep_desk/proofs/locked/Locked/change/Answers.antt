@@ -4,6 +4,13 @@ use Rattle.keep_journal.specs.declared.event.Event.{Event}
 use Rattle.keep_desk.proofs.Answering.{nothing_asked}
 use Rattle.keep_desk.proofs.locked.Locked.change.Goals as goal
 
+pub change_once-requires-clause-may : goal.change_once-requires-clause-may
+change_once-requires-clause-may g c κs within = (
+  c.args.pass.now.seen,
+  subst (λ (es : List Event). IsPrefix c.args.pass.now.seen es) c.in_default.ensures.seen c.catch_up.ensures.begins,
+  c.requires,
+)
+
 pub returns-in-Err-clause-answered : goal.returns-in-Err-clause-answered
 returns-in-Err-clause-answered g c =
     nothing_asked g.B.Naming.hooks.vetoes g.B.Naming.opening c.args.request c.args.pass.now c.catch_up.new.pass c.in-Err.ensures.same

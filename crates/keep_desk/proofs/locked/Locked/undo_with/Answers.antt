@@ -13,6 +13,10 @@ use Rattle.keep_desk.specs.Cascade.{GoesDown, refusal_of}
 use Rattle.keep_desk.proofs.Cascading.{Going, all_taken, as_told, asks_nothing, goes_on, stops_there}
 use Rattle.keep_desk.proofs.locked.Locked.undo_with.Goals as goal
 
+-- anybody may ask for an undo
+pub change_once-requires-clause-may : goal.change_once-requires-clause-may
+change_once-requires-clause-may g c κs within = (c.loop-done.self.journal, prefix_self c.loop-done.self.journal, tt)
+
 pub returns-in-Err-clause-taken_back : goal.returns-in-Err-clause-taken_back
 returns-in-Err-clause-taken_back g c = record {
   on = c.args.pass.now.seen;

@@ -2,7 +2,9 @@ use Rattle.std.proofs.Common.{◌≡◌, ◌+◌, ◌++◌, Bool, true, false, L
 use Rattle.keep_journal.specs.Journal.{Journal}
 use Rattle.keep_journal.specs.declared.event.Event.{Event}
 use Rattle.keep_chronicle.specs.Chronicle.{last_events}
+use Rattle.keep_register.specs.Allowed.{MayFollow}
 use Rattle.keep_register.specs.Asked.{WasAsked, counted_after, is_in}
+use Rattle.keep_register.proofs.Allowing.{allowed_after}
 use Rattle.keep_register.proofs.Recording.{recorded}
 use Rattle.keep_register.proofs.register.Register.ask.Goals as goal
 
@@ -24,6 +26,9 @@ invariant_of-self g c =
       c.ask-reply.ensures.sums,
       c.add.ensures.total
           ∙ (ap (λ n. n + 1) c.self.invariant.4 ∙ sym (r.counted ∙ ap (λ v. counted_after v (length on)) yes)),
+      allowed_after g.B.Naming.allows g.B.Naming.hooks.vetoes g.B.Naming.opening c.args.request on now
+          (subst (λ (es : List Event). MayFollow g.B.Naming.allows es c.args.request) (sym c.self.view_is) c.requires.may) c.self.invariant.5
+          c.ask-reply.result r.asked,
     )
 
 pub returns-then-event_is_in-clause-asked : goal.returns-then-event_is_in-clause-asked
