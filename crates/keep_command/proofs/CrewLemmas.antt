@@ -46,15 +46,16 @@ crews-refused rules settings time size before old uncrewed.Memory ended e = inr 
 crews-refused rules settings time size before old uncrewed.NoPass ended e = inr (refl, inl (uncrewed.NoPass, (λ same. cc same), e))
 
 -- a crew that worked by what it was asked for, and was reported
-pub crews-worked : (rules : List Rule) (asked settings : SettingsData) (at time : List ℕ) (many size : ℕ) (before : LedgerState) (accepted last : ℕ) (old new : Option (List ℕ)) (ended : Ending)
-    → asked ≡ settings → at ≡ time → many ≡ size → IsCrewed rules asked at many before accepted last → Reports old new (report_text size accepted last) ended
+pub crews-worked : (rules : List Rule) (asked settings : SettingsData) (at time : List ℕ) (many size : ℕ) (before after : LedgerState) (accepted last : ℕ) (old new : Option (List ℕ)) (ended : Ending)
+    → asked ≡ settings → at ≡ time → many ≡ size → IsCrewed rules asked at many before after accepted last → Reports old new (report_text size accepted last) ended
     → Crews rules settings time size before old new ended
-crews-worked rules asked settings at time many size before accepted last old new ended by when of_size h reported = inl (record {
+crews-worked rules asked settings at time many size before after accepted last old new ended by when of_size h reported = inl (record {
+  after = after;
   accepted = accepted;
   last = last;
-  crewed = subst (λ (s : SettingsData). IsCrewed rules s time size before accepted last) by
-      (subst (λ (t : List ℕ). IsCrewed rules asked t size before accepted last) when
-      (subst (λ (n : ℕ). IsCrewed rules asked at n before accepted last) of_size h));
+  crewed = subst (λ (s : SettingsData). IsCrewed rules s time size before after accepted last) by
+      (subst (λ (t : List ℕ). IsCrewed rules asked t size before after accepted last) when
+      (subst (λ (n : ℕ). IsCrewed rules asked at n before after accepted last) of_size h));
   reported = reported;
 })
 

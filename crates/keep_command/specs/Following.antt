@@ -35,12 +35,13 @@ Reports old new text ended =
     (Appends old new (line text) × (ended ≡ ending.Ran Done))
     ⊎ (AppendsPart old new (line text) × ((ended ≡ ending.Ran WriteFailed) ⊎ (ended ≡ ending.Ran NoMemory)))
 
--- a crew of this size worked over a book in this state, and that is reported
+-- a crew of this size worked over a book in this state, and left it in another, and that is reported
 pub record CrewReports (rules : List Rule) (settings : SettingsData) (time : List ℕ) (size : ℕ) (before : LedgerState)
     (old new : Option (List ℕ)) (ended : Ending) : Type 0 where
+  pub after : LedgerState
   pub accepted : ℕ
   pub last : ℕ
-  pub crewed : IsCrewed rules settings time size before accepted last
+  pub crewed : IsCrewed rules settings time size before after accepted last
   pub reported : Reports old new (report_text size accepted last) ended
 
 -- no operator worked, since the crew was refused or found no memory, and nothing is written

@@ -1,4 +1,4 @@
-ghost use Rattle.std.specs.Prelude.{◌≤◌, IfOk};
+ghost use Rattle.std.specs.Prelude.{◌≡◌, ◌≤◌, IfErr, IfOk};
 ghost use Rattle.keep_book.specs.Armed.{HasSums, hooks_of, ledger_of};
 ghost use Rattle.keep_jobs.specs.Job.{settings_view};
 ghost use Rattle.keep_operators.specs.Crewed.{IsCrewed};
@@ -9,14 +9,21 @@ use keep_operators::{NoCrew, Order, Tally};
 
 /// Has operators work over a book, all at once. The program has them work in threads.
 pub trait Crew {
-    /// The book is let go at the end.
-    fn work(&self, book: Book<NamedShelf<'_>>, order: Order<'_>) -> Result<Tally, NoCrew>
+    /// The book comes back: as they left it, or as it was where nobody worked.
+    fn work<'s>(
+        &self,
+        book: Book<NamedShelf<'s>>,
+        order: Order<'_>,
+    ) -> (Book<NamedShelf<'s>>, Result<Tally, NoCrew>)
         requires sums { HasSums book }
         requires some { 1 ≤ order.size }
         requires most { order.size ≤ 8 }
-        ensures { IfOk result (λ tally. IsCrewed (hooks_of book.entry).vetoes
+        ensures crewed { IfOk result.1 (λ tally. IsCrewed (hooks_of book.entry).vetoes
             (settings_view order.entry.settings) order.entry.time.now order.entry.size (ledger_of book.entry)
-            tally.accepted tally.length) };
+            (ledger_of result.0) tally.accepted tally.length) }
+        ensures handed { IfErr result.1 (λ _. result.0 ≡ book.entry) }
+        ensures hooks { hooks_of result.0 ≡ hooks_of book.entry }
+        ensures sums { HasSums result.0 };
 }
 
 /// No operators: where there are no threads to have them work in.
@@ -24,7 +31,11 @@ pub trait Crew {
 pub struct NoOperators;
 
 impl Crew for NoOperators {
-    fn work(&self, _book: Book<NamedShelf<'_>>, _order: Order<'_>) -> Result<Tally, NoCrew> {
-        Err(NoCrew::NoPass)
+    fn work<'s>(
+        &self,
+        book: Book<NamedShelf<'s>>,
+        _order: Order<'_>,
+    ) -> (Book<NamedShelf<'s>>, Result<Tally, NoCrew>) {
+        (book, Err(NoCrew::NoPass))
     }
 }

@@ -162,7 +162,9 @@ fn have_crew<'a, C: Crew, W: Write>(
     ensures whole { result ≢ Ending.Ran Status.WriteFailed →
         WritesLines (W.contents writer.old) (W.contents writer.new) }
 {
-    match crew.work(book, terms.order()) {
+    let (book, worked) = crew.work(book, terms.order());
+    leave(book, terms.options.folder);
+    match worked {
         Ok(tally) => {
             let size = terms.options.crew;
             tell_tally(terms.alloc, Report { size, tally }, writer)

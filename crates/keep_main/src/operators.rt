@@ -34,7 +34,11 @@ impl<R: Wait> Wait for Operators<R> {}
 impl<R: Threads> Threads for Operators<R> {}
 
 impl<R: Wait + Threads + Send + Sync> Crew for Operators<R> {
-    fn work(&self, book: Book<NamedShelf<'_>>, order: Order<'_>) -> Result<Tally, NoCrew> {
+    fn work<'s>(
+        &self,
+        book: Book<NamedShelf<'s>>,
+        order: Order<'_>,
+    ) -> (Book<NamedShelf<'s>>, Result<Tally, NoCrew>) {
         crewed(self, book, order)
     }
 }

@@ -1,14 +1,14 @@
-ghost use Rattle.std.specs.Prelude.{◌≡◌, ℕ, ◌<◌, ◌≤◌, [], None, length, map, IfOk, vec_capacity, vec_len};
+ghost use Rattle.std.specs.Prelude.{◌≡◌, ℕ, ◌-◌, ◌<◌, ◌≤◌, [], None, length, map, IfErr, IfOk, vec_capacity, vec_len};
 ghost use Rattle.std.specs.List.{slice_index_or, zip};
 ghost use Rattle.keep_journal.specs.History.{length_of};
 ghost use Rattle.keep_jobs.specs.Job.{settings_view};
 ghost use Rattle.keep_ledger.specs.Sums.{AreSums};
-ghost use Rattle.keep_pass.specs.Known.{AreFresh};
+ghost use Rattle.keep_crew.specs.Allowing.{AllowsWork};
+ghost use Rattle.keep_desk.specs.Closed.{IsClosed};
 ghost use Rattle.keep_desk.specs.Crew.{HasWorked};
 ghost use Rattle.keep_operators.specs.Asked.{AreAsked};
 ghost use Rattle.keep_operators.specs.Backups.{backup_of};
-ghost use Rattle.keep_operators.specs.Crewed.{IsCrewed, wanted_of};
-ghost use Rattle.keep_threads.specs.Worked.{HaveWorked};
+ghost use Rattle.keep_operators.specs.Crewed.{AllowsJustBackups, IsCrewed};
 
 use keep_chronicle::Opened;
 use keep_desk::{Desk, Locked, NotOpened, OpenGate, Operator, Pass, Plans, Work};
@@ -22,9 +22,17 @@ use std::thread::Threads;
 /// What one operator of a crew is asked for.
 type Backup = Work<Planner<EachSnapshot>>;
 
-/// Opens a desk of this name over what is kept, and has operators do these works there, each in a thread of its own.
+/// Room for a crew. It is taken before a desk is opened, so that nothing is wanting once operators have passes.
+#[derive(Drop)]
+struct Room<B: Naming> {
+    operators: Vec<Operator<B, Planner<EachSnapshot>>>,
+    passes: Vec<Pass<B>>,
+}
+
+/// Opens a desk of this name over what is kept, has operators do these works there, each in a thread of its own, and hands
+/// back what is kept.
 ///
-/// Where there is no memory for that, or no place for one of them, nobody works.
+/// Where there is no memory for that, or no place for one of them, nobody works, and it is handed back as it was.
 pub fn crew_at_desk<B, R, K>(
     rt: &R,
     keeper: K,
@@ -32,7 +40,7 @@ pub fn crew_at_desk<B, R, K>(
     blank: Blank,
     works: Vec<Backup>,
     order: Order<'_>,
-) -> Result<Tally, NoCrew>
+) -> (K, Result<Tally, NoCrew>)
 where
     B: Naming + Send + Sync,
     R: Wait + Threads + Copy + Send + Sync,
@@ -44,75 +52,59 @@ where
     requires counts { (blank.name ≡ B.name) × (blank.parts ≡ B.parts) × (blank.parts ≡ order.size) }
     requires size { (1 ≤ order.size) × (order.size ≤ 8) × (length works.items ≡ order.size) }
     requires asked { AreAsked (settings_view order.settings) (backup_of order.time.now) works.items }
-    ensures { IfOk result (λ tally. IsCrewed (K.hooks keeper).vetoes (settings_view order.entry.settings)
-        order.entry.time.now order.entry.size (K.ledger keeper) tally.accepted tally.length) }
+    requires allows { AllowsJustBackups B.allows (settings_view order.settings) order.time.now order.size B.opening }
+    ensures crewed { IfOk result.1 (λ tally. IsCrewed (K.hooks keeper).vetoes (settings_view order.entry.settings)
+        order.entry.time.now order.entry.size (K.ledger keeper) (K.ledger result.0) tally.accepted tally.length) }
+    ensures handed { IfErr result.1 (λ _. result.0 ≡ keeper) }
+    ensures hooks { K.hooks result.0 ≡ K.hooks keeper }
+    ensures sums { AreSums (K.ledger result.0).events (K.hooks result.0).watches (K.tallies result.0) }
 {
     let before = keeper.history().length();
     let size = order.size as usize;
+    let Ok(room) = room_of::<B>(order.alloc, size) else {
+        return (keeper, Err(NoCrew::Memory));
+    };
     match Desk::<B, Locked<B, R, K>>::open(order.alloc, *rt, keeper, opened, blank, size) {
-        Ok((desk, passes)) => run_at(rt, desk, passes, works, order, before),
-        Err(NotOpened::Memory(_)) => Err(NoCrew::Memory),
-        Err(NotOpened::NoPass(_)) => Err(NoCrew::NoPass),
+        Ok((desk, passes)) => {
+            let operators = operators_of(passes, works, room.operators);
+            let worked = set_to_work(rt, &desk, operators);
+            let (keeper, tally) = close_after(desk, worked, room.passes, before);
+            (keeper, Ok(tally))
+        }
+        Err(NotOpened::Memory(keeper)) => (keeper, Err(NoCrew::Memory)),
+        Err(NotOpened::NoPass(keeper)) => (keeper, Err(NoCrew::NoPass)),
     }
 }
 
-/// Has operators do these works at a desk that was just opened, where the last event had this number, and closes it.
-fn run_at<B, R, K>(
-    rt: &R,
-    desk: Desk<B, Locked<B, R, K>>,
-    passes: Vec<Pass<B>>,
-    works: Vec<Backup>,
-    order: Order<'_>,
-    before: u64,
-) -> Result<Tally, NoCrew>
-where
-    B: Naming + Send + Sync,
-    R: Wait + Threads + Copy + Send + Sync,
-    K: Keeper,
-    requires before { before ≡ length_of B.opening.events }
-    requires parts { B.parts ≡ order.size }
-    requires fresh { AreFresh passes.items }
-    requires size { (length passes.items ≡ order.size) × (length works.items ≡ order.size) }
-    requires asked { AreAsked (settings_view order.settings) (backup_of order.time.now) works.items }
-    ensures { IfOk result (λ tally. IsCrewed B.hooks.vetoes (settings_view order.entry.settings)
-        order.entry.time.now order.entry.size B.opening tally.accepted tally.length) }
+fn room_of<B: Naming>(alloc: Global, size: usize) -> Result<Room<B>, AllocError>
+    ensures operators { IfOk result (λ room. (room.operators.items ≡ []) × (size ≤ vec_capacity room.operators)) }
+    ensures passes { IfOk result (λ room. (room.passes.items ≡ []) × (size ≤ vec_capacity room.passes)) }
 {
-    let Ok(passes) = work(rt, &desk, passes, works, order) else {
-        drop(desk.close(Vec::new(order.alloc)));
-        return Err(NoCrew::Memory);
-    };
-    let keeper = desk.close(passes);
-    let last = keeper.history().length();
-    let accepted = last - before;
-    Ok(Tally {
-        accepted,
-        length: last,
-    })
+    let operators = Vec::with_capacity(alloc, size)?;
+    let passes = Vec::with_capacity(alloc, size)?;
+    Ok(Room { operators, passes })
 }
 
-/// Has operators do these works, and hands the passes back. Where there is no memory, nobody works.
-fn work<B, R, K>(
-    rt: &R,
-    desk: &Desk<B, Locked<B, R, K>>,
+/// Each operator gets the pass and the work of its place, in a list that has room for them.
+fn operators_of<B: Naming>(
     passes: Vec<Pass<B>>,
     works: Vec<Backup>,
-    order: Order<'_>,
-) -> Result<Vec<Pass<B>>, AllocError>
-where
-    B: Naming + Send + Sync,
-    R: Wait + Threads + Copy + Send + Sync,
-    K: Keeper,
-    requires fresh { AreFresh passes.items }
-    requires size { length passes.items ≡ length works.items }
-    requires asked { AreAsked (settings_view order.settings) (backup_of order.time.now) works.items }
-    ensures all { IfOk result (λ passes. length passes.items ≡ length works.items) }
-    ensures worked { IfOk result (λ passes. HaveWorked B.hooks.vetoes B.opening
-        (wanted_of (settings_view order.entry.settings) order.entry.time.now) passes.items) }
+    room: Vec<Operator<B, Planner<EachSnapshot>>>,
+) -> Vec<Operator<B, Planner<EachSnapshot>>>
+    requires none { room.items ≡ [] }
+    requires room { vec_len passes ≤ vec_capacity room }
+    ensures { result.items
+        ≡ map (λ given. record { pass = given.0; work = given.1; answer = None }) (zip passes.items works.items) }
 {
-    let room = Vec::with_capacity(order.alloc, works.len())?;
-    let operators = operators_of(order.alloc, passes, works)?;
-    let worked = set_to_work(rt, desk, operators);
-    Ok(passes_of(worked, room))
+    let mut operators = room;
+    for (pass, work) in passes.into_iter().zip(works) {
+        operators.push_reserved(Operator {
+            pass,
+            work,
+            answer: None,
+        });
+    }
+    operators
 }
 
 /// Has each operator do its work, in a thread of its own, and waits for all of them.
@@ -126,6 +118,8 @@ where
     R: Wait + Threads + Copy + Send + Sync,
     K: Keeper,
     P: Plans,
+    requires { (i : ℕ) (d : _) → i < length operators.items
+        → AllowsWork B.allows B.opening P.wanted (slice_index_or operators.items i d).work }
     ensures all { length result.items ≡ length operators.items }
     ensures worked { (i : ℕ) (d : _) → i < length operators.items → HasWorked B.hooks.vetoes B.opening P.wanted
         (slice_index_or operators.items i d) (slice_index_or result.items i d) }
@@ -135,24 +129,31 @@ where
     operators
 }
 
-/// Each operator gets the pass and the work of its place.
-fn operators_of<B: Naming>(
-    alloc: Global,
-    passes: Vec<Pass<B>>,
-    works: Vec<Backup>,
-) -> Result<Vec<Operator<B, Planner<EachSnapshot>>>, AllocError>
-    ensures { IfOk result (λ operators. operators.items
-        ≡ map (λ given. record { pass = given.0; work = given.1; answer = None }) (zip passes.items works.items)) }
+/// Closes a desk with the passes of those who worked there, where the last event had this number when it was opened.
+fn close_after<B, R, K>(
+    desk: Desk<B, Locked<B, R, K>>,
+    worked: Vec<Operator<B, Planner<EachSnapshot>>>,
+    room: Vec<Pass<B>>,
+    before: u64,
+) -> (K, Tally)
+where
+    B: Naming,
+    R: Wait + Drop,
+    K: Keeper,
+    requires none { room.items ≡ [] }
+    requires room { vec_len worked ≤ vec_capacity room }
+    requires before { before ≡ length_of B.opening.events }
+    ensures closed { IsClosed B.allows B.hooks.vetoes B.opening B.parts
+        (map (λ operator. operator.pass) worked.items) (K.ledger result.0) }
+    ensures length { result.1.length ≡ length_of (K.ledger result.0).events }
+    ensures accepted { result.1.accepted ≡ result.1.length - before }
+    ensures hooks { K.hooks result.0 ≡ B.hooks }
+    ensures sums { AreSums (K.ledger result.0).events (K.hooks result.0).watches (K.tallies result.0) }
 {
-    passes
-        .into_iter()
-        .zip(works)
-        .map(|(pass, work)| Operator {
-            pass,
-            work,
-            answer: None,
-        })
-        .collect(alloc)
+    let keeper = desk.close(passes_of(worked, room));
+    let length = keeper.history().length();
+    let accepted = length - before;
+    (keeper, Tally { accepted, length })
 }
 
 /// The passes of the operators, in a list that has room for them.
