@@ -1,6 +1,10 @@
 //! The program `keepd`: answers the script on its standard input.
 #![tactic(auto)]
 
+ghost use Rattle.std.specs.Prelude.{◌≡◌};
+ghost use Rattle.std.specs.Process.{exit_status};
+ghost use Rattle.keep_command.specs.Ending.{code_of};
+
 mod desk;
 mod operators;
 
@@ -8,7 +12,7 @@ use crate::operators::Operators;
 use keep_command::{BadOptions, Crew, Ending, keepd, tell};
 use keep_script::Status;
 use std::env;
-use std::io::{BufWriter, ErrorKind};
+use std::io::{BufWriter, ErrorKind, Write};
 use std::process::ExitCode;
 
 /// The words behind the program's name. One that isn't UTF-8 is no option.
@@ -30,13 +34,18 @@ fn serve<'a, C: Crew>(rt: &HostRuntime, crew: &C, words: &'a [String]) -> Ending
     keepd(rt, crew, words.as_slice(), &mut rt.stdin(), &mut writer)
 }
 
-fn main(rt: HostRuntime) -> ExitCode {
-    let (code, _) = match read_words(&rt) {
-        Ok(words) => {
-            let crew = Operators::new(&rt);
-            tell(serve(&rt, &crew, words.as_slice()), &mut rt.stderr())
-        }
-        Err(error) => tell(Ending::from(error), &mut rt.stderr()),
-    };
+/// Says on standard error why the program ended, and answers its exit status.
+fn exit_code<E: Write>(ending: Ending<'_>, errors: &mut E) -> ExitCode
+    ensures { exit_status result ≡ code_of ending.entry }
+{
+    let (code, _) = tell(ending, errors);
     ExitCode::from(code)
+}
+
+fn main(rt: HostRuntime) -> ExitCode {
+    let crew = Operators::new(&rt);
+    match read_words(&rt) {
+        Ok(words) => exit_code(serve(&rt, &crew, words.as_slice()), &mut rt.stderr()),
+        Err(error) => exit_code(Ending::from(error), &mut rt.stderr()),
+    }
 }
