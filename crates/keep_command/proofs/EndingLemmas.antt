@@ -2,8 +2,8 @@
 use Rattle.std.proofs.Common.{◌≡◌, ◌∙◌, ℕ, IfErr, IfOk, IsSome, List, [], Option, Some, None, Result, Ok, Err, append-nil, inl, inr, refl, subst, sym}
 use Rattle.std.specs.Io.KnownBytes.{Keeps}
 use Rattle.std.proofs.KnownBytes.{Keeps-refl}
-use Rattle.keep_folder.specs.declared.error.FolderError.{FolderError}
-use Rattle.keep_folder.specs.declared.error.FolderError.TheVariants as unopened
+use Rattle.keep_disk.specs.declared.error.FolderError.{FolderError}
+use Rattle.keep_disk.specs.declared.error.FolderError.TheVariants as unopened
 use Rattle.keep_jobs.specs.Kits.{KitData}
 use Rattle.keep_answers.proofs.KnownLemmas.{WritesLines-none}
 use Rattle.keep_answers.specs.Known.{WritesLines}
@@ -21,7 +21,7 @@ not-run : (options : OptionsData) (error : FolderError) → IsSome options.folde
 not-run options unopened.Memory named = inl refl
 not-run options unopened.BadConfig named = inr (inl (named, (unopened.BadConfig, (λ e. cc e), refl)))
 not-run options unopened.Locked named = inr (inl (named, (unopened.Locked, (λ e. cc e), refl)))
-not-run options unopened.Fault named = inr (inl (named, (unopened.Fault, (λ e. cc e), refl)))
+not-run options (unopened.Fault cause) named = inr (inl (named, (unopened.Fault cause, (λ e. cc e), refl)))
 
 pub ends-unopened : (kit : KitData) (options : OptionsData) (known old : Option (List ℕ)) (error : FolderError) (ended : Ending) → IsSome options.folder
     → ended ≡ ending_unopened error → EndsWith kit options known known old old ended
@@ -33,7 +33,7 @@ never-long : (error : FolderError) → ending_unopened error ≡ Ran ScriptTooLo
 never-long unopened.Memory e = cc e
 never-long unopened.BadConfig e = cc e
 never-long unopened.Locked e = cc e
-never-long unopened.Fault e = cc e
+never-long (unopened.Fault cause) e = cc e
 
 pub keeps-idle : (known old : Option (List ℕ)) (error : FolderError) (ended : Ending) → ended ≡ ending_unopened error → KeepsLines known old old ended
 keeps-idle known old error ended e = ((λ other. WritesLines-none old), (λ short. absurd (never-long error (sym e ∙ short))))

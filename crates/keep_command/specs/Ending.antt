@@ -2,8 +2,9 @@
 use Rattle.std.specs.Prelude.{◌≡◌, ℕ, List, [], ◌++◌, Some, None, Result, Ok, Err, codes, string_bytes}
 use Rattle.std.specs.Borrow.{Bor}
 use Rattle.std.specs.Fmt.{decimal}
-use Rattle.keep_folder.specs.declared.error.FolderError.{FolderError}
-use Rattle.keep_folder.specs.declared.error.FolderError.TheVariants as unopened
+use Rattle.keep_disk.specs.Ends.{cause_text}
+use Rattle.keep_disk.specs.declared.error.FolderError.{FolderError}
+use Rattle.keep_disk.specs.declared.error.FolderError.TheVariants as unopened
 use Rattle.keep_opening.specs.OpenError.{open_error_text}
 use Rattle.keep_opening.specs.declared.open_error.OpenError.{OpenError}
 use Rattle.keep_opening.specs.declared.open_error.OpenError.TheVariants as unread
@@ -89,8 +90,8 @@ ending_text (ending.NoFolder unopened.BadConfig) =
     codes "keepd: cannot open: BadConfig; name a folder with the config of a repository"
 ending_text (ending.NoFolder unopened.Locked) =
     codes "keepd: cannot open: Locked; wait for the end of the other run on this folder"
-ending_text (ending.NoFolder unopened.Fault) =
-    codes "keepd: cannot open: Fault; see that all files and folders in it can be read"
+ending_text (ending.NoFolder (unopened.Fault cause)) =
+    codes "keepd: cannot open: Fault: " ++ (cause_text cause ++ codes "; see that all in it can be read")
 ending_text (ending.NoFolder unopened.Memory) = codes "keepd: no memory"
 ending_text (ending.NoCrew uncrewed.NoPass) = codes "keepd: cannot open: NoPass; run it with fewer operators"
 ending_text (ending.NoCrew uncrewed.Memory) = codes "keepd: no memory"

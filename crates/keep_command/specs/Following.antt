@@ -11,8 +11,8 @@ use Rattle.keep_jobs.specs.Kits.{KitData}
 use Rattle.keep_answers.specs.Known.{AppendsPart, Writes, line}
 use Rattle.keep_answers.specs.State.{State}
 use Rattle.keep_operators.specs.Crewed.{IsCrewed}
-use Rattle.keep_folder.specs.declared.error.FolderError.{FolderError}
-use Rattle.keep_folder.specs.declared.error.FolderError.TheVariants as unopened
+use Rattle.keep_disk.specs.declared.error.FolderError.{FolderError}
+use Rattle.keep_disk.specs.declared.error.FolderError.TheVariants as unopened
 use Rattle.keep_script.specs.declared.status.Status.{Status}
 use Rattle.keep_script.specs.declared.status.Status.TheVariants.{Done, NoMemory, WriteFailed}
 use Rattle.keep_command.specs.Damage.{IsToldDamaged}

@@ -8,7 +8,7 @@ use Rattle.keep_command.specs.declared.named_shelf.NamedShelf.TheVariants.{Memor
 -- the shelf that it is
 abbrev pub shelved_of : NamedShelf → Shelved
 shelved_of (Memory shelf) = shelf
-shelved_of (Folder shelf) = shelf
+shelved_of (Folder shelf) = shelf.shelved
 
 -- it is a shelf just made: where a folder is named it is what was read there, and else there is nothing on it
 abbrev pub IsShelfIn : Option (List ℕ) → Shelved → Type 0

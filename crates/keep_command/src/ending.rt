@@ -146,9 +146,10 @@ impl fmt::Display for Ending<'_> {
                     "keepd: cannot open: Locked; wait for the end of the other run on this folder",
                 )
             }
-            Ending::NoFolder(FolderError::Fault) => {
-                f.write_str(
-                    "keepd: cannot open: Fault; see that all files and folders in it can be read",
+            Ending::NoFolder(FolderError::Fault(cause)) => {
+                write!(
+                    f,
+                    "keepd: cannot open: Fault: {cause}; see that all in it can be read"
                 )
             }
             Ending::NoFolder(FolderError::Memory) => f.write_str("keepd: no memory"),

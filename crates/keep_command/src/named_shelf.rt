@@ -1,4 +1,4 @@
-use keep_folder::{FolderError, FolderShelf};
+use keep_folder::{DiskTree, FolderError, FolderShelf, open_folder};
 use keep_repo::Bytes;
 use keep_shelf::{Fault, Key, MemoryShelf, Shelf};
 
@@ -6,7 +6,7 @@ use keep_shelf::{Fault, Key, MemoryShelf, Shelf};
 #[derive(Drop)]
 pub enum NamedShelf<'a> {
     Memory(MemoryShelf),
-    Folder(FolderShelf<&'a HostRuntime>),
+    Folder(FolderShelf<DiskTree<&'a HostRuntime>>),
 }
 
 impl<'a> NamedShelf<'a> {
@@ -25,7 +25,7 @@ impl<'a> NamedShelf<'a> {
     {
         match folder {
             None => Ok(NamedShelf::Memory(MemoryShelf::new(rt.alloc()))),
-            Some(path) => Ok(NamedShelf::Folder(FolderShelf::open(rt, path)?)),
+            Some(path) => Ok(NamedShelf::Folder(open_folder(rt, path)?)),
         }
     }
 }

@@ -7,8 +7,10 @@ ghost use Rattle.keep_command.specs.Ending.{code_of};
 
 mod desk;
 mod operators;
+mod streams;
 
 use crate::operators::Operators;
+use crate::streams::fill_streams;
 use keep_command::{BadOptions, Crew, Ending, keepd, tell};
 use keep_script::Status;
 use std::env;
@@ -43,6 +45,9 @@ fn exit_code<E: Write>(ending: Ending<'_>, errors: &mut E) -> ExitCode
 }
 
 fn main(rt: HostRuntime) -> ExitCode {
+    if fill_streams(&rt).is_err() {
+        return ExitCode::from(1);
+    }
     let crew = Operators::new(&rt);
     match read_words(&rt) {
         Ok(words) => exit_code(serve(&rt, &crew, words.as_slice()), &mut rt.stderr()),
