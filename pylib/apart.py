@@ -25,8 +25,8 @@ def children(process):
 
 
 def end(program):
-    """Ends all that is apart, each by its id: one that waits for a mount ends once that mount's program has. The first of
-    them ends last."""
+    """Ends all that is apart, each by its id: one that waits for a mount ends once that mount's program has. The
+    first of them ends last."""
     for process in children(program.pid):
         try:
             os.kill(process, signal.SIGKILL)
@@ -35,8 +35,8 @@ def end(program):
 
 
 def run(words):
-    """Runs this script apart, with a folder of its own that goes with it; it prints on standard output alone. Its status,
-    128 and more by a signal."""
+    """Runs this script apart, with a folder of its own that goes with it; it prints on standard output alone. Its
+    status, 128 and more by a signal."""
     ended_by = []
     with tempfile.TemporaryDirectory(prefix="keepd-far-") as top:
         program = subprocess.Popen([*APART, sys.executable, os.path.realpath(sys.argv[0]), *words],

@@ -62,7 +62,8 @@ class Engine:
         fsid, monitors = str(uuid.uuid4()), os.path.join(self.top, "monitors")
         with open(self.config, "w") as file:
             file.write(CONFIG.format(fsid=fsid, servers=SERVERS, top=self.top, bytes=STORE_BYTES))
-        call("monmaptool", "--create", "--fsid", fsid, "--addv", "a", f"[v2:{SERVERS}:3300,v1:{SERVERS}:6789]", monitors)
+        address = f"[v2:{SERVERS}:3300,v1:{SERVERS}:6789]"
+        call("monmaptool", "--create", "--fsid", fsid, "--addv", "a", address, monitors)
         call("ceph-mon", "-c", self.config, "-i", "a", "--mkfs", "--monmap", monitors)
         self.server("mon.a")
         for store in STORES:

@@ -20,7 +20,7 @@ def lose_servers(trial):
     for number in range(2):
         chance, there = random.Random(number), trial.repository(f"servers{number}")
         first, second = chance.sample(engine.STORES, 2)
-        spots = sorted(chance.sample(range(2, len(LINES) - AWAY_LINES, AWAY_LINES + 2), 4))
+        spots = range(chance.randrange(2, 20), len(LINES), AWAY_LINES + 2)
         lost = dict(zip(spots, (first, engine.METADATA, second, engine.METADATA)))
         program, seconds = trial.begun(there[NEAR]), 0
         for at, stage in enumerate(trial.stages):
@@ -30,8 +30,8 @@ def lose_servers(trial):
             seconds = max(seconds, line_without(trial, program, stage, lost.get(at), took[at] * chance.random()))
         require(program.communicate() == (b"", b"") and program.returncode == 0, "the end of a run")
         trial.require_last(there, "a run that lost servers")
-        trial.say(f"{', '.join(lost.values())} killed in the middle of the lines {', '.join(str(it + 1) for it in lost)} and "
-                  f"back: each line was answered as ever, the longest after {seconds:.1f} seconds")
+        told = ", ".join(f"{name} in line {at + 1}" for at, name in lost.items())
+        trial.say(f"killed and back: {told}; each line was answered as ever, the longest after {seconds:.1f} seconds")
 
 
 def line_without(trial, program, stage, name, after):
@@ -84,13 +84,13 @@ def short_cut(trial):
         require(answer_to(first, stage.line) == stage.answer, stage.line[:60])
     require(first.communicate() == (b"", b""), "the end of a run")
     trial.require_last(there, "a run that was cut off for a moment")
-    trial.say(f"cut for {SHORT_CUT_SECONDS} seconds: the folder stays locked ({asked_for} tries), the line is answered as ever "
-              f"after {seconds:.0f} seconds")
+    trial.say(f"cut for {SHORT_CUT_SECONDS} seconds: the folder stays locked ({asked_for} tries), the line is answered "
+              f"as ever after {seconds:.0f} seconds")
 
 
 def long_cut(trial, number):
-    """A cut that the mount's session doesn't outlast: between two lines, or in the middle of one. Another run goes on through
-    the other mount, and ends before the network is back, or after."""
+    """A cut that the mount's session doesn't outlast: between two lines, or in the middle of one. Another run goes on
+    through the other mount, and ends before the network is back, or after."""
     there, chance = trial.repository(f"cut{number}"), random.Random(number)
     at = chance.randrange(5, len(LINES) - 20)
     first = run_to(trial, there[NEAR], at)
@@ -122,9 +122,10 @@ def long_cut(trial, number):
     first.communicate()
     trial.require_last(there, "the run after a cut")
     require(trial.opened(there[NEAR]) == trial.last, "an opening through the mount that was made anew")
-    trial.say(f"cut {'in the middle of' if asked else 'before'} a line, {answered} answered: locked for {seconds:.0f} seconds, "
-              f"then open with {answered + made} lines made; the second run ended {'before' if ends_before else 'after'} "
-              f"the network was back; the first one's answers then: {late}; nothing is lost, and a new mount has all")
+    trial.say(f"cut {'in the middle of' if asked else 'before'} a line, {answered} answered: locked for {seconds:.0f} "
+              f"seconds, then open with {answered + made} lines made; the second run ended "
+              f"{'before' if ends_before else 'after'} the network was back; the first one's answers then: {late}; "
+              "nothing is lost, and a new mount has all")
 
 
 def after_join(trial, there, first, waiting, made):
@@ -135,7 +136,8 @@ def after_join(trial, there, first, waiting, made):
     answers = []
     if waiting:
         answers.append(waiting.within(LATE_SECONDS))
-        require(made or not answers[0] or not is_answered(answers[0]), "answered and not there", waiting.line[:60], answers)
+        require(made or not answers[0] or not is_answered(answers[0]), "answered and not there", waiting.line[:60],
+                answers)
     if answers != [None]:
         answers.append(Asked(first, LATE_LINE).within(LATE_SECONDS))
         require(not answers[-1] or not is_answered(answers[-1]), "a run wrote after another had the lock", answers)

@@ -1,4 +1,5 @@
-"""Parts of trials/far in which the file system is as it should be: runs by turns, two at once, and runs that are killed."""
+"""Parts of trials/far in which the file system is as it should be: runs by turns, two at once, and runs that are
+killed."""
 import os, random
 
 from far_trial import LINE_SECONDS, LOCKED, MOUNTS, Asked, require, script_of
@@ -45,7 +46,8 @@ def race(trial, there, number):
     asked = {name: Asked(program, f"add index {number:08x}") for name, program in runs.items()}
     answers = {name: line.within(LINE_SECONDS) for name, line in asked.items()}
     ended = {name: program.communicate() for name, program in runs.items()}
-    require(sorted(answers.values()) == [b"", b"ok %d at %d +1 -0 *0 ~0\n" % (number, number)], "a race", answers, ended)
+    wanted = [b"", b"ok %d at %d +1 -0 *0 ~0\n" % (number, number)]
+    require(sorted(answers.values()) == wanted, "a race", answers, ended)
     refused, = (name for name, answer in answers.items() if not answer)
     require(ended[refused][1].decode().startswith(LOCKED), "a race", ended)
 
@@ -55,12 +57,13 @@ def kills(trial):
     found = [kill(trial, number) for number in range(trial.counts[0])]
     midway, made, part, half = (sum(each) for each in zip(*found)) if found else (0, 0, 0, 0)
     trial.say(f"{len(found)} runs were killed, {midway} of them before the last answer, and opened through the other "
-              f"mount: the next line was made in {made}, a cascade in part in {part}, a file was half written in {half}")
+              f"mount: the next line was made in {made}, a cascade in part in {part}, a file was half written in "
+              f"{half}; a lock was gone {max(trial.waited):.1f} seconds after its run at the latest")
 
 
 def kill(trial, number):
-    """Whether a line wasn't answered, was made all the same, is a cascade that was made in part; whether a file was half
-    written."""
+    """Whether a line wasn't answered, was made all the same, is a cascade that was made in part; whether a file was
+    half written."""
     there, chance = trial.repository(f"kill{number}"), random.Random(number)
     near, far = MOUNTS[::1 if number % 2 else -1]
     at = chance.randrange(len(LINES)) if number % 4 else chance.choice(CASCADES)

@@ -8,7 +8,7 @@ from stages import opened, stages, told
 
 MOUNTS = ("one", "two")
 LET_GO_SECONDS = 20  # in which the lock of a run that ended has to be gone on the other mount
-LINE_SECONDS = 180  # in which a line has to be answered where a server comes back meanwhile
+LINE_SECONDS = 600  # in which a line, or a run, has to be answered where a server comes back meanwhile
 LOCKED = CANNOT + "Locked"
 
 

@@ -1,5 +1,6 @@
-"""What a folder says after each line of the script of the module lines, told by the second reader (the module reading) from
-a folder on a disk of this machine where nothing disturbs it, so that what a disturbed run leaves can be told beside it."""
+"""What a folder says after each line of the script of the module lines, told by the second reader (the module
+reading) from a folder on a disk of this machine where nothing disturbs it, so that what a disturbed run leaves can be
+told beside it."""
 import os, shutil, sys, threading, time
 from dataclasses import dataclass
 
