@@ -1,6 +1,7 @@
 ghost use Rattle.std.specs.Prelude.{◌≡◌, ◌+◌};
 ghost use Rattle.keep_ledger.specs.Sums.{AreSums};
 ghost use Rattle.keep_book.specs.Armed.{HasSums};
+ghost use Rattle.keep_register.specs.Allowed.{AllowsAll};
 
 use crate::crew::{Crew, MOST};
 use crate::done::Done;
@@ -68,6 +69,7 @@ where
     requires sums { AreSums (K.ledger keeper).events (K.hooks keeper).watches (K.tallies keeper) }
     requires counts { (blank.name ≡ B.name) × (blank.parts ≡ B.parts)
         × (blank.parts ≡ crew.now.operators + crew.now.readers) }
+    requires allows { AllowsAll B.allows }
 {
     let Ok((desk, passes)) = Desk::<B, Locked<B, R, K>>::open(
         alloc,
@@ -100,6 +102,7 @@ where
     B: Naming + Send + Sync,
     R: Wait + Threads + Clock + CpuClock + Copy + Send + Sync,
     K: Keeper,
+    requires { AllowsAll B.allows }
 {
     let mut workers: Vec<Worker<B>> = passes
         .into_iter()

@@ -1,4 +1,5 @@
 ghost use Rattle.std.specs.Prelude.{◌≡◌, ◌*◌, IfSome};
+ghost use Rattle.keep_register.specs.Allowed.{AllowsAll};
 
 use crate::crew::Crew;
 use crate::done::{Done, Start};
@@ -48,6 +49,7 @@ impl<B: Naming> Worker<B> {
         R: Wait + Clock + CpuClock,
         S: Wait + Drop,
         K: Keeper,
+        requires { AllowsAll B.allows }
     {
         let start = Start::now(rt);
         let count = if place < shift.crew.operators {
@@ -72,6 +74,7 @@ fn make_changes<B: Naming, R: Wait, S: Wait + Drop, K: Keeper>(
     shift: &Shift,
     place: usize,
 ) -> Option<u64>
+    requires { AllowsAll B.allows }
     ensures { IfSome result (λ events. events ≡ 2 * shift.now.crew.changes) }
 {
     let changes = shift.crew.changes;

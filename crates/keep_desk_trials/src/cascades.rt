@@ -1,3 +1,5 @@
+ghost use Rattle.keep_register.specs.Allowed.{AllowsAll};
+
 use crate::adding::is_told;
 use crate::commands::Command;
 use crate::desks::{Scene, play};
@@ -22,7 +24,9 @@ pub fn both_taken_back<N: Naming, R: Abort + Wait + Drop, K: Keeper>(
     alloc: Global,
     desk: &Desk<N, Locked<N, R, K>>,
     mut passes: Vec<Pass<N>>,
-) -> Result<Vec<Pass<N>>, Fail> {
+) -> Result<Vec<Pass<N>>, Fail>
+    requires { AllowsAll N.allows }
+{
     let Some(pass) = passes.first_mut() else {
         return Err(Fail::new("no pass"));
     };

@@ -1,3 +1,5 @@
+ghost use Rattle.keep_register.specs.Allowed.{AllowsAll};
+
 use crate::adding::Adding;
 use crate::desks::{Scene, play};
 use crate::gates::{LastFirst, Signals, Together};
@@ -22,7 +24,9 @@ pub fn both_at_once<
     alloc: Global,
     desk: &Desk<N, Locked<N, R, K>>,
     passes: Vec<Pass<N>>,
-) -> Result<Vec<Pass<N>>, Fail> {
+) -> Result<Vec<Pass<N>>, Fail>
+    requires { AllowsAll N.allows }
+{
     let gate = Together(Signals::new(rt));
     let (passes, numbers) = two_add(rt, alloc, desk, passes, &gate)?;
     assert_eq!(rt; gate.0.given_up(), 0);
@@ -40,7 +44,9 @@ pub fn last_first<
     alloc: Global,
     desk: &Desk<N, Locked<N, R, K>>,
     passes: Vec<Pass<N>>,
-) -> Result<Vec<Pass<N>>, Fail> {
+) -> Result<Vec<Pass<N>>, Fail>
+    requires { AllowsAll N.allows }
+{
     let gate = LastFirst(Signals::new(rt));
     let (passes, numbers) = two_add(rt, alloc, desk, passes, &gate)?;
     assert_eq!(rt; gate.0.given_up(), 0);
@@ -60,7 +66,9 @@ fn two_add<
     desk: &Desk<N, Locked<N, R, K>>,
     passes: Vec<Pass<N>>,
     gate: &G,
-) -> Result<(Vec<Pass<N>>, Vec<u64>), AllocError> {
+) -> Result<(Vec<Pass<N>>, Vec<u64>), AllocError>
+    requires { AllowsAll N.allows }
+{
     let mut operators = operators_of(alloc, passes)?;
     desk.run_crew(rt, &mut operators, gate);
     answers_of(alloc, operators)

@@ -1,12 +1,13 @@
 ghost use Rattle.std.specs.Prelude.{◌≡◌};
 ghost use Rattle.keep_book.specs.Armed.{HasSums};
 ghost use Rattle.keep_ledger.specs.Sums.{AreSums};
+ghost use Rattle.keep_register.specs.Allowed.{AllowsAll};
 
 use crate::cascades::both_taken_back;
 use crate::crews::{both_at_once, last_first};
 use crate::shelves::Failing;
-use crate::sweeps::swept_too_late;
-use crate::turns::{one_at_a_time, one_pass_lost};
+use crate::sweeps::{emptied_under_marks, swept_too_late};
+use crate::turns::{one_at_a_time, one_goes_on, one_pass_lost};
 use keep_book::Book;
 use keep_chronicle::Opened;
 use keep_desk::{Desk, Locked, Pass};
@@ -26,10 +27,14 @@ use std::time::Clock;
 pub enum Scene {
     /// One operator adds `a`, takes it back, adds it again, and makes that final. The other never comes.
     OneAtATime,
+    /// One operator adds `b` to a book that has `a`, which is shown first. The other never comes.
+    OneGoesOn,
     /// Each operator adds a file, and is shown what the other did. The second pass is lost.
     OnePassLost,
     /// One operator plans a sweep, and then the other one backs up what would be swept.
     SweptTooLate,
+    /// One operator makes all changes final where packs have marks, and then takes a view. The other never comes.
+    EmptiedUnderMarks,
     /// One operator makes two backups, and takes the first back with what leans on it. The other never comes.
     BothTakenBack,
     /// Two operators in threads add `a` and `b`, and neither begins before both have come.
@@ -64,6 +69,7 @@ fn play_named<
     requires hooks { K.hooks keeper ≡ N.hooks }
     requires sums { AreSums (K.ledger keeper).events (K.hooks keeper).watches (K.tallies keeper) }
     requires counts { (blank.name ≡ N.name) × (blank.parts ≡ N.parts) × (blank.parts ≡ 2) }
+    requires allows { AllowsAll N.allows }
 {
     let made = Desk::<N, Locked<N, R, K>>::open(alloc, rt, keeper, opened, blank, 2);
     let Ok((desk, passes)) = made else {
@@ -89,11 +95,15 @@ fn play_at<
     desk: &Desk<N, Locked<N, R, K>>,
     passes: Vec<Pass<N>>,
     scene: Scene,
-) -> Result<Vec<Pass<N>>, Fail> {
+) -> Result<Vec<Pass<N>>, Fail>
+    requires { AllowsAll N.allows }
+{
     match scene {
         Scene::OneAtATime => one_at_a_time(rt, alloc, desk, passes),
+        Scene::OneGoesOn => one_goes_on(rt, alloc, desk, passes),
         Scene::OnePassLost => one_pass_lost(rt, alloc, desk, passes),
         Scene::SweptTooLate => swept_too_late(rt, alloc, desk, passes),
+        Scene::EmptiedUnderMarks => emptied_under_marks(rt, alloc, desk, passes),
         Scene::BothTakenBack => both_taken_back(rt, alloc, desk, passes),
         Scene::BothAtOnce => both_at_once(rt, alloc, desk, passes),
         Scene::LastFirst => last_first(rt, alloc, desk, passes),

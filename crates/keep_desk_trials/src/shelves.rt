@@ -1,3 +1,5 @@
+ghost use Rattle.keep_register.specs.Allowed.{AllowsAll};
+
 use crate::adding::{Adding, is_refused, is_told};
 use crate::desks::{Scene, play};
 use crate::looking::{Found, look};
@@ -29,7 +31,9 @@ impl Ask {
         alloc: Global,
         desk: &Desk<N, Locked<N, R, K>>,
         pass: &mut Pass<N>,
-    ) -> Result<Result<Told, DeskError>, AllocError> {
+    ) -> Result<Result<Told, DeskError>, AllocError>
+        requires { AllowsAll N.allows }
+    {
         Ok(match self {
             Ask::Add(byte) => desk.commit(rt, pass, Adding { alloc, byte }.planned(0)?),
             Ask::Undo(n) => desk.undo(rt, pass, n),
@@ -130,7 +134,9 @@ impl Failing {
         alloc: Global,
         desk: &Desk<N, Locked<N, R, K>>,
         pass: &mut Pass<N>,
-    ) -> Result<Found, AllocError> {
+    ) -> Result<Found, AllocError>
+        requires { AllowsAll N.allows }
+    {
         let mut shown = Found(0, false, false);
         for Step(ask, number, after) in STEPS.into_iter().take(self.step) {
             let reply = ask.of(rt, alloc, desk, pass)?;
@@ -147,7 +153,9 @@ impl Failing {
         alloc: Global,
         desk: &Desk<N, Locked<N, R, K>>,
         mut passes: Vec<Pass<N>>,
-    ) -> Result<Vec<Pass<N>>, Fail> {
+    ) -> Result<Vec<Pass<N>>, Fail>
+        requires { AllowsAll N.allows }
+    {
         let (Some(mut other), Some(mut pass)) = (passes.pop(), passes.pop()) else {
             return Err(Fail::new("no two passes"));
         };

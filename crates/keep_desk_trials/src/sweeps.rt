@@ -1,6 +1,9 @@
+ghost use Rattle.keep_register.specs.Allowed.{AllowsAll};
+
 use crate::adding::{is_refused, is_told};
 use crate::commands::Command;
 use crate::desks::{Scene, play};
+use crate::looking::{Found, look};
 use keep_book::Book;
 use keep_desk::{Desk, Locked, Pass};
 use keep_ledger::Refusal;
@@ -27,7 +30,9 @@ pub fn swept_too_late<N: Naming, R: Abort + Wait + Drop, K: Keeper>(
     alloc: Global,
     desk: &Desk<N, Locked<N, R, K>>,
     mut passes: Vec<Pass<N>>,
-) -> Result<Vec<Pass<N>>, Fail> {
+) -> Result<Vec<Pass<N>>, Fail>
+    requires { AllowsAll N.allows }
+{
     let (Some(mut second), Some(mut first)) = (passes.pop(), passes.pop()) else {
         return Err(Fail::new("no two passes"));
     };
@@ -43,6 +48,37 @@ pub fn swept_too_late<N: Naming, R: Abort + Wait + Drop, K: Keeper>(
     passes.push(first)?;
     passes.push(second)?;
     Ok(passes)
+}
+
+/// One operator makes all changes final where packs have marks, and then takes a view. The other never comes.
+pub fn emptied_under_marks<N: Naming, R: Abort + Wait + Drop, K: Keeper>(
+    rt: &R,
+    alloc: Global,
+    desk: &Desk<N, Locked<N, R, K>>,
+    mut passes: Vec<Pass<N>>,
+) -> Result<Vec<Pass<N>>, Fail>
+    requires { AllowsAll N.allows }
+{
+    let Some(pass) = passes.first_mut() else {
+        return Err(Fail::new("no pass"));
+    };
+    for (number, command) in [(1, FIRST), (2, Command::DropSnapshot), (3, Command::Mark)] {
+        let planned = command.plan(alloc, desk, pass)?;
+        assert!(rt; is_told(&desk.commit(rt, pass, planned), number, number));
+    }
+    assert!(rt; is_told(&desk.empty(rt, pass, 3), 3, 4));
+    assert_eq!(rt; look(desk, pass), Some(Found(4, false, false)));
+    Ok(passes)
+}
+
+#[test]
+fn an_emptying_under_marks_is_published(rt: HostRuntime) -> Result<(), Fail> {
+    let alloc = rt.alloc();
+    let book = Book::open(alloc, MemoryShelf::new(alloc))?;
+    let book = play(rt, alloc, book, Scene::EmptiedUnderMarks)?;
+    assert_eq!(rt; book.ledger().history().length(), 4);
+    assert!(rt; book.ledger().live().mark_count() > 0);
+    Ok(())
 }
 
 #[test]

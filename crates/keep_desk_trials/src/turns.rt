@@ -1,3 +1,5 @@
+ghost use Rattle.keep_register.specs.Allowed.{AllowsAll};
+
 use crate::adding::{Adding, is_refused, is_told};
 use crate::desks::{Scene, play};
 use crate::looking::{A, B, Found, has_index, look};
@@ -17,7 +19,9 @@ pub fn one_at_a_time<N: Naming, R: Abort + Wait + Drop, K: Keeper>(
     alloc: Global,
     desk: &Desk<N, Locked<N, R, K>>,
     mut passes: Vec<Pass<N>>,
-) -> Result<Vec<Pass<N>>, Fail> {
+) -> Result<Vec<Pass<N>>, Fail>
+    requires { AllowsAll N.allows }
+{
     let Some(pass) = passes.first_mut() else {
         return Err(Fail::new("no pass"));
     };
@@ -41,13 +45,44 @@ fn each_event_of_one_operator_is_told_at_its_place(rt: HostRuntime) -> Result<()
     Ok(())
 }
 
+/// One operator adds `b` to a book that has `a`, which is shown first. The other never comes.
+pub fn one_goes_on<N: Naming, R: Abort + Wait + Drop, K: Keeper>(
+    rt: &R,
+    alloc: Global,
+    desk: &Desk<N, Locked<N, R, K>>,
+    mut passes: Vec<Pass<N>>,
+) -> Result<Vec<Pass<N>>, Fail>
+    requires { AllowsAll N.allows }
+{
+    let Some(pass) = passes.first_mut() else {
+        return Err(Fail::new("no pass"));
+    };
+    assert_eq!(rt; look(desk, pass), Some(Found(1, true, false)));
+    let b = Adding { alloc, byte: b'b' };
+    assert!(rt; is_told(&desk.commit(rt, pass, b.planned(1)?), 2, 2));
+    assert_eq!(rt; look(desk, pass), Some(Found(2, true, true)));
+    Ok(passes)
+}
+
+#[test]
+fn a_book_with_events_is_opened(rt: HostRuntime) -> Result<(), Fail> {
+    let alloc = rt.alloc();
+    let mut book = Book::open(alloc, MemoryShelf::new(alloc))?;
+    book.commit(Adding { alloc, byte: b'a' }.planned(0)?)?;
+    let book = play(rt, alloc, book, Scene::OneGoesOn)?;
+    assert_eq!(rt; book.ledger().history().length(), 2);
+    Ok(())
+}
+
 /// Each operator adds a file, and is shown what the other did. The second pass is lost.
 pub fn one_pass_lost<N: Naming, R: Abort + Wait + Drop, K: Keeper>(
     rt: &R,
     alloc: Global,
     desk: &Desk<N, Locked<N, R, K>>,
     mut passes: Vec<Pass<N>>,
-) -> Result<Vec<Pass<N>>, Fail> {
+) -> Result<Vec<Pass<N>>, Fail>
+    requires { AllowsAll N.allows }
+{
     let (Some(mut second), Some(mut first)) = (passes.pop(), passes.pop()) else {
         return Err(Fail::new("no two passes"));
     };

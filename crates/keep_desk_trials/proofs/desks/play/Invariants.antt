@@ -7,7 +7,7 @@ ghosts-play_named-N-Chronicled g a = record { book = a.opened.sight.book }
 
 -- the book that the desk is opened with
 abbrev pub ghosts-play_named-N-Naming : goal.ghosts-play_named-N-Naming
-ghosts-play_named-N-Naming g a = record { opening = ledger_of a.keeper; hooks = hooks_of a.keeper }
+ghosts-play_named-N-Naming g a = record { opening = ledger_of a.keeper; hooks = hooks_of a.keeper; allows = λ seen planned. Unit {0} }
 
 -- the counts that were just made
 abbrev pub ghosts-play_named-N-Ledger : goal.ghosts-play_named-N-Ledger
