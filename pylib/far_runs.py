@@ -58,7 +58,7 @@ def kills(trial):
     midway, made, part, half = (sum(each) for each in zip(*found)) if found else (0, 0, 0, 0)
     trial.say(f"{len(found)} runs were killed, {midway} of them before the last answer, and opened through the other "
               f"mount: the next line was made in {made}, a cascade in part in {part}, a file was half written in "
-              f"{half}; a lock was gone {max(trial.waited):.1f} seconds after its run at the latest")
+              f"{half}; the folder was still locked for {max(trial.waited):.1f} seconds at most")
 
 
 def kill(trial, number):

@@ -82,11 +82,12 @@ class Trial:
 
     def patient(self, folder, script):
         """A run that waits for the lock: that of a run that ended goes a moment later for another mount."""
-        begin = time.monotonic()
+        begin, waited = time.monotonic(), 0
         while (ended := run(folder, script, timeout=LINE_SECONDS))[2].startswith(LOCKED):
-            require(time.monotonic() - begin < LET_GO_SECONDS, "the lock of a run that ended stays", folder)
+            waited = time.monotonic() - begin
+            require(waited < LET_GO_SECONDS, "the lock of a run that ended stays", folder)
             time.sleep(0.02)
-        self.waited.append(time.monotonic() - begin)
+        self.waited.append(waited)
         return ended
 
     def begun(self, folder):
