@@ -1,4 +1,4 @@
-use keep_folder::{DiskTree, FolderError, FolderShelf, open_folder};
+use keep_folder::{FolderError, FolderShelf, HostTree, open_folder};
 use keep_repo::Bytes;
 use keep_shelf::{Fault, Key, MemoryShelf, Shelf};
 
@@ -6,7 +6,7 @@ use keep_shelf::{Fault, Key, MemoryShelf, Shelf};
 #[derive(Drop)]
 pub enum NamedShelf<'a> {
     Memory(MemoryShelf),
-    Folder(FolderShelf<DiskTree<&'a HostRuntime>>),
+    Folder(FolderShelf<HostTree<'a>>),
 }
 
 impl<'a> NamedShelf<'a> {

@@ -2,11 +2,13 @@
 #![tactic(auto)]
 
 mod content;
+mod host;
 mod not_opened;
 mod on_disk;
 mod run;
 mod shelf;
 
+pub use host::HostTree;
 pub use keep_disk::{Cause, DiskTree, FolderError};
 pub use not_opened::NotOpened;
 pub use on_disk::open_folder;
