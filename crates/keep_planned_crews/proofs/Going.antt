@@ -118,6 +118,6 @@ backups_are_jobs all settings time size book since said few meets seen p within 
     }
 
 pub crews_lose_nothing : BooksLoseNothing → CrewsLoseNothing
-crews_lose_nothing loses all opening book after earlier rules settings time size accepted last begins history said few crewed meets =
+crews_lose_nothing loses all opening book after earlier rules settings time size many last begins history said few crewed meets =
     goes_on all opening book (PlansBackup settings time size book) rules crewed.since
     (backups_are_jobs all settings time size book crewed.since said few meets) loses begins earlier history crewed.planned after crewed.left
