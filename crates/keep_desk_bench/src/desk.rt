@@ -112,7 +112,9 @@ where
         rt,
         workers.as_mut_slice(),
         MOST,
-        &|place, worker| { worker.work(rt, desk, shift, place) },
+        &|place, worker|
+            requires { AllowsAll B.allows }
+        { worker.work(rt, desk, shift, place) },
     );
     workers
         .iter()
