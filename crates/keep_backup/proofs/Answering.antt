@@ -13,7 +13,7 @@ use Rattle.keep_catalog.specs.declared.unread.Unread.{Unread}
 use Rattle.keep_backup.specs.Blobs.{BlobData, is_full}
 use Rattle.keep_plan.specs.Refusal.{of_catalog}
 use Rattle.keep_plan.specs.Refusal.{unless, unread_first}
-use Rattle.keep_backup.specs.Stored.{store_of, stored_of, stored_short}
+use Rattle.keep_backup.specs.Stored.{store_of, stored_of, stored_short, stored_with}
 use Rattle.keep_backup.specs.Storing.{Keeps, given}
 use Rattle.keep_plan.specs.declared.plan_error.PlanError.{PlanError}
 use Rattle.keep_plan.specs.declared.plan_error.PlanError.TheVariants as the_error
@@ -49,5 +49,10 @@ some_full blobs i d lt full =
     list_any_at is_full (map given blobs) i (given d) (omega (arith, length-map blobs given))
     (ap is_full (get_or-map given blobs i d (given d) lt) ∙ full)
 
-pub keeps_same : (r : Repository) (blobs others : List BlobData) (storing : Storing) → blobs ≡ others → Keeps r blobs storing → Keeps r others storing
-keeps_same r blobs others storing same keeps = subst (λ (bs : List BlobData). Keeps r bs storing) same keeps
+pub keeps_same : (r : Repository) (blobs others : List BlobData) (storing : Storing) → blobs ≡ others → Keeps r [] blobs storing → Keeps r [] others storing
+keeps_same r blobs others storing same keeps = subst (λ (bs : List BlobData). Keeps r [] bs storing) same keeps
+
+-- where no blob is named, only the offered ones are used
+pub none_named : (r : Repository) (blobs : List BlobData) → stored_with r [] blobs ≡ stored_of r blobs
+unfolding stored_with stored_of
+none_named r blobs = refl

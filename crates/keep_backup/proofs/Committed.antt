@@ -47,7 +47,7 @@ module _ (P : NamedBytes → Type 0) (pack : (blobs : List BlobData) → P (pack
   built_so [] = tt
   built_so (p ∷ ps) = packs_so (p ∷ ps) (index_file (p ∷ ps) ∷ []) (index (p ∷ ps), tt)
 
-abbrev IsOwn : NamedBytes → Type 0
+abbrev pub IsOwn : NamedBytes → Type 0
 IsOwn f = f.name.id.0 ≡ sha256 f.bytes
 
 pack_own : (blobs : List BlobData) → IsOwn (pack_file blobs)
@@ -58,18 +58,18 @@ index_own : (packs : List (List BlobData)) → IsOwn (index_file packs)
 unfolding index_file
 index_own packs = refl
 
-built_own : (r : Repository) (blobs : List BlobData) → AreNamedByBytes (built r blobs)
+pub built_own : (r : Repository) (blobs : List BlobData) → AreNamedByBytes (built r blobs)
 built_own r blobs = All-from_recursion IsOwn (built r blobs) (built_so IsOwn pack_own index_own (packs_built r blobs))
 
 -- packs and indexes stand before each snapshot
-abbrev IsBelow : Id → NamedBytes → Type 0
+abbrev pub IsBelow : Id → NamedBytes → Type 0
 IsBelow id f = name_cmp f.name (named Snapshot id) ≡ Less
 
-pack_below : (id : Id) (blobs : List BlobData) → IsBelow id (pack_file blobs)
+pub pack_below : (id : Id) (blobs : List BlobData) → IsBelow id (pack_file blobs)
 unfolding pack_file
 pack_below id blobs = refl
 
-index_below : (id : Id) (packs : List (List BlobData)) → IsBelow id (index_file packs)
+pub index_below : (id : Id) (packs : List (List BlobData)) → IsBelow id (index_file packs)
 unfolding index_file
 index_below id packs = refl
 
@@ -83,7 +83,7 @@ sorted_push R (x ∷ xs) k h g = (all_push xs h.0, sorted_push R xs k h.1 g.1) w
   all_push [] a = (g.0, tt)
   all_push (y ∷ ys) a = (a.0, all_push ys a.1)
 
-none_sorted : {K : Type 0} (R : K → K → Ordering) → IsStrictlySortedBy R []
+pub none_sorted : {K : Type 0} (R : K → K → Ordering) → IsStrictlySortedBy R []
 unfolding IsStrictlySortedBy
 none_sorted R = tt
 
@@ -100,7 +100,7 @@ module _ {K : Type 0} {R : K → K → Ordering} (exact : IsAntisymmetric R) whe
     cases later true same found = subst P (sym (tells_apart exact k x same)) h.0
     cases later false other found = later found
 
-  apart_so : (P Q : K → Type 0) (ks ls : List K) → ((k : K) → P k → Q k → ⊥) → AllByRecursion P ks → AllByRecursion Q ls → AreApart R ks ls
+  pub apart_so : (P Q : K → Type 0) (ks ls : List K) → ((k : K) → P k → Q k → ⊥) → AllByRecursion P ks → AllByRecursion Q ls → AreApart R ks ls
   apart_so P Q ks ls never p q k is = cases (list_any (eq_by_cmp R k) ls) refl where
     cases : (b : Bool) → list_any (eq_by_cmp R k) ls ≡ b → b ≡ false
     cases true found = absurd (never k (found_so P k ks p is) (found_so Q k ls q found))
@@ -108,18 +108,18 @@ module _ {K : Type 0} {R : K → K → Ordering} (exact : IsAntisymmetric R) whe
 
 -- ---- the change
 
-absent_present : {X : Type 0} (o : Option X) → o ≡ None → IsSome o → ⊥
+pub absent_present : {X : Type 0} (o : Option X) → o ≡ None → IsSome o → ⊥
 absent_present None h g = cc g
 absent_present (Some x) h g = cc h
 
-marked_unmarked : {X : Type 0} (o : Option X) → IsSome o → o ≡ None → ⊥
+pub marked_unmarked : {X : Type 0} (o : Option X) → IsSome o → o ≡ None → ⊥
 marked_unmarked o g h = absent_present o h g
 
 something : (adds : List NamedBytes) (file : NamedBytes) (rest : List Written) → map added (adds ++ file ∷ []) ++ rest ≢ []
 something [] file rest e = (cc e)
 something (f ∷ fs) file rest e = (cc e)
 
-is_some_of : {X : Type 0} (o : Option X) (x : X) → o ≡ Some x → IsSome o
+pub is_some_of : {X : Type 0} (o : Option X) (x : X) → o ≡ Some x → IsSome o
 is_some_of None x h = cc h
 is_some_of (Some y) x h = refl
 
@@ -150,7 +150,7 @@ module _ (r : Repository) (stored : Stored) (snapshot : NamedBytes) (can : CanBe
       (each_so (λ (m : PackMark). get r.marks m.pack ≡ Some m.mark) (λ (m : PackMark). HasMark m.pack) (λ m h. is_some_of (get r.marks m.pack) m.mark h) stored.clears
       (recursion_from_All (λ (m : PackMark). get r.marks m.pack ≡ Some m.mark) stored.clears can.clears))
 
-  well_formed_so : IsWellFormed (change_of stored snapshot)
+  pub well_formed_so : IsWellFormed (change_of stored snapshot)
   well_formed_so =
       sorted_lists_are_well_formed_lem (change_of stored snapshot)
       (record {
@@ -183,7 +183,7 @@ module _ (r : Repository) (stored : Stored) (snapshot : NamedBytes) (can : CanBe
       (All-push IsOwn stored.adds snapshot can.named own)
       (something stored.adds snapshot _)
 
-  asked_so : HasWhatIsAsked (change_of stored snapshot) r
+  pub asked_so : HasWhatIsAsked (change_of stored snapshot) r
   asked_so = record {
     adds = all_adds;
     drops = All-nil (λ (f : NamedBytes). get r.files f.name ≡ Some f.bytes);
@@ -259,7 +259,7 @@ module _ (r : Repository) (facts : FactsData) where
     unfolding backup_change
     backup_so cut given is = given_so cut (files_in_order given) is
 
-no_file : (r : Repository) (name : FileName) → is_there r name ≡ false → get r.files name ≡ None
+pub no_file : (r : Repository) (name : FileName) → is_there r name ≡ false → get r.files name ≡ None
 no_file r name h = cases (get r.files name) h where
   cases : (o : Option (List ℕ)) → is_some o ≡ false → o ≡ None
   cases None g = refl

@@ -1,5 +1,5 @@
 -- What is kept after one more blob was offered.
-use Rattle.std.proofs.Common.{◌≡◌, ℕ, Bool, true, false, ◌||◌, cond, not, List, [], ◌∷◌, ◌++◌, map, Option, None, Some, is_none, option_map, refl, sym, ap, subst, ◌∙◌}
+use Rattle.std.proofs.Common.{◌≡◌, ℕ, Bool, true, false, ◌||◌, cond, not, List, [], ◌∷◌, ◌++◌, map, Option, None, Some, is_none, is_some, option_map, refl, sym, ap, subst, ◌∙◌, append_assoc, append-nil}
 use Rattle.std.specs.BTreeMap.{is_at}
 use Rattle.std.specs.BTreeSet.{BTreeSet, contains}
 use Rattle.std.specs.Cmp.{eq_by_cmp_equiv}
@@ -52,7 +52,7 @@ one_kept blobs kept one b view own are = record {
 list_any-more : {X : Type 0} (test : X → Bool) (xs : List X) (x : X) → list_any test (xs ++ x ∷ []) ≡ (list_any test xs || (test x || false))
 list_any-more test xs x = list_any-append test xs (x ∷ [])
 
-module _ (r : Repository) (offered : List BlobData) (b : BlobData) (s : Storing) (keeps : Keeps r offered s) (fits : is_full b ≡ false) (name : BlobId) (own : name ≡ blob_id_of b) where
+module _ (r : Repository) (named : List BlobId) (offered : List BlobData) (b : BlobData) (s : Storing) (keeps : Keeps r named offered s) (fits : is_full b ≡ false) (name : BlobId) (own : name ≡ blob_id_of b) where
   short : list_any is_full (offered ++ b ∷ []) ≡ false
   short = list_any-more is_full offered b ∙ (λ i. keeps.fits i || (fits i || false))
 
@@ -60,14 +60,14 @@ module _ (r : Repository) (offered : List BlobData) (b : BlobData) (s : Storing)
   seen_more q = ap (list_any (blob_eq q)) (map-append blob_id_of offered (b ∷ [])) ∙ list_any-more (blob_eq q) (map blob_id_of offered) (blob_id_of b)
 
   -- a blob that comes again
-  pub kept_again : contains blob_cmp s.seen name ≡ true → Keeps r (offered ++ b ∷ []) s
+  pub kept_again : contains blob_cmp s.seen name ≡ true → Keeps r named (offered ++ b ∷ []) s
   kept_again before = record {
     catalog = keeps.catalog;
     fits = short;
     seen = λ q. keeps.seen q ∙ same_seen q (blob_eq q (blob_id_of b)) refl ∙ sym (seen_more q);
     pieces = subst (λ (blobs : List BlobData). AreKept blobs s.pieces.items) (sym (new_again r offered b Content seen)) keeps.pieces;
     trees = subst (λ (blobs : List BlobData). AreKept blobs s.trees.items) (sym (new_again r offered b Tree seen)) keeps.trees;
-    reuses = subst (λ (names : List BlobId). RestOn r names s.reuses) (sym (names_again r offered b seen)) keeps.reuses;
+    reuses = subst (λ (names : List BlobId). RestOn r (named ++ names) s.reuses) (sym (names_again r offered b seen)) keeps.reuses;
   } where
     seen : is_seen b offered ≡ true
     seen = sym (keeps.seen (blob_id_of b)) ∙ ap (contains blob_cmp s.seen) (sym own) ∙ before
@@ -103,15 +103,17 @@ module _ (r : Repository) (offered : List BlobData) (b : BlobData) (s : Storing)
 
     -- what is rested on, where the blob's name stands behind the others
     abbrev RestsMore : Reuses → Type 0
-    RestsMore reuses = RestOn r (names_once offered ++ blob_id_of b ∷ []) reuses
+    RestsMore reuses = RestOn r ((named ++ names_once offered) ++ blob_id_of b ∷ []) reuses
 
-    rests_now : (reuses : Reuses) → RestsMore reuses → RestOn r (names_once (offered ++ b ∷ [])) reuses
-    rests_now reuses rests = subst (λ (names : List BlobId). RestOn r names reuses) (sym (names_other r offered b unseen)) rests
+    rests_now : (reuses : Reuses) → RestsMore reuses → RestOn r (named ++ names_once (offered ++ b ∷ [])) reuses
+    rests_now reuses rests =
+        subst (λ (names : List BlobId). RestOn r names reuses)
+        (append_assoc named (names_once offered) (blob_id_of b ∷ []) ∙ ap (λ (names : List BlobId). named ++ names) (sym (names_other r offered b unseen))) rests
 
     -- one that has a place rests on its pack and its index
     pub kept_there : (pair : Id × Id) (reuses' : Reuses) → Some pair ≡ reuse_of s.catalog name
-        → (reuse_of r (blob_id_of b) ≡ Some pair → RestOn r (names_once offered) s.reuses → RestsMore reuses')
-        → Keeps r (offered ++ b ∷ []) (record s { seen = seen'; reuses = reuses' })
+        → (reuse_of r (blob_id_of b) ≡ Some pair → RestOn r (named ++ names_once offered) s.reuses → RestsMore reuses')
+        → Keeps r named (offered ++ b ∷ []) (record s { seen = seen'; reuses = reuses' })
     kept_there pair reuses' reused more =
         let is : reuse_of r (blob_id_of b) ≡ Some pair = use_is (Some pair) reused in
         let there : is_new r b ≡ false = new_is ∙ ap is_none is in
@@ -131,11 +133,11 @@ module _ (r : Repository) (offered : List BlobData) (b : BlobData) (s : Storing)
       is_new_here : is_new r b ≡ true
       is_new_here = new_is ∙ ap is_none none
 
-      reuses_so : RestOn r (names_once (offered ++ b ∷ [])) s.reuses
-      reuses_so = rests_now s.reuses (none_more_used r (names_once offered) (blob_id_of b) s.reuses none keeps.reuses)
+      reuses_so : RestOn r (named ++ names_once (offered ++ b ∷ [])) s.reuses
+      reuses_so = rests_now s.reuses (none_more_used r (named ++ names_once offered) (blob_id_of b) s.reuses none keeps.reuses)
 
       -- a new piece
-      pub kept_piece : (pieces' : Vec (BlobId × Text)) → b.0 ≡ Content → AreKept (new_of Content r offered ++ b ∷ []) pieces'.items → Keeps r (offered ++ b ∷ []) (record s { seen = seen'; pieces = pieces' })
+      pub kept_piece : (pieces' : Vec (BlobId × Text)) → b.0 ≡ Content → AreKept (new_of Content r offered ++ b ∷ []) pieces'.items → Keeps r named (offered ++ b ∷ []) (record s { seen = seen'; pieces = pieces' })
       kept_piece pieces' of are = record {
         catalog = keeps.catalog;
         fits = short;
@@ -146,7 +148,7 @@ module _ (r : Repository) (offered : List BlobData) (b : BlobData) (s : Storing)
       }
 
       -- a new tree
-      pub kept_tree : (trees' : Vec (BlobId × Text)) → b.0 ≡ Tree → AreKept (new_of Tree r offered ++ b ∷ []) trees'.items → Keeps r (offered ++ b ∷ []) (record s { seen = seen'; trees = trees' })
+      pub kept_tree : (trees' : Vec (BlobId × Text)) → b.0 ≡ Tree → AreKept (new_of Tree r offered ++ b ∷ []) trees'.items → Keeps r named (offered ++ b ∷ []) (record s { seen = seen'; trees = trees' })
       kept_tree trees' of are = record {
         catalog = keeps.catalog;
         fits = short;
@@ -155,3 +157,39 @@ module _ (r : Repository) (offered : List BlobData) (b : BlobData) (s : Storing)
         trees = subst (λ (blobs : List BlobData). AreKept blobs trees'.items) (sym (new_more r offered b Tree unseen is_new_here (ap is_tree_type of))) are;
         reuses = reuses_so;
       }
+
+-- one more blob that is named, before any is offered
+module _ (r : Repository) (named : List BlobId) (name : BlobId) (s : Storing) (keeps : Keeps r named [] s) where
+  alone : (names : List BlobId) (reuses : Reuses) → RestOn r (names ++ names_once []) reuses → RestOn r names reuses
+  alone names reuses rests = subst (λ (all : List BlobId). RestOn r all reuses) (append-nil names) rests
+
+  whole : (names : List BlobId) (reuses : Reuses) → RestOn r names reuses → RestOn r (names ++ names_once []) reuses
+  whole names reuses rests = subst (λ (all : List BlobId). RestOn r all reuses) (sym (append-nil names)) rests
+
+  pub claimed : (reuses' : Reuses) → (RestOn r named s.reuses → RestOn r (named ++ name ∷ []) reuses') → Keeps r (named ++ name ∷ []) [] (record s { reuses = reuses' })
+  claimed reuses' more = record {
+    catalog = keeps.catalog;
+    fits = keeps.fits;
+    seen = keeps.seen;
+    pieces = keeps.pieces;
+    trees = keeps.trees;
+    reuses = whole (named ++ name ∷ []) reuses' (more (alone named s.reuses keeps.reuses));
+  }
+
+  reused_here : (o : Option (Id × Id)) → o ≡ reuse_of s.catalog name → reuse_of r name ≡ o
+  reused_here o is = ap (λ (q : Repository). reuse_of q name) (sym keeps.catalog) ∙ sym is
+
+  pub claimed_there : (pair : Id × Id) (reuses' : Reuses) → Some pair ≡ reuse_of s.catalog name
+      → (reuse_of r name ≡ Some pair → RestOn r named s.reuses → RestOn r (named ++ name ∷ []) reuses')
+      → Keeps r (named ++ name ∷ []) [] (record s { reuses = reuses' })
+  claimed_there pair reuses' reused more = claimed reuses' (more (reused_here (Some pair) reused))
+
+  pub claimed_none : None ≡ reuse_of s.catalog name → Keeps r (named ++ name ∷ []) [] s
+  claimed_none unused = claimed s.reuses (none_more_used r named name s.reuses (reused_here None unused))
+
+  is_some_of : (o : Option (Spot × Id)) → is_some o ≡ is_some {T = Id × Id} (option_map (λ (e : Spot × Id). (e.0.pack, e.1)) o)
+  is_some_of None = refl
+  is_some_of (Some e) = refl
+
+  pub placed : (o : Option (Id × Id)) → o ≡ reuse_of s.catalog name → is_some o ≡ is_some (chosen_listing r name)
+  placed o is = ap is_some (sym (reused_here o is)) ∙ sym (is_some_of (chosen_listing r name))

@@ -1,6 +1,7 @@
 -- Blobs that are offered one after the other.
 use Rattle.std.proofs.Common.{◌≡◌, ◌≢◌, Bool, true, false, ◌||◌, List, [], ◌∷◌, ◌++◌, Result, Ok, Err, OnOk, IfErr, refl, sym, ap, subst, ◌∙◌, true≢false, append_assoc, append-nil}
 use Rattle.std.specs.List.{list_any}
+use Rattle.keep_names.specs.declared.blob.BlobId.{BlobId}
 use Rattle.keep_repo.specs.Repository.{Repository}
 use Rattle.keep_backup.specs.Blobs.{BlobData, is_full}
 use Rattle.keep_backup.specs.Storing.{Keeps}
@@ -18,7 +19,7 @@ pub record HasTaken (all rest : List BlobData) (old now : Storing) : Type 0 wher
 pub none_taken : (all : List BlobData) (old : Storing) → HasTaken all all old old
 none_taken all old = record {
   done = [];
-  took = record { kept = λ r offered keeps. let K : List BlobData → Type 0 = λ bs. Keeps r bs old in subst K (sym (append-nil offered)) keeps };
+  took = record { kept = λ r named offered keeps. let K : List BlobData → Type 0 = λ bs. Keeps r named bs old in subst K (sym (append-nil offered)) keeps };
   whole = refl;
 }
 
@@ -26,9 +27,9 @@ pub more_taken : (all xs rest left : List BlobData) (old now later : Storing) �
 more_taken all xs rest left old now later e has took = record {
   done = has.done ++ xs;
   took = record {
-    kept = λ r offered keeps.
-        let K : List BlobData → Type 0 = λ bs. Keeps r bs later in
-        subst K (append_assoc offered has.done xs) (took.kept r (offered ++ has.done) (has.took.kept r offered keeps));
+    kept = λ r named offered keeps.
+        let K : List BlobData → Type 0 = λ bs. Keeps r named bs later in
+        subst K (append_assoc offered has.done xs) (took.kept r named (offered ++ has.done) (has.took.kept r named offered keeps));
   };
   whole = has.whole ∙ ap (λ bs. has.done ++ bs) e ∙ sym (append_assoc has.done xs rest);
 }
@@ -41,9 +42,9 @@ all_taken all rest old now none has =
 -- two walks in a row
 pub both_took : (xs ys : List BlobData) (old now later : Storing) → Took xs old now → Took ys now later → Took (xs ++ ys) old later
 both_took xs ys old now later first second = record {
-  kept = λ r offered keeps.
-      let K : List BlobData → Type 0 = λ bs. Keeps r bs later in
-      subst K (append_assoc offered xs ys) (second.kept r (offered ++ xs) (first.kept r offered keeps));
+  kept = λ r named offered keeps.
+      let K : List BlobData → Type 0 = λ bs. Keeps r named bs later in
+      subst K (append_assoc offered xs ys) (second.kept r named (offered ++ xs) (first.kept r named offered keeps));
 }
 
 -- ---- a blob that is too long
@@ -71,7 +72,7 @@ full_left all xs rest left old now e has full =
 
 -- ---- what the answer of one offer says
 
-pub took_one : {T E : Type 0} (r : Result T E) (b : BlobData) (old new : Storing) → OnOk r ((q : Repository) (offered : List BlobData) → Keeps q offered old → Keeps q (offered ++ b ∷ []) new) → OnOk r (Took (b ∷ []) old new)
+pub took_one : {T E : Type 0} (r : Result T E) (b : BlobData) (old new : Storing) → OnOk r ((q : Repository) (named : List BlobId) (offered : List BlobData) → Keeps q named offered old → Keeps q named (offered ++ b ∷ []) new) → OnOk r (Took (b ∷ []) old new)
 took_one (Ok x) b old new h = record { kept = h }
 took_one (Err e) b old new h = tt
 

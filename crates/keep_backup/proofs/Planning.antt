@@ -15,7 +15,7 @@ use Rattle.keep_catalog.specs.Files.{unread_in}
 use Rattle.keep_catalog.specs.declared.catalog_error.CatalogError.{CatalogError}
 use Rattle.keep_catalog.specs.declared.catalog_error.CatalogError.TheVariants as the_catalog_error
 use Rattle.keep_catalog.specs.declared.unread.Unread.{Unread}
-use Rattle.keep_backup.specs.Backup.{FactsData, backup_change, backup_of, change_of, planned, planned_of, snapshot_file, snapshot_of, stored_files_of}
+use Rattle.keep_backup.specs.Backup.{FactsData, backup_change, backup_of, change_of, planned, planned_of, snapshot_file, snapshot_of, stored_files_of, tagged_file, tagged_snapshot}
 use Rattle.keep_backup.specs.Blobs.{is_full}
 use Rattle.keep_backup.specs.Files.{given_view}
 use Rattle.keep_backup.specs.Folders.{root_folder}
@@ -113,12 +113,17 @@ late_alone r facts cut (f ∷ fs) none bad = cc none
 
 -- ---- the snapshot
 
-pub snapshot_carried : (facts : FactsData) (tree : Id) → IsCarried (snapshot_of facts tree)
-snapshot_carried facts tree = record { apart = refl; dir_stands = tt; others_stand = (refl, lit< tt) }
+pub snapshot_carried : (facts : FactsData) (tags : List (List ℕ)) (tree : Id) → IsCarried (tagged_snapshot facts tags tree)
+snapshot_carried facts tags tree = record { apart = refl; dir_stands = tt; others_stand = (refl, lit< tt) }
 
-pub file_made : (facts : FactsData) (tree : Id) (s : SnapData) (text : List ℕ) (file : NamedBytes) → s ≡ snapshot_of facts tree
-    → (IsCarried s → text ≡ compact_text (snap_data s)) → file ≡ file_of Snapshot text → file ≡ snapshot_file facts tree
-unfolding snapshot_file
-file_made facts tree s text file s_is text_is file_is =
-    let same : text ≡ compact_text (snap_data (snapshot_of facts tree)) = text_is (subst IsCarried (sym s_is) (snapshot_carried facts tree)) ∙ ap (λ (x : SnapData). compact_text (snap_data x)) s_is in
+pub file_made : (facts : FactsData) (tags : List (List ℕ)) (tree : Id) (s : SnapData) (text : List ℕ) (file : NamedBytes) → s ≡ tagged_snapshot facts tags tree
+    → (IsCarried s → text ≡ compact_text (snap_data s)) → file ≡ file_of Snapshot text → file ≡ tagged_file facts tags tree
+unfolding tagged_file
+file_made facts tags tree s text file s_is text_is file_is =
+    let same : text ≡ compact_text (snap_data (tagged_snapshot facts tags tree)) = text_is (subst IsCarried (sym s_is) (snapshot_carried facts tags tree)) ∙ ap (λ (x : SnapData). compact_text (snap_data x)) s_is in
     file_is ∙ ap (file_of Snapshot) same
+
+-- a snapshot without tags
+pub untagged : (facts : FactsData) (tree : Id) → tagged_file facts [] tree ≡ snapshot_file facts tree
+unfolding tagged_file snapshot_file
+untagged facts tree = refl

@@ -38,21 +38,28 @@ facts_view facts = record {
   time = string_bytes facts.time;
 }
 
--- what the snapshot says: these facts and the root's tree, and nothing else
-abbrev pub snapshot_of : FactsData → Id → SnapData
-snapshot_of facts tree = record {
+-- what a snapshot says: these facts, tags and the root's tree, and nothing else
+abbrev pub tagged_snapshot : FactsData → List (List ℕ) → Id → SnapData
+tagged_snapshot facts tags tree = record {
   time = facts.time;
   tree = tree;
   paths = facts.paths;
   hostname = Some facts.host;
   username = Some facts.user;
-  tags = [];
+  tags = tags;
   original = None;
   dir = None;
   others = no_members;
 }
 
 -- its file
+unfoldable pub tagged_file : FactsData → List (List ℕ) → Id → NamedBytes
+tagged_file facts tags tree = file_of Snapshot (compact_text (snap_data (tagged_snapshot facts tags tree)))
+
+-- the snapshot without tags, and its file
+abbrev pub snapshot_of : FactsData → Id → SnapData
+snapshot_of facts tree = tagged_snapshot facts [] tree
+
 unfoldable pub snapshot_file : FactsData → Id → NamedBytes
 snapshot_file facts tree = file_of Snapshot (compact_text (snap_data (snapshot_of facts tree)))
 

@@ -1,6 +1,7 @@
 -- What is stored of a list of blobs, and what that relies on.
 use Rattle.std.specs.Prelude.{List, [], ◌∷◌, ◌++◌, map, Result, Ok, Err, if◌then◌else◌}
 use Rattle.std.specs.List.{list_any}
+use Rattle.keep_names.specs.declared.blob.BlobId.{BlobId}
 use Rattle.keep_names.specs.declared.blob.BlobType.TheVariants.{Content, Tree}
 use Rattle.keep_names.specs.declared.file_name.Kind.TheVariants.{Pack, Index}
 use Rattle.keep_repo.specs.Repository.{Repository}
@@ -49,6 +50,10 @@ built r blobs = packs_and_index (packs_built r blobs)
 -- what becomes of the files that are built, where the blobs that have a place are used there
 unfoldable pub stored_of : Repository → List BlobData → Stored
 stored_of r blobs = settled r (names_once blobs) (built r blobs)
+
+-- the same, where these named blobs are used where they are besides
+unfoldable pub stored_with : Repository → List BlobId → List BlobData → Stored
+stored_with r named blobs = settled r (named ++ names_once blobs) (built r blobs)
 
 -- what is stored, where each blob is short enough
 abbrev pub stored_short : Repository → List BlobData → Result Stored PlanError

@@ -1,5 +1,5 @@
 -- What is kept of the blobs that were offered so far.
-use Rattle.std.specs.Prelude.{◌≡◌, ◌<◌, ◌≤◌, ◌==◌, ◌^◌, ℕ, false, List, length, map, All}
+use Rattle.std.specs.Prelude.{◌≡◌, ◌<◌, ◌≤◌, ◌==◌, ◌^◌, ◌++◌, ℕ, false, List, length, map, All}
 use Rattle.std.specs.BTreeSet.{contains}
 use Rattle.std.specs.Cow.{cow_slice_items}
 use Rattle.std.specs.Global.{Global, Vec}
@@ -43,13 +43,13 @@ pub record CanBePacked (blobs : List (BlobId × Text)) : Type 0 where
   pub lengths : All (λ blob. length (text_bytes blob.1) < 2 ^ 32) blobs
   pub few : count_by (λ blob. length (text_bytes blob.1) == 0) blobs ≤ 1
 
--- These blobs were offered, in this order, and none was too long. What is new of them is kept, and what the
--- others rest on.
-pub record Keeps (r : Repository) (offered : List BlobData) (storing : Storing) : Type 0 where
+-- These blobs were named, and have places, and then those were offered, in this order, and none was too long. What
+-- is new of the offered ones is kept, and what the others and the named ones rest on.
+pub record Keeps (r : Repository) (named : List BlobId) (offered : List BlobData) (storing : Storing) : Type 0 where
   pub catalog : storing.catalog ≡ r
   pub fits : list_any is_full offered ≡ false
   pub seen : (blob : BlobId) → contains blob_cmp storing.seen blob
       ≡ list_any (blob_eq blob) (map blob_id_of offered)
   pub pieces : AreKept (new_of Content r offered) storing.pieces.items
   pub trees : AreKept (new_of Tree r offered) storing.trees.items
-  pub reuses : RestOn r (names_once offered) storing.reuses
+  pub reuses : RestOn r (named ++ names_once offered) storing.reuses

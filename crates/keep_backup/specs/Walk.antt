@@ -5,6 +5,7 @@ use Rattle.std.specs.Simd.{first_chunks}
 use Rattle.std.specs.Slice.Iter.{chunk_count}
 use Rattle.serde_json.specs.Data.{no_members}
 use Rattle.serde_json.specs.Written.{compact_text}
+use Rattle.keep_names.specs.declared.blob.BlobId.{BlobId}
 use Rattle.keep_names.specs.declared.blob.BlobType.TheVariants.{Content, Tree}
 use Rattle.keep_names.specs.declared.id.Id.{Id}
 use Rattle.keep_repo.specs.Repository.{Repository}
@@ -57,8 +58,8 @@ blobs_of cut folder = blobs_below cut folder ++ root_tree cut folder ∷ []
 
 -- these blobs were offered besides, in this order
 pub record Took (blobs : List BlobData) (old new : Storing) : Type 0 where
-  pub kept : (r : Repository) (offered : List BlobData) → Keeps r offered old
-      → Keeps r (offered ++ blobs) new
+  pub kept : (r : Repository) (named : List BlobId) (offered : List BlobData) → Keeps r named offered old
+      → Keeps r named (offered ++ blobs) new
 
 -- why files aren't walked over: one is too deep, before anything is offered, or a blob is too long
 abbrev pub walk_refusal : ℕ → List FileData → Option PlanError

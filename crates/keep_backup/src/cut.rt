@@ -18,7 +18,7 @@ impl Cut {
     }
 
     /// How many bytes a piece has, but for a last one that is shorter.
-    pub(crate) fn piece_length(self) -> usize
+    pub fn piece_length(self) -> usize
         ensures value { result ≡ self.bytes }
         ensures some { 0 < result }
     {

@@ -11,6 +11,7 @@ mod storing;
 mod walk;
 
 pub use cut::Cut;
-pub use plan::plan_backup;
-pub use snapshot::BackupFacts;
+pub use plan::{change_with, has_bad_time, plan_backup};
+pub use snapshot::{BackupFacts, snapshot_file};
 pub use stored::store;
+pub use storing::{Storing, Text};

@@ -71,7 +71,7 @@ fn plan_files(
         return Err(PlanError::BadTime);
     }
     let (tree, stored) = store_files(alloc, view, &files, cut)?;
-    let snapshot = snapshot_file(alloc, facts, tree)?;
+    let snapshot = snapshot_file(alloc, facts, &[], tree)?;
     if view.repo().facet_filled(Facet::File(snapshot.name())) {
         return Err(PlanError::SnapshotThere);
     }
@@ -82,8 +82,8 @@ fn plan_files(
     })
 }
 
-// Whether no snapshot can have the time.
-fn has_bad_time(facts: &BackupFacts) -> bool
+/// Whether no snapshot can have the time.
+pub fn has_bad_time(facts: &BackupFacts) -> bool
     ensures { result ≡ is_none (time_in (facts_view facts.now).time) }
 {
     parse_time(facts.time.as_str()).is_none()
@@ -108,8 +108,12 @@ fn store_files<'a>(
     Ok((tree, stored))
 }
 
-// The change that stores this and adds the snapshot.
-fn change_with(alloc: Global, stored: Stored, snapshot: StoredFile) -> Result<Change, AllocError>
+/// The change that stores this and adds the snapshot.
+pub fn change_with(
+    alloc: Global,
+    stored: Stored,
+    snapshot: StoredFile,
+) -> Result<Change, AllocError>
     ensures { IfOk result (λ change. change ≡ spec.change_of stored snapshot) }
 {
     let mut adds = stored.adds.into_vec();

@@ -1,7 +1,6 @@
 ghost use Rattle.std.specs.Prelude.{◌≡◌, IfOk, map, string_bytes};
 ghost use Rattle.keep_snap.specs.Snap.{snap_view};
-ghost use Rattle.keep_backup.specs.Backup.{facts_view};
-ghost use Rattle.keep_backup.specs.Backup as spec;
+ghost use Rattle.keep_backup.specs.Backup.{facts_view, tagged_file, tagged_snapshot};
 
 use keep_change::StoredFile;
 use keep_names::{Id, Kind};
@@ -20,34 +19,42 @@ pub struct BackupFacts {
     pub time: String,
 }
 
-// The snapshot of a backup whose root's tree has this id.
-pub(crate) fn snapshot_file(
+/// The snapshot of a backup whose root's tree has this id, with these tags.
+pub fn snapshot_file(
     alloc: Global,
     facts: &BackupFacts,
+    tags: &[String],
     tree: Id,
 ) -> Result<StoredFile, AllocError>
-    ensures { IfOk result (λ file. file ≡ spec.snapshot_file (facts_view facts.now) tree) }
+    ensures { IfOk result (λ file. file ≡ tagged_file (facts_view facts.now) (map string_bytes tags.now) tree) }
 {
-    let snap = snapshot_of(alloc, facts, tree)?;
+    let snap = snapshot_of(alloc, facts, tags, tree)?;
     let text = write_snap(alloc, &snap)?;
     StoredFile::of(alloc, Kind::Snapshot, text)
 }
 
 // What it says.
-fn snapshot_of(alloc: Global, facts: &BackupFacts, tree: Id) -> Result<Snap, AllocError>
-    ensures { IfOk result (λ snap. snap_view snap ≡ spec.snapshot_of (facts_view facts.now) tree) }
+fn snapshot_of(
+    alloc: Global,
+    facts: &BackupFacts,
+    tags: &[String],
+    tree: Id,
+) -> Result<Snap, AllocError>
+    ensures { IfOk result (λ snap. snap_view snap
+        ≡ tagged_snapshot (facts_view facts.now) (map string_bytes tags.now) tree) }
 {
     let time = facts.time.clone()?;
     let paths = texts_copy(alloc, &facts.paths)?;
     let host = facts.host.clone()?;
     let user = facts.user.clone()?;
+    let tags = texts_copy(alloc, tags)?;
     Ok(Snap {
         time,
         tree,
         paths,
         hostname: Some(host),
         username: Some(user),
-        tags: Vec::new(alloc),
+        tags,
         original: None,
         dir: None,
         others: Map::new(alloc),

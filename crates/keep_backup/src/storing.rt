@@ -1,9 +1,11 @@
-ghost use Rattle.std.specs.Prelude.{◌≡◌, ◌≢◌, true, false, List, [], ◌∷◌, ◌++◌, Err, IfErr, IfOk, OnOk};
+ghost use Rattle.std.specs.Prelude.{◌≡◌, ◌≢◌, true, false, List, [], ◌∷◌, ◌++◌, Err, IfErr, IfOk, OnOk, is_some};
 ghost use Rattle.keep_names.specs.Sha256.{sha256};
+ghost use Rattle.keep_names.specs.declared.blob.BlobId as the_blob;
 ghost use Rattle.keep_repo.specs.Repository.{Repository};
+ghost use Rattle.keep_catalog.specs.Places.{chosen_listing};
 ghost use Rattle.keep_plan.specs.declared.plan_error.PlanError.TheVariants.{Full, Memory};
 ghost use Rattle.keep_backup.specs.Blobs.{BlobData, blob_id_of, is_full};
-ghost use Rattle.keep_backup.specs.Stored.{stored_of};
+ghost use Rattle.keep_backup.specs.Stored.{stored_with};
 ghost use Rattle.keep_backup.specs.Storing.{AreKept, Keeps, text_bytes};
 
 use crate::packs::built_files;
@@ -15,15 +17,15 @@ use std::alloc::{AllocError, Global};
 use std::borrow::CowSlice;
 use std::collections::BTreeSet;
 
-// The bytes of a blob. They are lent until they are written into a pack, where somebody else has them.
-pub(crate) type Text<'a> = CowSlice<'a, u8, Global>;
+/// The bytes of a blob. They are lent until they are written into a pack, where somebody else has them.
+pub type Text<'a> = CowSlice<'a, u8, Global>;
 
 // A new blob, under its name.
 pub(crate) type NewBlob<'a> = (BlobId, Text<'a>);
 
-// What blobs that are offered one after the other come to. Those that aren't new are let go at once.
+/// What blobs that are offered one after the other come to. Those that aren't new are let go at once.
 #[derive(Drop)]
-pub(crate) struct Storing<'a> {
+pub struct Storing<'a> {
     pub(crate) catalog: Catalog<'a>,
     // The blobs that were offered.
     pub(crate) seen: BTreeSet<BlobId>,
@@ -36,9 +38,9 @@ pub(crate) struct Storing<'a> {
 }
 
 impl<'a> Storing<'a> {
-    // Nothing is offered yet.
-    pub(crate) fn new(alloc: Global, catalog: Catalog<'a>) -> Storing<'a>
-        ensures { Keeps catalog.entry [] result }
+    /// No blob is named or offered yet.
+    pub fn new(alloc: Global, catalog: Catalog<'a>) -> Storing<'a>
+        ensures { Keeps catalog.entry [] [] result }
     {
         Storing {
             catalog,
@@ -49,11 +51,29 @@ impl<'a> Storing<'a> {
         }
     }
 
-    // Offers one more blob, and tells its id. It is hashed once. One that is too long is refused before memory is
-    // taken.
-    pub(crate) fn put(&mut self, blob_type: BlobType, bytes: Text<'a>) -> Result<Id, PlanError>
-        ensures kept { OnOk result ((r : Repository) (offered : List BlobData) → Keeps r offered self.old
-            → Keeps r (offered ++ (blob_type, text_bytes bytes.entry) ∷ []) self.new) }
+    /// Names a blob that is used where it is, and tells whether it has a place. Blobs are named before any is
+    /// offered.
+    pub fn claim(&mut self, blob: BlobId) -> Result<bool, AllocError>
+        ensures placed { IfOk result (λ there. (r : Repository) (named : List the_blob.BlobId)
+            → Keeps r named [] self.old → there ≡ is_some (chosen_listing r blob)) }
+        ensures kept { OnOk result ((r : Repository) (named : List the_blob.BlobId) → Keeps r named [] self.old
+            → Keeps r (named ++ blob ∷ []) [] self.new) }
+    {
+        match self.catalog.reuse(blob) {
+            Some((pack, index)) => {
+                self.reuses.rest_on(pack, index)?;
+                Ok(true)
+            }
+            None => Ok(false),
+        }
+    }
+
+    /// Offers one more blob, and tells its id. It is hashed once. One that is too long is refused before memory is
+    /// taken.
+    pub fn put(&mut self, blob_type: BlobType, bytes: Text<'a>) -> Result<Id, PlanError>
+        ensures kept { OnOk result ((r : Repository) (named : List the_blob.BlobId) (offered : List BlobData)
+            → Keeps r named offered self.old
+            → Keeps r named (offered ++ (blob_type, text_bytes bytes.entry) ∷ []) self.new) }
         ensures id { IfOk result (λ id. id ≡ (blob_id_of (blob_type, text_bytes bytes.entry)).id) }
         ensures refused { IfErr result (λ error. error ≢ Memory
             → (error ≡ Full) × (is_full (blob_type, text_bytes bytes.entry) ≡ true)) }
@@ -67,11 +87,11 @@ impl<'a> Storing<'a> {
         Ok(id)
     }
 
-    // What is stored of all that was offered.
-    pub(crate) fn finish(self, alloc: Global, repo: &Repo) -> Result<Stored, AllocError>
-        requires { (offered : List BlobData) × Keeps repo.now offered self }
-        ensures { IfOk result (λ stored. (offered : List BlobData) → Keeps repo.now offered self.entry
-            → stored ≡ stored_of repo.now offered) }
+    /// What is stored of all that was offered, where what was named is used where it is.
+    pub fn finish(self, alloc: Global, repo: &Repo) -> Result<Stored, AllocError>
+        requires { (named : List the_blob.BlobId) × (offered : List BlobData) × Keeps repo.now named offered self }
+        ensures { IfOk result (λ stored. (named : List the_blob.BlobId) (offered : List BlobData)
+            → Keeps repo.now named offered self.entry → stored ≡ stored_with repo.now named offered) }
     {
         let Storing {
             pieces,
@@ -83,12 +103,13 @@ impl<'a> Storing<'a> {
         settle(alloc, repo, files, reuses)
     }
 
-    // Takes in a blob of this name.
-    fn take_in(&mut self, blob: BlobId, bytes: Text<'a>) -> Result<(), AllocError>
+    /// Offers one more blob, whose name is known and isn't made again.
+    pub fn take_in(&mut self, blob: BlobId, bytes: Text<'a>) -> Result<(), AllocError>
         requires own { blob.id.0 ≡ sha256 (text_bytes bytes) }
         requires fits { is_full (blob.blob_type, text_bytes bytes) ≡ false }
-        ensures { OnOk result ((r : Repository) (offered : List BlobData) → Keeps r offered self.old
-            → Keeps r (offered ++ (blob.blob_type, text_bytes bytes.entry) ∷ []) self.new) }
+        ensures { OnOk result ((r : Repository) (named : List the_blob.BlobId) (offered : List BlobData)
+            → Keeps r named offered self.old
+            → Keeps r named (offered ++ (blob.blob_type, text_bytes bytes.entry) ∷ []) self.new) }
     {
         if self.seen.contains(&blob) {
             return Ok(());

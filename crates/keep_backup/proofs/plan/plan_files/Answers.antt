@@ -6,7 +6,7 @@ use Rattle.keep_backup.specs.Backup.{facts_view}
 use Rattle.keep_backup.specs.Files.{file_view, given_view}
 use Rattle.keep_backup.specs.declared.paths.PathFile.{PathFile}
 use Rattle.keep_backup.proofs.Committed.{backup_met, backup_well_formed}
-use Rattle.keep_backup.proofs.Planning.{bad_files, change_made, late, none_stored, snapshot_there}
+use Rattle.keep_backup.proofs.Planning.{bad_files, change_made, late, none_stored, snapshot_there, untagged}
 use Rattle.keep_plan.specs.Settling.{is_there}
 use Rattle.keep_plan.proofs.Settled.{filled_there}
 use Rattle.keep_backup.proofs.plan.plan_files.Goals as goal
@@ -34,7 +34,7 @@ returns-then-facet_filled-clause-change c _ =
     let files = c.in_ok-files.ensures.files ∙ ap (λ (fs : List PathFile). Ok (map file_view fs)) (sym c.deref.ensures.value) in
     snapshot_there c.args.view.now.repo (facts_view c.args.facts.now) c.args.cut.bytes (map given_view c.args.files.now) (map file_view c.deref.result.now) files _ _ c.in_ok-snapshot.snapshot
     (sym c.has_bad_time.ensures ∙ c.if-has_bad_time.false)
-    c.in_ok-tree.ensures c.in_ok-snapshot.ensures
+    c.in_ok-tree.ensures (c.in_ok-snapshot.ensures ∙ untagged (facts_view c.args.facts.now) c.in_ok-tree.tree)
     (ap (is_there c.args.view.now.repo) (sym c.name.ensures) ∙ sym (filled_there Stored (get c.args.view.now.repo.files c.name.result)) ∙ sym (rw c.repo.ensures at c.facet_filled.ensures) ∙ c.if-facet_filled.true)
 
 pub returns-clause-change : goal.returns-clause-change
@@ -42,7 +42,7 @@ returns-clause-change c =
     let files = c.in_ok-files.ensures.files ∙ ap (λ (fs : List PathFile). Ok (map file_view fs)) (sym c.deref.ensures.value) in
     change_made c.args.view.now.repo (facts_view c.args.facts.now) c.args.cut.bytes (map given_view c.args.files.now) (map file_view c.deref.result.now) files _ _ c.in_ok-snapshot.snapshot
     (sym c.has_bad_time.ensures ∙ c.if-has_bad_time.false)
-    c.in_ok-tree.ensures c.in_ok-snapshot.ensures c.in_ok-change.change
+    c.in_ok-tree.ensures (c.in_ok-snapshot.ensures ∙ untagged (facts_view c.args.facts.now) c.in_ok-tree.tree) c.in_ok-change.change
     (ap (is_there c.args.view.now.repo) (sym c.name.ensures) ∙ sym (filled_there Stored (get c.args.view.now.repo.files c.name.result)) ∙ sym (rw c.repo.ensures at c.facet_filled.ensures) ∙ c.if-facet_filled.false)
     c.in_ok-change.ensures
 

@@ -6,7 +6,7 @@ use Rattle.keep_names.specs.declared.blob.BlobType.{BlobType}
 use Rattle.keep_backup.specs.Blobs.{is_full}
 use Rattle.keep_plan.specs.Refusal.{of_catalog}
 use Rattle.keep_backup.specs.Storing.{given}
-use Rattle.keep_backup.proofs.Answering.{full_is, keeps_same, some_full, stored_is, unread_is}
+use Rattle.keep_backup.proofs.Answering.{full_is, keeps_same, none_named, some_full, stored_is, unread_is}
 use Rattle.keep_backup.proofs.stored.store.Goals as goal
 
 pub returns-in_err-catalog : goal.returns-in_err-catalog
@@ -37,17 +37,17 @@ loop-blob_type-preserved c =
     map_more given blobs i item c.loop-blob_type-test.true
     ∙ ap (λ (b : BlobType × Vec ℕ). map given (take i blobs) ++ given b ∷ []) (sym c.loop-blob_type-item.is)
     ∙ ap (λ (bytes : List ℕ). map given (take i blobs) ++ (item.0, bytes) ∷ []) (sym c.deref.ensures.value) in
-    keeps_same r _ _ c.put.new.self (sym next) (c.in_ok-put.ensures.kept r (map given (take i blobs)) c.loop-blob_type.invariant)
+    keeps_same r _ _ c.put.new.self (sym next) (c.in_ok-put.ensures.kept r [] (map given (take i blobs)) c.loop-blob_type.invariant)
 
 pub finish-requires : goal.finish-requires
 finish-requires c =
     let r = c.args.view.now.repo in
     let blobs = c.args.blobs.now in
-    rw c.repo.ensures (map given blobs, keeps_same r _ _ c.loop-blob_type.storing (ap (map given) (take_all c.loop-blob_type.blob_type-index blobs c.loop-blob_type-test.false)) c.loop-blob_type.invariant)
+    rw c.repo.ensures ([], map given blobs, keeps_same r _ _ c.loop-blob_type.storing (ap (map given) (take_all c.loop-blob_type.blob_type-index blobs c.loop-blob_type-test.false)) c.loop-blob_type.invariant)
 
 pub returns : goal.returns
 returns c =
     let r = c.args.view.now.repo in
     let blobs = c.args.blobs.now in
     let keeps = keeps_same r _ _ c.loop-blob_type.storing (ap (map given) (take_all c.loop-blob_type.blob_type-index blobs c.loop-blob_type-test.false)) c.loop-blob_type.invariant in
-    stored_is r (map given blobs) c.in_ok-finish.field-0 c.in_ok-catalog.ensures.all_read keeps.fits ((rw c.repo.ensures at c.in_ok-finish.ensures) (map given blobs) keeps)
+    stored_is r (map given blobs) c.in_ok-finish.field-0 c.in_ok-catalog.ensures.all_read keeps.fits ((rw c.repo.ensures at c.in_ok-finish.ensures) [] (map given blobs) keeps ∙ none_named r (map given blobs))
