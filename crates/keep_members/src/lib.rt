@@ -1,0 +1,20 @@
+//! What a node of a tree says beside its name and what it is: mode, times, owner, place, size and link target, as
+//! typed values and as the members that a node carries.
+#![tactic(auto)]
+
+mod found;
+mod instant;
+mod laws;
+mod members;
+mod mode;
+mod said;
+mod stamp;
+mod texts;
+mod written;
+
+pub use found::{Found, members_in};
+pub use laws::{carried_members_read_back, modes_go_there_and_back};
+pub use members::Members;
+pub use mode::{go_mode, unix_mode};
+pub use stamp::Stamp;
+pub use written::carried;
