@@ -1,0 +1,13 @@
+//! Names of nodes as restic's trees have them: any bytes, quoted as Go does it, and read back.
+#![tactic(auto)]
+
+mod hex;
+mod laws;
+mod letters;
+mod piece;
+mod quoting;
+mod unquoting;
+
+pub use laws::quoted_names_read_back;
+pub use quoting::quote;
+pub use unquoting::unquote;
