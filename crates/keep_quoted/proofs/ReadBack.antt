@@ -26,11 +26,11 @@ front_up_to bs zero = IsUtf8-nil
 front_up_to bs (suc m) = front_at (is_utf8 (take (suc m) bs)) bs m refl (front_up_to bs m)
 
 -- the front of bytes up to where they aren't UTF-8 is
-front_text : (bs : List ℕ) → IsUtf8 (take (utf8_valid_len bs) bs)
+pub front_text : (bs : List ℕ) → IsUtf8 (take (utf8_valid_len bs) bs)
 unfolding utf8_valid_len
 front_text bs = front_up_to bs (length bs)
 
-whole_text : (bs : List ℕ) → utf8_valid_len bs ≡ length bs → IsUtf8 bs
+pub whole_text : (bs : List ℕ) → utf8_valid_len bs ≡ length bs → IsUtf8 bs
 whole_text bs whole = subst IsUtf8 (ap (λ n. take n bs) whole ∙ take-length bs) (front_text bs)
 
 as_text : (bs : List ℕ) → utf8_valid_len bs ≡ length bs → unquoted (text_quoted bs) ≡ Some bs
@@ -81,3 +81,10 @@ within_back (suc k) bs few ok = ⊎_elim
 pub name_back : (bs : List ℕ) → are_bytes bs ≡ true → unquoted (quoted bs) ≡ Some bs
 unfolding quoted
 name_back bs ok = within_back (length bs) bs (omega arith) ok
+
+-- a text that stands for itself is quoted of itself alone
+pub quoted_of_itself : (bs text : List ℕ) → are_bytes bs ≡ true → unquoted text ≡ Some text → quoted bs ≡ text → bs ≡ text
+quoted_of_itself bs text ok itself is =
+    let back = name_back bs ok in
+    let same : Some bs ≡ Some text = sym back ∙ ap unquoted is ∙ itself in
+    cc

@@ -20,6 +20,10 @@ is_printable c =
     c == 32 || (not (in_group Other (general_category c)) && not (in_group Separator (general_category c))
     && nat_le (age_number (age c)) (age_number V13_0))
 
+-- printed as it is: no quote and no backslash either
+abbrev pub is_plain : ℕ → Bool
+is_plain c = is_printable c && not (c == 34 || c == 92)
+
 -- the characters that have a name behind a backslash: \a, \b, \f, \n, \r, \t, \v, the quote and the backslash
 abbrev pub names : List (ℕ × ℕ)
 names =
@@ -54,6 +58,10 @@ escape c =
     (if is_printable c then encode_utf8 c else number_escape c)
 
 -- ---- bytes
+
+-- NUL and `/`, which no file name has (POSIX, "Filename")
+abbrev pub is_never : ℕ → Bool
+is_never b = b == 0 || b == 47
 
 -- whether these are bytes
 abbrev pub are_bytes : List ℕ → Bool

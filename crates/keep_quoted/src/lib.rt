@@ -8,6 +8,6 @@ mod piece;
 mod quoting;
 mod unquoting;
 
-pub use laws::quoted_names_read_back;
+pub use laws::{plain_names_are_quoted_so, quoted_names_are_names, quoted_names_read_back};
 pub use quoting::quote;
 pub use unquoting::unquote;
