@@ -1,0 +1,13 @@
+//! Tables, sizes and times as people read them: texts made of values, without a terminal.
+#![tactic(auto)]
+
+mod digits;
+mod showing;
+mod sizes;
+mod table;
+mod time;
+
+pub use showing::shown;
+pub use sizes::size;
+pub use table::{Side, Table};
+pub use time::{local_time, utc_time};
