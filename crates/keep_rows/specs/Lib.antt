@@ -1,0 +1,4 @@
+pub mod Listings
+pub mod Modes
+pub mod Rows
+pub mod Values
