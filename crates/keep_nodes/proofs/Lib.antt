@@ -1,0 +1,5 @@
+pub mod Found
+pub mod Read
+pub mod Roots
+pub mod Walking
+pub mod Whole

@@ -1,0 +1,15 @@
+//! What a snapshot has by path: its nodes with their members, found and compared without their bytes, and the pieces
+//! of its files one by one.
+#![tactic(auto)]
+
+mod choosing;
+mod entry;
+mod listing;
+mod pieces;
+mod root;
+mod walk;
+
+pub use choosing::{matched, node_at, nodes_below};
+pub use entry::Entry;
+pub use listing::{nodes_of, whole_nodes_of};
+pub use pieces::piece;
