@@ -1,0 +1,50 @@
+ghost use Rattle.std.specs.Prelude.{◌≡◌, IfOk, OnOk, map, option_map};
+ghost use Rattle.std.specs.FinMap as finite;
+ghost use Rattle.keep_nodes.specs.Choosing.{lent_view};
+ghost use Rattle.keep_nodes.specs.Entries.{entry_view};
+ghost use Rattle.keep_differences.specs.Differences as spec;
+ghost use Rattle.keep_differences.specs.Lent.{paths_of};
+
+use keep_nodes::Entry;
+use std::alloc::{AllocError, Global};
+use std::collections::BTreeMap;
+
+// Nodes by path.
+pub(crate) type ByPath<'a> = BTreeMap<String, &'a Entry>;
+
+// The nodes by path; of two at one path the later.
+pub(crate) fn by_path<'a>(alloc: Global, entries: &'a [Entry]) -> Result<ByPath<'a>, AllocError>
+    ensures { IfOk result (λ nodes. paths_of nodes ≡ spec.by_path (map entry_view entries.entry.now)) }
+{
+    let mut nodes = BTreeMap::new(alloc);
+    put_all(&mut nodes, entries)?;
+    Ok(nodes)
+}
+
+// Puts these nodes there, one after the other.
+pub(crate) fn put_all<'a>(nodes: &mut ByPath<'a>, entries: &'a [Entry]) -> Result<(), AllocError>
+    ensures { OnOk result (paths_of nodes.new
+        ≡ spec.put_all (paths_of nodes.old) (map entry_view entries.entry.now)) }
+{
+    for entry in entries {
+        put(nodes, entry)?;
+    }
+    Ok(())
+}
+
+// Puts the node there.
+fn put<'a>(nodes: &mut ByPath<'a>, entry: &'a Entry) -> Result<(), AllocError>
+    ensures { OnOk result (paths_of nodes.new
+        ≡ finite.insert (paths_of nodes.old) (lent_view entry.entry).path (lent_view entry.entry)) }
+{
+    let path = entry.path.clone()?;
+    nodes.insert(path, entry)?;
+    Ok(())
+}
+
+// The node at this path.
+pub(crate) fn node_at<'a>(nodes: &ByPath<'a>, path: &str) -> Option<&'a Entry>
+    ensures { option_map lent_view result ≡ finite.get (paths_of nodes.now) path.now }
+{
+    nodes.get(path).copied()
+}
