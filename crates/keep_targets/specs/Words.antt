@@ -1,0 +1,13 @@
+-- Refusals in words.
+use Rattle.std.specs.Prelude.{ℕ, List, codes}
+use Rattle.keep_targets.specs.declared.refusal.Refusal.{Refusal}
+use Rattle.keep_targets.specs.declared.refusal.Refusal.TheVariants.{Denied, Failed, Full, Memory, Taken, Unknown, Unsayable}
+
+abbrev pub refusal_text : Refusal → List ℕ
+refusal_text Taken = codes "something is there already"
+refusal_text Denied = codes "permission denied"
+refusal_text Full = codes "no space left"
+refusal_text Unsayable = codes "the system can't take it"
+refusal_text Unknown = codes "the file system can't do it"
+refusal_text Memory = codes "out of memory"
+refusal_text Failed = codes "the file system failed"
