@@ -1,0 +1,9 @@
+pub mod Careful
+pub mod Filling
+pub mod Folders
+pub mod Hurts
+pub mod Leaving
+pub mod Made
+pub mod Places
+pub mod Putting
+pub mod Settling
