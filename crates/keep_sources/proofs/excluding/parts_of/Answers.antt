@@ -1,0 +1,8 @@
+use Rattle.std.proofs.Common.{Ok, lit<}
+use Rattle.std.proofs.lemmas.Iterator.Consumers.{map_from_collect}
+use Rattle.std.proofs.lemmas.Iterator.Splits.{YieldsList-from_str_split}
+use Rattle.std.specs.declared.alloc.AllocError.{AllocError}
+use Rattle.keep_sources.proofs.excluding.parts_of.Goals as goal
+
+pub returns : goal.returns
+returns c = map_from_collect {E = AllocError} (Ok c.in_ok-parts.parts) c.in_ok-parts.ensures.ran (YieldsList-from_str_split 47 c.args.path.now (lit< tt) c.split.ensures.text c.split.ensures.has_more c.split.ensures.pattern)

@@ -1,0 +1,20 @@
+-- What is given to an archive.
+use Rattle.std.specs.Prelude.{ℕ, List}
+use Rattle.keep_names.specs.declared.id.Id.{Id}
+use Rattle.keep_sources.specs.declared.sight.Sight.{Sight}
+
+pub data Given : Type 0 where
+  -- from here on nodes lie in a folder of this name
+  OpenedFolder : List ℕ → Given
+  -- the folder that was opened last ends, and was seen so
+  ClosedFolder : Sight → Given
+  -- bytes of a file
+  Wrote : List ℕ → Given
+  -- the bytes since the last file are one of this name, which was seen so
+  EndedFile : List ℕ → Sight → Given
+  -- the bytes since the last file are of none
+  DroppedFile : Given
+  -- a file of this name, of stored blobs, which was seen so
+  GotSame : List ℕ → List Id → Sight → Given
+  -- something else of this name, which was seen so
+  GotOther : List ℕ → Sight → Given
