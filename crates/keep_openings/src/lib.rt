@@ -1,0 +1,11 @@
+//! Opening a repository's folder: what stands on its shelf taken into memory, to be looked at alone, and why a shelf isn't
+//! opened, with what to do then.
+#![tactic(auto)]
+
+mod copying;
+mod refusal;
+mod unopened;
+
+pub use copying::copied;
+pub use refusal::refusal_of;
+pub use unopened::Unopened;
