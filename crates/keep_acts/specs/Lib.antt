@@ -1,0 +1,5 @@
+pub mod Changing
+pub mod Choosing
+pub mod Coming
+pub mod Pruning
+pub mod Shown
