@@ -1,0 +1,7 @@
+pub mod Claims
+pub mod Cuts
+pub mod Fronts
+pub mod Given
+pub mod Made
+pub mod Noded
+pub mod Reading

@@ -1,0 +1,5 @@
+pub mod Archive
+pub mod Carried
+pub mod Plans
+pub mod Steps
+pub mod Walked

@@ -1,0 +1,91 @@
+-- The changes of an archive: those of its parts, and the last one.
+use Rattle.std.specs.Prelude.{ℕ, Bool, false, nat_le, List, [], ◌∷◌, ◌++◌, length, ◌&&◌, Option, None, Some, option_map, is_none, Result, Ok, Err, if◌then◌else◌}
+use Rattle.std.specs.List.{find}
+use Rattle.keep_names.specs.declared.blob.BlobId.{BlobId}
+use Rattle.keep_names.specs.declared.id.Id.{Id}
+use Rattle.keep_repo.specs.Repository.{Repository}
+use Rattle.keep_change.specs.declared.change.Change.{Change}
+use Rattle.keep_catalog.specs.Places.{chosen_listing}
+use Rattle.keep_plan.specs.Refusal.{unless, unread_first}
+use Rattle.keep_plan.specs.declared.plan_error.PlanError.{PlanError}
+use Rattle.keep_plan.specs.declared.plan_error.PlanError.TheVariants.{BadPath, Memory, Reach}
+use Rattle.keep_plan.specs.declared.stored.Stored.{Stored}
+use Rattle.keep_plan.specs.declared.unreached.Unreached.TheVariants.{MissingBlob}
+use Rattle.keep_backup.specs.Backup.{FactsData, bad_time, planned, tagged_file}
+use Rattle.keep_backup.specs.Blobs.{BlobData}
+use Rattle.keep_backup.specs.Stored.{stored_of, stored_with}
+use Rattle.keep_backup.specs.Walk.{id_of, tree_blob}
+use Rattle.keep_archive.specs.Archive.{ArchiveData, PlaceData}
+use Rattle.keep_archive.specs.Steps.{full_refusal}
+
+-- what is due of an archive, which is none where it is shut
+abbrev pub of_open : {X : Type 0} → (ArchiveData → Result X PlanError) → Option ArchiveData → Result X PlanError
+of_open due None = Err Memory
+of_open due (Some a) = due a
+
+-- ---- a part
+
+-- what is stored, as a change: it adds packs and their index alone
+abbrev pub part_of : Stored → Change
+part_of stored = record {
+  adds = stored.adds;
+  drops = [];
+  sets = [];
+  clears = stored.clears;
+  present = stored.present;
+  absent = [];
+  marked = [];
+  unmarked = stored.unmarked;
+  strict = false;
+}
+
+-- whether nothing would be written
+abbrev pub is_idle : Stored → Bool
+is_idle stored = nat_le (length stored.adds) 0 && nat_le (length stored.clears) 0
+
+-- the part, if something is written
+abbrev pub part_if_any : Stored → Option Change
+part_if_any stored = if is_idle stored then None else Some (part_of stored)
+
+-- the change that stores what is held, as far as it has no place
+abbrev pub part_change : Repository → ArchiveData → Result (Option Change) PlanError
+part_change r a = unless (unread_first r) (Ok (part_if_any (stored_of r a.blobs.held)))
+
+-- ---- the last change
+
+-- a folder below the root is open
+abbrev pub unclosed : PlaceData → Option PlanError
+unclosed place = if nat_le (length place.around) 0 then None else Some BadPath
+
+-- whether the repository has no place for the blob
+abbrev pub has_no_place : Repository → BlobId → Bool
+has_no_place r blob = is_none (chosen_listing r blob)
+
+-- the first of the blobs that has none
+abbrev pub missing_first : Repository → List BlobId → Option PlanError
+missing_first r named = option_map (λ blob. Reach (MissingBlob blob.id)) (find (has_no_place r) named)
+
+-- the blobs that are left to be stored: those that are held, and then the root's tree
+abbrev pub last_blobs : ArchiveData → List BlobData
+last_blobs a = a.blobs.held ++ tree_blob a.place.nodes ∷ []
+
+-- the id of the root's tree, and what is stored of what is left, resting on what was named, or why nothing is
+abbrev pub last_stored : Repository → ArchiveData → Result (Id × Stored) PlanError
+last_stored r a =
+    unless (unread_first r)
+    (unless (full_refusal a.place)
+    (unless (missing_first r a.blobs.named)
+    (Ok (id_of (tree_blob a.place.nodes), stored_with r a.blobs.named (last_blobs a)))))
+
+-- that, and the snapshot of the root's tree
+abbrev pub planned_of : Repository → FactsData → List (List ℕ) → Result (Id × Stored) PlanError
+    → Result Change PlanError
+planned_of r facts tags (Err refusal) = Err refusal
+planned_of r facts tags (Ok made) = planned r made.1 (tagged_file facts tags made.0)
+
+-- the last change: it stores what is left and adds the snapshot
+abbrev pub last_change : Repository → FactsData → List (List ℕ) → ArchiveData → Result Change PlanError
+last_change r facts tags a =
+    unless (unclosed a.place)
+    (unless (bad_time facts)
+    (planned_of r facts tags (last_stored r a)))

@@ -1,0 +1,32 @@
+ghost use Rattle.std.specs.Prelude.{◌≡◌, false};
+ghost use Rattle.keep_names.specs.Sha256.{sha256};
+ghost use Rattle.keep_backup.specs.Blobs.{is_full};
+
+use keep_names::{BlobId, BlobType, id_of};
+
+// A blob that waits to be stored, under its own name.
+#[derive(Drop)]
+pub(crate) struct HeldBlob {
+    pub(crate) blob: BlobId,
+    pub(crate) bytes: Vec<u8>,
+    pub ghost own: { blob.id.0 ≡ sha256 bytes.items },
+    pub ghost fits: { is_full (blob.blob_type, bytes.items) ≡ false },
+}
+
+impl HeldBlob {
+    ghost use Rattle.keep_archive.specs.Archive.{held_view};
+    ghost use Rattle.keep_backup.specs.Blobs.{blob_id_of};
+
+    // The blob of these bytes. They are hashed here, and never again.
+    pub(crate) fn of(blob_type: BlobType, bytes: Vec<u8>) -> HeldBlob
+        requires { is_full (blob_type, bytes.items) ≡ false }
+        ensures value { held_view result ≡ (blob_type, bytes.items) }
+        ensures name { result.blob ≡ blob_id_of (blob_type, bytes.items) }
+    {
+        let id = id_of(bytes.as_slice());
+        HeldBlob {
+            blob: BlobId { id, blob_type },
+            bytes,
+        }
+    }
+}
