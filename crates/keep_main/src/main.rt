@@ -7,12 +7,11 @@ ghost use Rattle.keep_command.specs.Ending.{code_of};
 
 mod desk;
 mod operators;
-mod streams;
 
 use crate::operators::Operators;
-use crate::streams::fill_streams;
 use keep_command::{BadOptions, Crew, Ending, keepd, tell};
 use keep_script::Status;
+use keep_streams::fill_streams;
 use std::env;
 use std::io::{BufWriter, ErrorKind, Write};
 use std::process::ExitCode;
