@@ -1,0 +1,148 @@
+-- What typed commands ask of the book.
+use Rattle.std.specs.Prelude.{ℕ, ◌==◌, nat_lt, ◌||◌, Bool, true, false, List, [], ◌∷◌, map, Option, Some, None, option_map, Result, Ok, Err, if◌then◌else◌}
+use Rattle.std.specs.Borrow.{Bor}
+use Rattle.std.specs.Global.{Vec}
+use Rattle.keep_acts.specs.declared.choosing.Choice.{Choice}
+use Rattle.keep_acts.specs.declared.choosing.Choice.TheVariants.{All, Host, Path, Tagged}
+use Rattle.keep_jobs.specs.Job as job
+use Rattle.keep_jobs.specs.Job.{TaskData, task_view}
+use Rattle.keep_journal.specs.declared.request.Request.{Request}
+use Rattle.keep_journal.specs.declared.request.Request.TheVariants as request
+use Rattle.keep_labels.specs.Edits.{EditData}
+use Rattle.keep_labels.specs.Keeping.{PolicyData}
+use Rattle.keep_words.specs.declared.command.Command as the_command
+use Rattle.keep_words.specs.declared.command.Command.TheVariants as command
+use Rattle.keep_words.specs.declared.command.Forget.{Forget}
+use Rattle.keep_words.specs.declared.command.Keep.{Keep}
+use Rattle.keep_words.specs.declared.command.Rewrite.{Rewrite}
+use Rattle.keep_words.specs.declared.command.Tag.{Tag}
+use Rattle.keep_deeds.specs.declared.deed.Deed as the_deed
+use Rattle.keep_deeds.specs.declared.deed.Deed.TheVariants as deed
+use Rattle.keep_deeds.specs.declared.deed.NoDeed.{NoDeed}
+use Rattle.keep_deeds.specs.declared.deed.NoDeed.TheVariants.{ManyChosen, NamedSnapshots}
+
+-- just this request; a change taken back with all that lean on it; a task for the snapshots that are chosen, planned
+-- alone or done; the jobs that go by no words; and a prune
+pub data DeedData : Type 0 where
+  Ask : Request → DeedData
+  Cascade : ℕ → DeedData
+  Do : Choice → TaskData → Bool → DeedData
+  Repair : DeedData
+  Mark : DeedData
+  Sweep : ℕ → DeedData
+  Prune : ℕ → DeedData
+
+-- what a `Deed` says
+abbrev pub deed_view : the_deed.Deed → DeedData
+deed_view (deed.Ask asked) = Ask asked
+deed_view (deed.Cascade number) = Cascade number
+deed_view (deed.Do choice task is_dry) = Do choice (task_view task) is_dry
+deed_view deed.Repair = Repair
+deed_view deed.Mark = Mark
+deed_view (deed.Sweep wait) = Sweep wait
+deed_view (deed.Prune wait) = Prune wait
+
+abbrev pub option_view : Option the_deed.Deed → Option DeedData
+option_view made = option_map deed_view made
+
+-- the texts of a list
+abbrev pub texts_in : Vec (Bor (List ℕ)) → List (List ℕ)
+texts_in list = map (λ text. text.now) list.items
+
+-- a number that a count can have: 1 to 1,048,576
+abbrev pub count_in : Option ℕ → Option ℕ
+count_in None = None
+count_in (Some n) = if (n == 0) || nat_lt 1048576 n then None else Some n
+
+-- the policy of --keep-last and its like
+abbrev pub policy_in : Keep → PolicyData
+policy_in keep = record {
+  last = count_in keep.last;
+  daily = count_in keep.daily;
+  weekly = count_in keep.weekly;
+  monthly = count_in keep.monthly;
+  yearly = count_in keep.yearly;
+  tags = texts_in keep.tags;
+}
+
+-- the tags of --set, where there are some
+abbrev pub set_in : List (List ℕ) → Option (List (List ℕ))
+set_in [] = None
+set_in (tag ∷ tags) = Some (tag ∷ tags)
+
+-- the edit of --add, --remove and --set
+abbrev pub edit_in : Tag → EditData
+edit_in words = record {
+  replace = set_in (texts_in words.set);
+  add = texts_in words.add;
+  remove = texts_in words.remove;
+}
+
+-- the snapshots of a host, a tag or a path, where at most one of them is given
+abbrev pub choice_in : (host tag path : Option (Bor (List ℕ))) → Result Choice NoDeed
+choice_in None None None = Ok All
+choice_in None None (Some path) = Ok (Path path)
+choice_in None (Some tag) None = Ok (Tagged tag)
+choice_in None (Some tag) (Some path) = Err ManyChosen
+choice_in (Some host) None None = Ok (Host host)
+choice_in (Some host) None (Some path) = Err ManyChosen
+choice_in (Some host) (Some tag) None = Err ManyChosen
+choice_in (Some host) (Some tag) (Some path) = Err ManyChosen
+
+-- the task for what is chosen
+abbrev pub doing : Result Choice NoDeed → TaskData → Bool → Result DeedData NoDeed
+doing (Ok choice) task is_dry = Ok (Do choice task is_dry)
+doing (Err why) task is_dry = Err why
+
+-- forget: those of the chosen that the policy doesn't keep
+abbrev pub forgetting : Forget → Result DeedData NoDeed
+forgetting words =
+    doing (choice_in words.chosen.host words.chosen.tag words.chosen.path) (job.Forget (policy_in words.keep)) words.dry_run
+
+-- tag: of all snapshots; none can be named
+abbrev pub tagging_by : List (Bor (List ℕ)) → EditData → Result DeedData NoDeed
+tagging_by [] edit = Ok (Do All (job.Tag edit) false)
+tagging_by (name ∷ names) edit = Err NamedSnapshots
+
+abbrev pub tagging : Tag → Result DeedData NoDeed
+tagging words = tagging_by words.snapshots.items (edit_in words)
+
+-- rewrite: of all snapshots
+abbrev pub rewriting : Rewrite → Result DeedData NoDeed
+rewriting words = Ok (Do All (job.Rewrite words.forget (texts_in words.exclude)) words.dry_run)
+
+-- undo: alone, or with all that lean on the change
+abbrev pub undoing : ℕ → Bool → DeedData
+undoing change true = Cascade change
+undoing change false = Ask (request.Undo change)
+
+abbrev pub some_of : Result DeedData NoDeed → Result (Option DeedData) NoDeed
+some_of (Ok made) = Ok (Some made)
+some_of (Err why) = Err why
+
+-- what a command asks of the book, if it changes something there
+abbrev pub deed_in : the_command.Command → Result (Option DeedData) NoDeed
+deed_in (command.Init folder) = Ok None
+deed_in (command.Backup words) = Ok None
+deed_in (command.Snapshots chosen latest) = Ok None
+deed_in (command.Ls snapshot path) = Ok None
+deed_in (command.Dump snapshot path) = Ok None
+deed_in (command.Diff old new) = Ok None
+deed_in (command.Find pattern) = Ok None
+deed_in (command.Restore words) = Ok None
+deed_in (command.Forget words) = some_of (forgetting words)
+deed_in (command.Tag words) = some_of (tagging words)
+deed_in (command.Rewrite words) = some_of (rewriting words)
+deed_in (command.Check read_data) = Ok None
+deed_in command.Repair = Ok (Some Repair)
+deed_in command.Mark = Ok (Some Mark)
+deed_in (command.Sweep older_than) = Ok (Some (Sweep older_than))
+deed_in (command.Prune older_than) = Ok (Some (Prune older_than))
+deed_in (command.History last) = Ok None
+deed_in (command.Show change) = Ok None
+deed_in (command.Undo change with_all unasked) = Ok (Some (undoing change with_all))
+deed_in (command.Redo change) = Ok (Some (Ask (request.Redo change)))
+deed_in (command.Empty through unasked) = Ok (Some (Ask (request.Empty through)))
+deed_in (command.Graph change dot) = Ok None
+deed_in (command.Script file) = Ok None
+deed_in (command.Rescue folder target) = Ok None

@@ -1,0 +1,76 @@
+ghost use Rattle.keep_docs.specs.Doc.{Answers};
+ghost use Rattle.keep_deeds.specs.Deed.{deed_in, deed_view, forgetting, option_view, rewriting, tagging};
+ghost use Rattle.keep_deeds.specs.declared.deed.NoDeed.TheVariants.{Memory};
+
+use crate::deed::{Deed, NoDeed};
+use crate::tasks::{choice_of, edit_of, policy_of};
+use crate::texts::texts_of;
+use keep_acts::Choice;
+use keep_jobs::Task;
+use keep_ledger::Request;
+use keep_words::{Command, Forget, Rewrite, Tag};
+use std::alloc::Global;
+
+/// What the command asks of the book; nothing where it only looks at it, or is done beside it.
+pub fn deed_of<'a>(alloc: Global, command: &Command<'a>) -> Result<Option<Deed<'a>>, NoDeed>
+    ensures { Answers Memory option_view (deed_in command.entry.now) result }
+{
+    match command {
+        Command::Forget(words) => Ok(Some(forget(alloc, words)?)),
+        Command::Tag(words) => Ok(Some(tag(alloc, words)?)),
+        Command::Rewrite(words) => Ok(Some(rewrite(alloc, words)?)),
+        Command::Repair => Ok(Some(Deed::Repair)),
+        Command::Mark => Ok(Some(Deed::Mark)),
+        Command::Sweep { older_than } => Ok(Some(Deed::Sweep(*older_than))),
+        Command::Prune { older_than } => Ok(Some(Deed::Prune(*older_than))),
+        Command::Undo {
+            change,
+            with_all: true,
+            ..
+        } => Ok(Some(Deed::Cascade(*change))),
+        Command::Undo { change, .. } => Ok(Some(Deed::Ask(Request::Undo(*change)))),
+        Command::Redo { change } => Ok(Some(Deed::Ask(Request::Redo(*change)))),
+        Command::Empty { through, .. } => Ok(Some(Deed::Ask(Request::Empty(*through)))),
+        _ => Ok(None),
+    }
+}
+
+fn forget<'a>(alloc: Global, words: &Forget<'a>) -> Result<Deed<'a>, NoDeed>
+    ensures { Answers Memory deed_view (forgetting words.entry.now) result }
+{
+    let choice = choice_of(words.chosen)?;
+    let policy = policy_of(alloc, &words.keep)?;
+    Ok(Deed::Do {
+        choice,
+        task: Task::Forget(policy),
+        is_dry: words.dry_run,
+    })
+}
+
+fn tag<'a>(alloc: Global, words: &Tag<'a>) -> Result<Deed<'a>, NoDeed>
+    ensures { Answers Memory deed_view (tagging words.entry.now) result }
+{
+    if !words.snapshots.is_empty() {
+        return Err(NoDeed::NamedSnapshots);
+    }
+    let edit = edit_of(alloc, words)?;
+    Ok(Deed::Do {
+        choice: Choice::All,
+        task: Task::Tag(edit),
+        is_dry: false,
+    })
+}
+
+fn rewrite<'a>(alloc: Global, words: &Rewrite<'a>) -> Result<Deed<'a>, NoDeed>
+    ensures { Answers Memory deed_view (rewriting words.entry.now) result }
+{
+    let patterns = texts_of(alloc, &words.exclude)?;
+    Ok(Deed::Do {
+        choice: Choice::All,
+        task: Task::Rewrite {
+            forget: words.forget,
+            patterns,
+        },
+        is_dry: words.dry_run,
+    })
+}
