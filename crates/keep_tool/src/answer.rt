@@ -1,0 +1,105 @@
+ghost use Rattle.keep_book.specs.Armed.{HasSums};
+
+use crate::asking::agrees;
+use crate::failure::Failure;
+use crate::looking::look;
+use crate::outcome::{numbers_text, refused, tell_made, tell_outcome, tell_taken};
+use crate::run::Run;
+use keep_acts::Pruned;
+use keep_book::Book;
+use keep_deeds::{Came, NoDeed, deed_of, perform};
+use keep_journal::History;
+use keep_shelf::Shelf;
+use keep_words::Command;
+
+/// Does what the command asks of the book, and prints what came of it; or prints what is asked for.
+pub(crate) fn answer<S: Shelf>(
+    run: &Run<'_>,
+    book: &mut Book<S>,
+    command: &Command<'_>,
+) -> Result<(), Failure>
+    requires { HasSums book.old }
+{
+    match deed_of(run.alloc, command) {
+        Ok(None) => look(run, book, command),
+        Ok(Some(deed)) => {
+            confirm(run, book, command)?;
+            let came = perform(run.alloc, book, run.settings(), deed);
+            tell_came(run, book.ledger().history(), about(command), came)
+        }
+        Err(NoDeed::ManyChosen) => Err(Failure::unmeant(
+            run.alloc,
+            "give one of --host, --tag and --path",
+        )),
+        Err(NoDeed::NamedSnapshots) => Err(Failure::unmeant(
+            run.alloc,
+            "tags of single snapshots can't be changed yet: give --all",
+        )),
+        Err(NoDeed::Memory) => Err(Failure::Memory),
+    }
+}
+
+/// The change that the command names, 0 where it names none.
+fn about(command: &Command<'_>) -> u64 {
+    match command {
+        Command::Undo { change, .. } => *change,
+        Command::Redo { change } => *change,
+        Command::Empty { through, .. } => *through,
+        _ => 0,
+    }
+}
+
+/// Says what a command does that can't easily be taken back, and asks whether it is to go on.
+fn confirm<S: Shelf>(run: &Run<'_>, book: &Book<S>, command: &Command<'_>) -> Result<(), Failure> {
+    let (text, yes) = match command {
+        Command::Undo {
+            change,
+            with_all: true,
+            yes,
+        } => match book.taken(*change) {
+            Ok(numbers) => {
+                let list = numbers_text(run, &numbers)?;
+                (
+                    format!(in run.alloc; "these changes are undone: {list}")?,
+                    *yes,
+                )
+            }
+            Err(refusal) => return Err(refused(run, *change, &refusal)),
+        },
+        Command::Empty { through, yes } => (
+            format!(in run.alloc;
+                "the changes up to {through} become final: none can be undone then"
+            )?,
+            *yes,
+        ),
+        _ => return Ok(()),
+    };
+    if agrees(run, text.as_str(), yes) {
+        Ok(())
+    } else {
+        Err(Failure::Told)
+    }
+}
+
+/// Prints what came of a deed about this change.
+fn tell_came(run: &Run<'_>, history: &History, about: u64, came: Came) -> Result<(), Failure> {
+    match came {
+        Came::Asked(Ok(made)) => tell_made(run, history, made),
+        Came::Asked(Err(refusal)) => Err(refused(run, about, &refusal)),
+        Came::TakenBack(taken) => tell_taken(run, about, &taken),
+        Came::Changed(outcome) => tell_outcome(run, history, outcome),
+        Came::Pruned(pruned) => tell_pruned(run, history, pruned),
+    }
+}
+
+/// Prints what came of a prune: of the mark where there was something to mark, and of the sweep where it followed.
+fn tell_pruned(run: &Run<'_>, history: &History, pruned: Pruned) -> Result<(), Failure> {
+    let Pruned { mark, sweep } = pruned;
+    let Some(sweep) = sweep else {
+        return tell_outcome(run, history, mark);
+    };
+    if let Ok(mark) = mark {
+        tell_outcome(run, history, Ok(mark))?;
+    }
+    tell_outcome(run, history, sweep)
+}

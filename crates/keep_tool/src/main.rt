@@ -1,0 +1,27 @@
+//! The program `keep`: the command that people type.
+#![tactic(auto)]
+
+mod answer;
+mod asking;
+mod failure;
+mod looking;
+mod opening;
+mod outcome;
+mod reading;
+mod run;
+mod script;
+
+use crate::failure::tell;
+use crate::reading::keep;
+use keep_streams::fill_streams;
+use std::process::ExitCode;
+
+fn main(rt: HostRuntime) -> ExitCode {
+    if fill_streams(&rt).is_err() {
+        return ExitCode::from(1);
+    }
+    match keep(&rt) {
+        Ok(()) => ExitCode::SUCCESS,
+        Err(failure) => ExitCode::from(tell(&rt, failure)),
+    }
+}

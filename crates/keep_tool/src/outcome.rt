@@ -1,0 +1,129 @@
+use crate::failure::Failure;
+use crate::run::Run;
+use keep_acts::{Made, NotDone, Outcome};
+use keep_advice::{Advice, PlanAdvice};
+use keep_book::TakenBack;
+use keep_change::Change;
+use keep_journal::History;
+use keep_ledger::Refusal;
+use keep_rows::{Row, document_of, table_of};
+
+/// Prints what came of a job: the change, as a table of its files and marks.
+pub(crate) fn tell_outcome(
+    run: &Run<'_>,
+    history: &History,
+    came: Result<Outcome, NotDone>,
+) -> Result<(), Failure> {
+    match came {
+        Ok(Outcome::Planned(change)) => tell_planned(run, &change),
+        Ok(Outcome::Made(made)) => tell_made(run, history, made),
+        Err(NotDone::Unplanned(error)) => Err(Failure::refused(run.alloc, &PlanAdvice(&error))),
+        Err(NotDone::Refused(refusal)) => Err(refused(run, 0, &refusal)),
+    }
+}
+
+/// Says why a request about this change was refused, and what to do then.
+pub(crate) fn refused(run: &Run<'_>, about: u64, refusal: &Refusal) -> Failure {
+    Failure::refused(run.alloc, &Advice { about, refusal })
+}
+
+/// Prints the change that would be made.
+fn tell_planned(run: &Run<'_>, change: &Change) -> Result<(), Failure> {
+    if run.is_json {
+        run.print(b"{\"planned\":true,\"parts\":")?;
+        print_parts(run, change)?;
+        return run.print(b"}\n");
+    }
+    run.print(b"would change:\n")?;
+    print_parts(run, change)
+}
+
+/// Prints what an event did, and the files and marks of its change.
+pub(crate) fn tell_made(run: &Run<'_>, history: &History, made: Made) -> Result<(), Failure> {
+    let Made {
+        number,
+        event,
+        is_unsettled,
+    } = made;
+    if run.is_json {
+        let head = format!(in run.alloc;
+            "{{\"change\":{number},\"event\":{event},\"unsettled\":{is_unsettled},\"parts\":"
+        )?;
+        run.print(head.as_bytes())?;
+        print_parts_of(run, history, number)?;
+        run.print(b"}\n")?;
+    } else {
+        let head = format!(in run.alloc; "change {number}, event {event}:\n")?;
+        run.print(head.as_bytes())?;
+        print_parts_of(run, history, number)?;
+    }
+    if is_unsettled {
+        return Err(refused(run, number, &Refusal::Unsettled(number)));
+    }
+    Ok(())
+}
+
+/// Prints the files and marks of the change of this number. Of a final one they aren't known.
+pub(crate) fn print_parts_of(run: &Run<'_>, history: &History, number: u64) -> Result<(), Failure> {
+    match history.change(number) {
+        Some(change) => print_parts(run, change),
+        None if run.is_json => run.print(b"null"),
+        None => Ok(()),
+    }
+}
+
+/// Prints how many files the change adds and drops, and how many marks it sets and clears.
+fn print_parts(run: &Run<'_>, change: &Change) -> Result<(), Failure> {
+    let adds = change.adds.as_slice().len();
+    let drops = change.drops.as_slice().len();
+    let sets = change.sets.as_slice().len();
+    let clears = change.clears.as_slice().len();
+    let text = if run.is_json {
+        format!(in run.alloc;
+            "{{\"added\":{adds},\"dropped\":{drops},\"marked\":{sets},\"unmarked\":{clears}}}"
+        )?
+    } else {
+        format!(in run.alloc;
+            "files added {adds}, dropped {drops}; packs marked {sets}, unmarked {clears}\n"
+        )?
+    };
+    run.print(text.as_bytes())
+}
+
+/// Prints the rows, as a table or as a list of objects.
+pub(crate) fn print_rows<R: Row>(run: &Run<'_>, rows: &[R]) -> Result<(), Failure> {
+    if run.is_json {
+        let text = document_of(run.alloc, rows)?;
+        return run.print(text.as_slice());
+    }
+    let text = table_of(run.alloc, rows)?;
+    run.print(text.as_bytes())
+}
+
+/// Prints which changes were taken back, and says why no more were.
+pub(crate) fn tell_taken(run: &Run<'_>, about: u64, taken: &TakenBack) -> Result<(), Failure> {
+    let list = numbers_text(run, &taken.numbers)?;
+    let text = if run.is_json {
+        format!(in run.alloc; "{{\"undone\":[{list}]}}\n")?
+    } else {
+        format!(in run.alloc; "undone: {list}\n")?
+    };
+    run.print(text.as_bytes())?;
+    match &taken.stopped {
+        None => Ok(()),
+        Some(refusal) => Err(refused(run, about, refusal)),
+    }
+}
+
+/// The numbers, parted by commas.
+pub(crate) fn numbers_text(run: &Run<'_>, numbers: &[u64]) -> Result<String, Failure> {
+    let mut text = String::new(run.alloc);
+    for number in numbers {
+        if !text.is_empty() {
+            text.push_str(", ")?;
+        }
+        let word = format!(in run.alloc; "{number}")?;
+        text.push_str(word.as_str())?;
+    }
+    Ok(text)
+}

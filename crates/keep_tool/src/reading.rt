@@ -1,0 +1,83 @@
+use crate::failure::Failure;
+use crate::opening::over_folder;
+use crate::run::Run;
+use crate::script::script;
+use keep_typed::read_words;
+use keep_words::{Command, Words};
+use std::env::{self, VarError};
+use std::io::ErrorKind;
+use std::time::Clock;
+
+/// Does what the words of the process say.
+pub(crate) fn keep(rt: &HostRuntime) -> Result<(), Failure> {
+    let alloc = rt.alloc();
+    let words: Vec<String> = match env::args(rt) {
+        Ok(words) => words.collect(alloc)?,
+        Err(error) if error.kind() == ErrorKind::OutOfMemory => return Err(Failure::Memory),
+        Err(_) => return Err(Failure::unmeant(rt.alloc(), "a word isn't UTF-8")),
+    };
+    let words: Vec<&str> = words.iter().map(|word| word.as_str()).collect(alloc)?;
+    match read_words(alloc, words.as_slice()) {
+        Ok(words) => run_words(rt, words),
+        Err(error) => {
+            if error.print(rt).is_err() {
+                return Err(Failure::Unwritten);
+            }
+            if error.exit_code() == 0 {
+                Ok(())
+            } else {
+                Err(Failure::BadWords)
+            }
+        }
+    }
+}
+
+/// Does what these words say, over the repository that they name, or the variable `KEEP_REPOSITORY`.
+fn run_words(rt: &HostRuntime, words: Words<'_>) -> Result<(), Failure> {
+    let Words {
+        repo,
+        json,
+        wait,
+        command,
+    } = words;
+    let folder = match repo {
+        Some(repo) => String::from_str(rt.alloc(), repo)?,
+        None => folder_named(rt)?,
+    };
+    let run = Run {
+        rt,
+        alloc: rt.alloc(),
+        folder: folder.as_str(),
+        is_json: json,
+        wait,
+        now: now(rt),
+    };
+    match command {
+        Command::Script { file } => script(&run, file),
+        command => over_folder(&run, &command),
+    }
+}
+
+/// The folder that the variable names.
+fn folder_named(rt: &HostRuntime) -> Result<String, Failure> {
+    match env::var(rt, "KEEP_REPOSITORY") {
+        Ok(folder) if folder.is_empty() => Err(Failure::unmeant(
+            rt.alloc(),
+            "KEEP_REPOSITORY is set and empty",
+        )),
+        Ok(folder) => Ok(folder),
+        Err(VarError::OutOfMemory) => Err(Failure::Memory),
+        Err(_) => Err(Failure::unmeant(
+            rt.alloc(),
+            "name a repository by -r DIR or KEEP_REPOSITORY",
+        )),
+    }
+}
+
+/// The moment, 1970-01-01T00:00:00Z where the clock can't be read.
+fn now(rt: &HostRuntime) -> i64 {
+    match rt.since_1970() {
+        Ok(since) => i64::try_from(since.as_secs()).unwrap_or(0),
+        Err(_) => 0,
+    }
+}

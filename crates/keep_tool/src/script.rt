@@ -1,0 +1,37 @@
+use crate::failure::Failure;
+use crate::run::Run;
+use keep_command::{Ending, NoOperators, keepd, tell};
+use keep_tables::utc_time;
+use std::fs::File;
+use std::io::{BufWriter, Read};
+
+/// `keep script`: keepd's lines, from a file or from standard input.
+pub(crate) fn script(run: &Run<'_>, file: Option<&str>) -> Result<(), Failure> {
+    match file {
+        None => answer(run, &mut run.rt.stdin()),
+        Some(path) => match File::open(run.rt, path) {
+            Ok(mut script) => answer(run, &mut script),
+            Err(error) => {
+                let cause = format!(in run.alloc; "cannot open {path}: {error}")?;
+                Err(Failure::Refused(cause))
+            }
+        },
+    }
+}
+
+/// Answers the lines over the repository's folder, as keepd does.
+fn answer<R: Read>(run: &Run<'_>, reader: &mut R) -> Result<(), Failure> {
+    let now = utc_time(run.alloc, run.now)?;
+    let folder = format!(in run.alloc; "--folder={}", run.folder)?;
+    let now = format!(in run.alloc; "--now={now}")?;
+    let words = vec![in run.alloc; folder.as_str(), now.as_str()]?;
+    let Ok(mut writer) = BufWriter::new(run.alloc, run.rt.stdout()) else {
+        return Err(Failure::Memory);
+    };
+    let ending = keepd(run.rt, &NoOperators, words.as_slice(), reader, &mut writer);
+    match tell(ending, &mut run.rt.stderr()) {
+        (0, _) => Ok(()),
+        (2, _) => Err(Failure::BadWords),
+        _ => Err(Failure::Told),
+    }
+}
