@@ -1,0 +1,22 @@
+//! Reads a table of restores, one a line, puts each into a folder in memory, and answers what is there then and what is
+//! told.
+#![tactic(auto)]
+
+mod case;
+mod memory;
+mod reading;
+mod source;
+mod thing;
+
+use std::io;
+
+fn main(rt: HostRuntime) -> io::Result<()> {
+    let alloc = rt.alloc();
+    for line in rt.lines(alloc) {
+        match case::answer(alloc, line?.as_str()) {
+            Ok(text) => println!(rt; "{text}")?,
+            Err(_) => println!(rt; "no case")?,
+        }
+    }
+    Ok(())
+}
