@@ -1,0 +1,31 @@
+use std::alloc::{AllocError, AllocFailed};
+use std::fmt;
+
+/// Why a case has no other answer.
+#[derive(Clone, Copy)]
+pub(crate) enum No {
+    /// The line is no case.
+    Case,
+    Memory,
+}
+
+impl From<AllocError> for No {
+    fn from(_why: AllocError) -> No {
+        No::Memory
+    }
+}
+
+impl<T: Drop> From<AllocFailed<T>> for No {
+    fn from(_why: AllocFailed<T>) -> No {
+        No::Memory
+    }
+}
+
+impl fmt::Display for No {
+    fn fmt<W: fmt::Write>(&self, f: &mut fmt::Formatter<W>) -> fmt::Result {
+        f.write_str(match self {
+            No::Case => "such case",
+            No::Memory => "memory left",
+        })
+    }
+}
