@@ -10,7 +10,7 @@ is_among names name = list_any (λ known. bytes_eq name known) names
 
 -- those that tell of the repository
 abbrev pub is_telling : Text → Bool
-is_telling = is_among (codes "check" ∷ codes "history" ∷ codes "show" ∷ codes "graph" ∷ [])
+is_telling = is_among (codes "check" ∷ codes "history" ∷ codes "show" ∷ [])
 
 -- those that only read
 abbrev pub is_reading : Text → Bool
@@ -19,7 +19,7 @@ is_reading name =
 
 -- those that go by numbers of changes, or by folders
 abbrev pub is_taking : Text → Bool
-is_taking = is_among (codes "init" ∷ codes "undo" ∷ codes "redo" ∷ codes "empty" ∷ codes "script" ∷ codes "rescue" ∷ [])
+is_taking = is_among (codes "init" ∷ codes "undo" ∷ codes "redo" ∷ codes "empty" ∷ codes "script" ∷ [])
 
 -- those that make or change something
 abbrev pub is_changing : Text → Bool

@@ -19,7 +19,7 @@ use Rattle.keep_words.specs.declared.command.Tag.{Tag}
 use Rattle.keep_deeds.specs.declared.deed.Deed as the_deed
 use Rattle.keep_deeds.specs.declared.deed.Deed.TheVariants as deed
 use Rattle.keep_deeds.specs.declared.deed.NoDeed.{NoDeed}
-use Rattle.keep_deeds.specs.declared.deed.NoDeed.TheVariants.{ManyChosen, NamedSnapshots}
+use Rattle.keep_deeds.specs.declared.deed.NoDeed.TheVariants.{ManyChosen}
 
 -- just this request; a change taken back with all that lean on it; a task for the snapshots that are chosen, planned
 -- alone or done; the jobs that go by no words; and a prune
@@ -99,13 +99,9 @@ abbrev pub forgetting : Forget → Result DeedData NoDeed
 forgetting words =
     doing (choice_in words.chosen.host words.chosen.tag words.chosen.path) (job.Forget (policy_in words.keep)) words.dry_run
 
--- tag: of all snapshots; none can be named
-abbrev pub tagging_by : List (Bor (List ℕ)) → EditData → Result DeedData NoDeed
-tagging_by [] edit = Ok (Do All (job.Tag edit) false)
-tagging_by (name ∷ names) edit = Err NamedSnapshots
-
+-- tag: of all snapshots
 abbrev pub tagging : Tag → Result DeedData NoDeed
-tagging words = tagging_by words.snapshots.items (edit_in words)
+tagging words = Ok (Do All (job.Tag (edit_in words)) false)
 
 -- rewrite: of all snapshots
 abbrev pub rewriting : Rewrite → Result DeedData NoDeed
@@ -143,6 +139,4 @@ deed_in (command.Show change) = Ok None
 deed_in (command.Undo change with_all unasked) = Ok (Some (undoing change with_all))
 deed_in (command.Redo change) = Ok (Some (Ask (request.Redo change)))
 deed_in (command.Empty through unasked) = Ok (Some (Ask (request.Empty through)))
-deed_in (command.Graph change dot) = Ok None
 deed_in (command.Script file) = Ok None
-deed_in (command.Rescue folder target) = Ok None

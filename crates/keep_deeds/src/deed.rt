@@ -35,8 +35,6 @@ pub enum Deed<'a> {
 pub enum NoDeed {
     /// More than one of a host, a tag and a path is given.
     ManyChosen,
-    /// Snapshots are chosen by their names.
-    NamedSnapshots,
     /// Memory ran out.
     Memory,
 }

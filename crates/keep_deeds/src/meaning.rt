@@ -50,9 +50,6 @@ fn forget<'a>(alloc: Global, words: &Forget<'a>) -> Result<Deed<'a>, NoDeed>
 fn tag<'a>(alloc: Global, words: &Tag<'a>) -> Result<Deed<'a>, NoDeed>
     ensures { Answers Memory deed_view (tagging words.entry.now) result }
 {
-    if !words.snapshots.is_empty() {
-        return Err(NoDeed::NamedSnapshots);
-    }
     let edit = edit_of(alloc, words)?;
     Ok(Deed::Do {
         choice: Choice::All,

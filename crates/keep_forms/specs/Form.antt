@@ -59,6 +59,7 @@ lettered letter rule = record rule { short = Some letter }
 -- an argument of this kind
 abbrev pub rule_by : Text → Kind → Rule
 rule_by label written.Flag = flag label
+rule_by label written.NeededFlag = needed (flag label)
 rule_by label (written.Text value) = text label
 rule_by label (written.Name value) = name label
 rule_by label (written.NeededName value) = needed (name label)
@@ -69,9 +70,7 @@ rule_by label (written.Number least most) = number least most label
 rule_by label written.Word = needed (word label)
 rule_by label written.WordOrNone = word label
 rule_by label written.Words = needed (words label)
-rule_by label written.WordsOrNone = words label
 rule_by label written.Index = needed (index label)
-rule_by label written.IndexOrNone = index label
 
 abbrev pub rule_in : Argument → Rule
 rule_in argument = rule_by argument.name.now argument.kind

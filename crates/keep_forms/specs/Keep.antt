@@ -37,10 +37,10 @@ forget = command (codes "forget") (chosen ++
     counting (codes "keep-last") ∷ counting (codes "keep-daily") ∷ counting (codes "keep-weekly") ∷ counting (codes "keep-monthly")
     ∷ counting (codes "keep-yearly") ∷ names (codes "keep-tag") ∷ flag (codes "dry-run") ∷ [])
 
--- tag [SNAP].. [--all] [--add TAG].. [--remove TAG].. [--set TAG]..
+-- tag --all [--add TAG].. [--remove TAG].. [--set TAG]..
 abbrev pub tag : Shape
 tag = command (codes "tag") (
-    words (codes "SNAP") ∷ flag (codes "all") ∷ names (codes "add") ∷ names (codes "remove") ∷ names (codes "set") ∷ [])
+    needed (flag (codes "all")) ∷ names (codes "add") ∷ names (codes "remove") ∷ names (codes "set") ∷ [])
 
 -- rewrite --exclude PATTERN.. [--forget] [--dry-run]
 abbrev pub rewrite : Shape
@@ -75,10 +75,6 @@ empty = command (codes "empty") (needed (index (codes "N")) ∷ flag (codes "yes
 -- script [FILE]
 abbrev pub script : Shape
 script = command (codes "script") (word (codes "FILE") ∷ [])
-
--- rescue DIR --target DIR
-abbrev pub rescue : Shape
-rescue = command (codes "rescue") (needed (word (codes "DIR")) ∷ needed (name (codes "target")) ∷ [])
 
 -- snapshots [--host HOST] [--tag TAG] [--path PATH] [--latest N]
 abbrev pub snapshots : Shape
@@ -116,18 +112,14 @@ history = command (codes "history") (counting (codes "last") ∷ [])
 abbrev pub show : Shape
 show = command (codes "show") (needed (index (codes "N")) ∷ [])
 
--- graph [N] [--dot]
-abbrev pub graph : Shape
-graph = command (codes "graph") (index (codes "N") ∷ flag (codes "dot") ∷ [])
-
 -- the commands that make or change something
 abbrev pub changing : List Shape
 changing =
-    init ∷ backup ∷ forget ∷ tag ∷ rewrite ∷ repair ∷ mark ∷ sweep ∷ prune ∷ undo ∷ redo ∷ empty ∷ script ∷ rescue ∷ []
+    init ∷ backup ∷ forget ∷ tag ∷ rewrite ∷ repair ∷ mark ∷ sweep ∷ prune ∷ undo ∷ redo ∷ empty ∷ script ∷ []
 
 -- the commands that only read
 abbrev pub reading : List Shape
-reading = snapshots ∷ ls ∷ dump ∷ diff ∷ find ∷ restore ∷ check ∷ history ∷ show ∷ graph ∷ []
+reading = snapshots ∷ ls ∷ dump ∷ diff ∷ find ∷ restore ∷ check ∷ history ∷ show ∷ []
 
 -- the command without arguments and without what may be named behind it, of which one has to be
 abbrev pub bare : App

@@ -3,17 +3,17 @@ ghost use Rattle.std.specs.Prelude.{◌≡◌, map};
 ghost use Rattle.keep_forms.specs.Form.{shape_by};
 ghost use Rattle.keep_forms.specs.Keep as spec;
 
-use crate::common_forms::{CHANGE, DRY_RUN, HOST, PATH, TAG, TARGET, YES};
+use crate::common_forms::{CHANGE, DRY_RUN, HOST, PATH, TAG, YES};
 use crate::form::{Argument, Form, Kind};
 
 /// The commands that make or change something.
-pub(crate) fn changing() -> [Form; 14]
+pub(crate) fn changing() -> [Form; 13]
     ensures { map (shape_by spec.common) result ≡ spec.changing }
 {
     CHANGING
 }
 
-const CHANGING: [Form; 14] = [
+const CHANGING: [Form; 13] = [
     Form {
         name: "init",
         about: "Make a repository",
@@ -42,8 +42,8 @@ const CHANGING: [Form; 14] = [
     },
     Form {
         name: "tag",
-        about: "Change the tags of snapshots",
-        arguments: &[SNAPS, ALL, ADD, REMOVE, SET],
+        about: "Change the tags of all snapshots",
+        arguments: &[ALL, ADD, REMOVE, SET],
     },
     Form {
         name: "rewrite",
@@ -89,11 +89,6 @@ const CHANGING: [Form; 14] = [
         name: "script",
         about: "Run the lines of a script, as keepd does",
         arguments: &[SCRIPT],
-    },
-    Form {
-        name: "rescue",
-        about: "Copy what is whole of a folder that isn't opened",
-        arguments: &[FOLDER, TARGET],
     },
 ];
 
@@ -169,15 +164,9 @@ const KEEP_TAGS: Argument = Argument {
     help: "Keep what has this tag",
 };
 
-const SNAPS: Argument = Argument {
-    name: "SNAP",
-    kind: Kind::WordsOrNone,
-    help: "A snapshot: the first part of its id, latest, or @N",
-};
-
 const ALL: Argument = Argument {
     name: "all",
-    kind: Kind::Flag,
+    kind: Kind::NeededFlag,
     help: "All snapshots",
 };
 

@@ -54,12 +54,6 @@ pub(crate) const SNAP: Argument = Argument {
     help: "A snapshot: the first part of its id, latest, or @N",
 };
 
-pub(crate) const TARGET: Argument = Argument {
-    name: "target",
-    kind: Kind::NeededName("DIR"),
-    help: "The directory to write to, which is made where it isn't there",
-};
-
 pub(crate) const CHANGE: Argument = Argument {
     name: "N",
     kind: Kind::Index,

@@ -19,6 +19,8 @@ pub(crate) struct Argument {
 pub(crate) enum Kind {
     /// `--NAME`
     Flag,
+    /// The same, which has to be there.
+    NeededFlag,
     /// `--NAME TEXT`, of any text.
     Text(&'static str),
     /// `--NAME TEXT`, of a text that isn't empty.
@@ -39,10 +41,6 @@ pub(crate) enum Kind {
     WordOrNone,
     /// All words from a place on, of which there has to be one.
     Words,
-    /// All words from a place on.
-    WordsOrNone,
     /// A number that has to stand at its place.
     Index,
-    /// A number that may stand at its place.
-    IndexOrNone,
 }

@@ -3,7 +3,7 @@ ghost use Rattle.keep_forms.specs.Form.{AddsArguments, AddsForms, IsMade, form_a
 ghost use Rattle.keep_forms.specs.Keep.{bare, keep};
 ghost use Rattle.clap.specs.Lexer.{usize_max};
 ghost use Rattle.clap.specs.Words.{rule_of};
-ghost use Rattle.clap.specs.declared.builder.action.ArgAction.TheVariants.{Append};
+ghost use Rattle.clap.specs.declared.builder.action.ArgAction.TheVariants.{Append, SetTrue};
 ghost use Rattle.clap.specs.declared.builder.value_parser.ValueParser.TheVariants.{NonEmptyString, Unsigned};
 
 use crate::changing_forms::changing;
@@ -84,7 +84,8 @@ fn arg_of<'a>(alloc: Global, argument: &Argument) -> Arg<'a>
     let name = argument.name;
     let arg = Arg::new(alloc, name).help(argument.help);
     match argument.kind {
-        Kind::Flag => arg.long(name).action(ArgAction::SetTrue),
+        Kind::Flag => flag(arg, name),
+        Kind::NeededFlag => flag(arg, name).required(true),
         Kind::Text(value) => arg.long(name).value_name(value),
         Kind::Name(value) => named(arg, name, value),
         Kind::NeededName(value) => named(arg, name, value).required(true),
@@ -101,10 +102,18 @@ fn arg_of<'a>(alloc: Global, argument: &Argument) -> Arg<'a>
         Kind::Word => word(arg).required(true),
         Kind::WordOrNone => word(arg),
         Kind::Words => words(arg).required(true),
-        Kind::WordsOrNone => words(arg),
         Kind::Index => index(arg).required(true),
-        Kind::IndexOrNone => index(arg),
     }
+}
+
+fn flag<'a>(arg: Arg<'a>, name: &'a str) -> Arg<'a>
+    ensures rule { rule_of result ≡ record (rule_of arg.entry) {
+      long = Some name.entry.now;
+      action = Some SetTrue;
+    } }
+    ensures local { result.global ≡ arg.entry.global }
+{
+    arg.long(name).action(ArgAction::SetTrue)
 }
 
 /// An option that takes a text which isn't empty.

@@ -3,17 +3,17 @@ ghost use Rattle.std.specs.Prelude.{◌≡◌, map};
 ghost use Rattle.keep_forms.specs.Form.{shape_by};
 ghost use Rattle.keep_forms.specs.Keep as spec;
 
-use crate::common_forms::{CHANGE, HOST, PATH, SNAP, TAG, TARGET};
+use crate::common_forms::{CHANGE, HOST, PATH, SNAP, TAG};
 use crate::form::{Argument, Form, Kind};
 
 /// The commands that only read.
-pub(crate) fn reading() -> [Form; 10]
+pub(crate) fn reading() -> [Form; 9]
     ensures { map (shape_by spec.common) result ≡ spec.reading }
 {
     READING
 }
 
-const READING: [Form; 10] = [
+const READING: [Form; 9] = [
     Form {
         name: "snapshots",
         about: "List snapshots",
@@ -59,11 +59,6 @@ const READING: [Form; 10] = [
         about: "Tell what a change did, and what leans on it",
         arguments: &[CHANGE],
     },
-    Form {
-        name: "graph",
-        about: "Draw which changes lean on which",
-        arguments: &[FROM, DOT],
-    },
 ];
 
 const LATEST: Argument = Argument {
@@ -102,6 +97,12 @@ const PATTERN: Argument = Argument {
     help: "What paths have to match",
 };
 
+const TARGET: Argument = Argument {
+    name: "target",
+    kind: Kind::NeededName("DIR"),
+    help: "The directory to write to, which is made where it isn't there",
+};
+
 const INCLUDE: Argument = Argument {
     name: "include",
     kind: Kind::Names("PATTERN"),
@@ -118,16 +119,4 @@ const LAST: Argument = Argument {
     name: "last",
     kind: Kind::Number(1, 1_048_576),
     help: "Only the last N events",
-};
-
-const FROM: Argument = Argument {
-    name: "N",
-    kind: Kind::IndexOrNone,
-    help: "Only the change of this number and what leans on it",
-};
-
-const DOT: Argument = Argument {
-    name: "dot",
-    kind: Kind::Flag,
-    help: "Draw it for graphviz",
 };

@@ -29,7 +29,6 @@ fn tell_command<W: Write>(command: &Command<'_>, writer: &mut W) -> io::Result<(
         Command::Find { pattern } => write!(writer, "find {pattern}"),
         Command::Init { folder } => write!(writer, "init {folder}"),
         Command::Script { file } => write!(writer, "script {}", Maybe(*file)),
-        Command::Rescue { folder, target } => write!(writer, "rescue {folder} {target}"),
         other => tell_numbers(other, writer),
     }
 }
@@ -57,9 +56,6 @@ fn tell_numbers<W: Write>(command: &Command<'_>, writer: &mut W) -> io::Result<(
         }
         Command::Empty { through, yes } => {
             write!(writer, "empty {through} {}", given(*yes, "yes"))
-        }
-        Command::Graph { change, dot } => {
-            write!(writer, "graph {} {}", Maybe(*change), given(*dot, "dot"))
         }
         _ => Ok(()),
     }
@@ -102,13 +98,7 @@ fn tell_keep<W: Write>(keep: &Keep<'_>, writer: &mut W) -> io::Result<()> {
 }
 
 fn tell_tag<W: Write>(tag: &Tag<'_>, writer: &mut W) -> io::Result<()> {
-    write!(
-        writer,
-        "tag {} {}",
-        List(&tag.snapshots),
-        given(tag.all, "all")
-    )?;
-    write!(writer, " {} {}", List(&tag.add), List(&tag.remove))?;
+    write!(writer, "tag {} {}", List(&tag.add), List(&tag.remove))?;
     write!(writer, " {}", List(&tag.set))
 }
 

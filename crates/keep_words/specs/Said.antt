@@ -9,7 +9,7 @@ use Rattle.keep_words.specs.Faults.{forget_fault, tag_fault, wait_in}
 use Rattle.keep_words.specs.declared.command.Backup.{Backup}
 use Rattle.keep_words.specs.declared.command.Chosen.{Chosen}
 use Rattle.keep_words.specs.declared.command.Command.{Command}
-use Rattle.keep_words.specs.declared.command.Command.TheVariants.{Init, Snapshots, Ls, Dump, Diff, Find, Check, Repair, Mark, Sweep, Prune, History, Show, Undo, Redo, Empty, Graph, Script, Rescue}
+use Rattle.keep_words.specs.declared.command.Command.TheVariants.{Init, Snapshots, Ls, Dump, Diff, Find, Check, Repair, Mark, Sweep, Prune, History, Show, Undo, Redo, Empty, Script}
 use Rattle.keep_words.specs.declared.command.Command.TheVariants as asked
 use Rattle.keep_words.specs.declared.command.Forget.{Forget}
 use Rattle.keep_words.specs.declared.command.Keep.{Keep}
@@ -68,15 +68,13 @@ pub record IsForget (rows : List Row) (forget : Forget) : Type 0 where
   pub keeps_some : forget_fault rows ≡ None
   pub dry_run : forget.dry_run ≡ has_flag (codes "dry-run") rows
 
--- [SNAP].. [--all] [--add T].. [--remove T].. [--set T]..
+-- [--add T].. [--remove T].. [--set T]..
 pub record AreTags (rows : List Row) (tag : Tag) : Type 0 where
-  pub snapshots : Are tag.snapshots (texts_of (codes "SNAP") rows)
-  pub all : tag.all ≡ has_flag (codes "all") rows
   pub add : Are tag.add (texts_of (codes "add") rows)
   pub remove : Are tag.remove (texts_of (codes "remove") rows)
   pub set : Are tag.set (texts_of (codes "set") rows)
 
--- tag SNAP.. or --all, --set T.. or --add T.. and --remove T..
+-- tag --all, with --set T.. or --add T.. and --remove T..
 abbrev pub IsTag : List Row → Tag → Type 0
 IsTag rows tag = AreTags rows tag × (tag_fault rows ≡ None)
 
@@ -114,9 +112,7 @@ IsSaid rows (Undo change with_all unasked) =
     (change ≡ change_of rows) × (with_all ≡ has_flag (codes "with-all") rows) × (unasked ≡ has_flag (codes "yes") rows)
 IsSaid rows (Redo change) = change ≡ change_of rows
 IsSaid rows (Empty through unasked) = (through ≡ change_of rows) × (unasked ≡ has_flag (codes "yes") rows)
-IsSaid rows (Graph change dot) = (change ≡ number_of (codes "N") rows) × (dot ≡ has_flag (codes "dot") rows)
 IsSaid rows (Script file) = text_of file ≡ first_of (codes "FILE") rows
-IsSaid rows (Rescue folder target) = (folder.now ≡ place_of (codes "DIR") rows) × (target.now ≡ place_of (codes "target") rows)
 
 -- the word that a command goes by
 abbrev pub name_of : Command → Text
@@ -141,9 +137,7 @@ name_of (Show change) = codes "show"
 name_of (Undo change with_all unasked) = codes "undo"
 name_of (Redo change) = codes "redo"
 name_of (Empty through unasked) = codes "empty"
-name_of (Graph change dot) = codes "graph"
 name_of (Script file) = codes "script"
-name_of (Rescue folder target) = codes "rescue"
 
 -- the command of one of these names is asked for so; or it is none of them
 abbrev pub Asks : (Text → Bool) → Text → List Row → Option Command → Type 0

@@ -73,19 +73,9 @@ pub enum Command<'a> {
         through: u64,
         yes: bool,
     },
-    /// To draw which change leans on which, or what leans on one.
-    Graph {
-        change: Option<u64>,
-        dot: bool,
-    },
     /// To run the lines of a file, or of standard input.
     Script {
         file: Option<&'a str>,
-    },
-    /// To make a folder of what is whole in another.
-    Rescue {
-        folder: &'a str,
-        target: &'a str,
     },
 }
 
@@ -136,11 +126,9 @@ pub struct Keep<'a> {
     pub tags: Vec<&'a str>,
 }
 
-/// Other tags for some snapshots or for all: tags are set, or some are added and some taken away.
+/// Other tags for all snapshots: tags are set, or some are added and some taken away.
 #[derive(Drop)]
 pub struct Tag<'a> {
-    pub snapshots: Vec<&'a str>,
-    pub all: bool,
     pub add: Vec<&'a str>,
     pub remove: Vec<&'a str>,
     pub set: Vec<&'a str>,
