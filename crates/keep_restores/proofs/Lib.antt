@@ -1,0 +1,3 @@
+mod Dumped
+mod Lent
+mod Onto

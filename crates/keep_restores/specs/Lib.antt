@@ -1,0 +1,4 @@
+pub mod Choosing
+pub mod Dumping
+pub mod Restoring
+pub mod Words
