@@ -1,0 +1,5 @@
+pub mod Advice
+pub mod Chosen
+pub mod Found
+pub mod Nodes
+pub mod Shown
