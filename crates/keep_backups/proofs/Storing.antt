@@ -1,0 +1,73 @@
+-- Parts that are committed.
+use Rattle.std.proofs.Common.{◌≡◌, ◌≤◌, ℕ, List, Option, None, Some, Result, Ok, Err, OnOk, IfErr, IfOk, IfSome, option_map, sym, subst, rules}
+use Rattle.std.proofs.Math.Logic.{∥∥₁_elim, ∥∥₁_map, ∥∥₁_prop}
+use Rattle.keep_acts.specs.Shown.{shown_by}
+use Rattle.keep_acts.specs.declared.made.Made.{Made}
+use Rattle.keep_archive.specs.Archive.{ArchiveData}
+use Rattle.keep_archive.specs.Plans.{last_change, of_open, part_change}
+use Rattle.keep_archive.specs.Steps.{Leaves, LetsGo, never}
+use Rattle.keep_backup.specs.Backup.{FactsData}
+use Rattle.keep_change.specs.declared.change.Planned.{Planned}
+use Rattle.keep_journal.specs.History.{length_of}
+use Rattle.keep_journal.specs.declared.request.Request.TheVariants.{Commit}
+use Rattle.keep_docs.specs.Doc.{Answers}
+use Rattle.keep_plan.specs.declared.plan_error.PlanError.{PlanError}
+use Rattle.keep_plan.specs.declared.plan_error.PlanError.TheVariants.{Memory}
+use Rattle.keep_ledger.specs.LedgerState.{LedgerState}
+use Rattle.keep_ledger.specs.Made.{with_event}
+use Rattle.keep_ledger.specs.declared.reply.Refusal.{Refusal}
+use Rattle.keep_backups.specs.Holding.{held_of}
+use Rattle.keep_backups.specs.Parts.{AddsSnapshot, BacksUp, IsLastOn, IsPartOn, StoresParts, none, one_more}
+use Rattle.keep_backups.specs.declared.backed_up.BackedUp.{BackedUp}
+use Rattle.keep_backups.specs.declared.not_backed_up.NotBackedUp.{NotBackedUp}
+
+-- nothing was committed yet
+pub none_yet : (before now : LedgerState) → now ≡ before → StoresParts before now
+none_yet before now is = subst (λ (s : LedgerState). StoresParts before s) (sym is) (none before)
+
+-- what an open archive plans is a part of it
+pub is_part : (archive : Option ArchiveData) (now : LedgerState) (planned : Planned)
+    → of_open (part_change (shown_by now).repo) archive ≡ Ok (Some planned.change)
+    → planned.seen ≡ length_of now.events → IsPartOn now planned
+is_part None now planned is seen = search (rules, is)
+is_part (Some a) now planned is seen = record { archive = a; part = is; seen = seen }
+
+-- what is planned is a part, if it is something
+pub is_part_if_any : (archive : Option ArchiveData) (now : LedgerState) (result : Result (Option Planned) PlanError)
+    → Answers Memory (option_map (λ (planned : Planned). planned.change)) (of_open (part_change (shown_by now).repo) archive) result
+    → IfOk result (λ part. IfSome part (λ planned. planned.seen ≡ length_of now.events))
+    → IfOk result (λ part. IfSome part (λ planned. ∥ IsPartOn now planned ∥₁))
+is_part_if_any archive now (Ok (Some planned)) is seen = ∣ is_part archive now planned is seen ∣₁
+is_part_if_any archive now (Ok None) is seen = tt
+is_part_if_any archive now (Err refusal) is seen = tt
+
+-- a part is one more, and what is refused changes nothing
+pub kept : (before old new : LedgerState) (planned : Planned) (result : Result Made Refusal)
+    → OnOk result (new ≡ with_event old (Commit planned)) → IfErr result (λ _. new ≡ old)
+    → ∥ StoresParts before old ∥₁ → ∥ IsPartOn old planned ∥₁ → ∥ StoresParts before new ∥₁
+kept before old new planned (Ok made) is same parts part =
+    ∥∥₁_elim parts ∥∥₁_prop (λ all. ∥∥₁_map part (λ one.
+    subst (λ (s : LedgerState). StoresParts before s) (sym is) (one_more before old planned all one)))
+kept before old new planned (Err refusal) is same parts part =
+    subst (λ (s : LedgerState). ∥ StoresParts before s ∥₁) (sym same) parts
+
+-- what an open archive plans last is of it
+pub is_last : (archive : Option ArchiveData) (now : LedgerState) (facts : FactsData) (tags : List (List ℕ)) (planned : Planned)
+    → of_open (last_change (shown_by now).repo facts tags) archive ≡ Ok planned.change
+    → planned.seen ≡ length_of now.events → IsLastOn now facts tags planned
+is_last None now facts tags planned is seen = search (rules, is)
+is_last (Some a) now facts tags planned is seen = record { archive = a; last = is; seen = seen }
+
+-- the last change follows the parts
+pub backs_up : (before stored after : LedgerState) (facts : FactsData) (tags : List (List ℕ)) (result : Result BackedUp NotBackedUp)
+    → ∥ StoresParts before stored ∥₁ → IfOk result (λ _. AddsSnapshot stored after facts tags)
+    → IfOk result (λ _. ∥ BacksUp before after facts tags ∥₁)
+backs_up before stored after facts tags (Ok backed_up) parts adds =
+    ∥∥₁_map parts (λ all. record { stored = stored; parts = all; adds = adds })
+backs_up before stored after facts tags (Err cause) parts adds = tt
+
+-- nothing is held once it was let go
+pub none_held : (old new : Option ArchiveData) (done : Unit {0}) → Leaves never LetsGo old new (Ok done) → held_of new ≤ 67108864
+none_held None new done leaves = absurd leaves
+none_held (Some old) new done leaves =
+    search (rules, leaves)

@@ -1,0 +1,15 @@
+-- What the archive plans last is committed.
+use Rattle.std.proofs.Common.{map, string_bytes}
+use Rattle.keep_archive.specs.Archive.{archive_view}
+use Rattle.keep_backup.specs.Backup.{facts_view}
+use Rattle.keep_backups.proofs.Storing.{is_last}
+use Rattle.keep_backups.proofs.backing_up.add_snapshot.Goals as goal
+
+pub returns-in-Ok-clause-added : goal.returns-in-Ok-clause-added
+returns-in-Ok-clause-added g c = record {
+  planned = c.in_ok-planned.planned;
+  last = is_last (archive_view c.args.filled.archive) (g.K.Keeps.ledger c.args.book.now) (facts_view c.args.wish.now.facts.now)
+      (map string_bytes c.args.wish.now.tags.now) c.in_ok-planned.planned
+      (rw c.view-view.ensures at c.in_ok-planned.ensures.change) (rw c.view-view.ensures at c.in_ok-planned.ensures.seen);
+  made = c.in-Ok.ensures.made;
+}

@@ -1,0 +1,41 @@
+-- What a backup commits: parts of an archive, and then the last change.
+use Rattle.std.specs.Prelude.{◌≡◌, ℕ, List, Some, Ok}
+use Rattle.keep_acts.specs.Shown.{shown_by}
+use Rattle.keep_archive.specs.Archive.{ArchiveData}
+use Rattle.keep_archive.specs.Plans.{last_change, part_change}
+use Rattle.keep_backup.specs.Backup.{FactsData}
+use Rattle.keep_change.specs.declared.change.Planned.{Planned}
+use Rattle.keep_journal.specs.History.{length_of}
+use Rattle.keep_journal.specs.declared.request.Request.TheVariants.{Commit}
+use Rattle.keep_ledger.specs.LedgerState.{LedgerState}
+use Rattle.keep_ledger.specs.Made.{with_event}
+
+-- it is planned on what the book shows, and stores just what an archive holds
+pub record IsPartOn (now : LedgerState) (planned : Planned) : Type 0 where
+  pub archive : ArchiveData
+  pub part : part_change (shown_by now).repo archive ≡ Ok (Some planned.change)
+  pub seen : planned.seen ≡ length_of now.events
+
+-- parts are committed one after another, and nothing else is
+pub data StoresParts : LedgerState → LedgerState → Type 0 where
+  none : (before : LedgerState) → StoresParts before before
+  one_more : (before middle : LedgerState) (planned : Planned) → StoresParts before middle → IsPartOn middle planned
+      → StoresParts before (with_event middle (Commit planned))
+
+-- it is planned on what the book shows, and adds the snapshot of an archive, with these facts and tags
+pub record IsLastOn (now : LedgerState) (facts : FactsData) (tags : List (List ℕ)) (planned : Planned) : Type 0 where
+  pub archive : ArchiveData
+  pub last : last_change (shown_by now).repo facts tags archive ≡ Ok planned.change
+  pub seen : planned.seen ≡ length_of now.events
+
+-- just that change is committed
+pub record AddsSnapshot (before after : LedgerState) (facts : FactsData) (tags : List (List ℕ)) : Type 0 where
+  pub planned : Planned
+  pub last : IsLastOn before facts tags planned
+  pub made : after ≡ with_event before (Commit planned)
+
+-- parts are committed one after another, and then the change that adds the snapshot
+pub record BacksUp (before after : LedgerState) (facts : FactsData) (tags : List (List ℕ)) : Type 0 where
+  pub stored : LedgerState
+  pub parts : StoresParts before stored
+  pub adds : AddsSnapshot stored after facts tags

@@ -1,0 +1,150 @@
+ghost use Rattle.std.specs.Prelude.{◌≡◌, IfErr, IfOk, map, string_bytes};
+ghost use Rattle.keep_backup.specs.Backup.{facts_view};
+ghost use Rattle.keep_book.specs.Armed.{HasSums, ledger_of};
+ghost use Rattle.keep_ledger.specs.Sums.{AreSums};
+ghost use Rattle.keep_sources.specs.Took.{skip_view};
+ghost use Rattle.keep_backups.specs.Parts.{AddsSnapshot, BacksUp, StoresParts};
+
+use crate::backed_up::BackedUp;
+use crate::begun::Begun;
+use crate::intake::{Filled, Intake};
+use crate::keeps::Keeps;
+use crate::lent::{Given, Lent};
+use crate::not_backed_up::NotBackedUp;
+use keep_backup::{BackupFacts, Cut};
+use keep_book::Book;
+use keep_shelf::Shelf;
+use keep_sources::{Job, Receives, Skipped, Source, Stop, Taking};
+use std::alloc::{AllocError, Global};
+use std::marker::{Brand, PhantomData};
+
+/// What of a source a backup takes, and how its files are cut.
+#[derive(Drop)]
+pub struct Wish<'a> {
+    pub job: &'a Job,
+    pub facts: &'a BackupFacts,
+    pub tags: &'a [String],
+    pub cut: Cut,
+}
+
+/// Backs up what the job asks for of the source: parts of 64 MiB and more are committed one after another, and then the
+/// change that adds the snapshot, with these facts and tags.
+///
+/// Where no snapshot is added the parts that were committed stay.
+pub fn back_up<S: Shelf, R: Source>(
+    alloc: Global,
+    book: &mut Book<S>,
+    source: R,
+    wish: &Wish<'_>,
+) -> Result<BackedUp, NotBackedUp>
+    requires { HasSums book.old }
+    ensures backed_up { IfOk result (λ _. ∥ BacksUp (ledger_of book.old) (ledger_of book.new)
+        (facts_view wish.now.facts.now) (map string_bytes wish.now.tags.now) ∥₁) }
+    ensures refused { IfErr result (λ _. ∥ StoresParts (ledger_of book.old) (ledger_of book.new) ∥₁) }
+    ensures sums { HasSums book.new }
+{
+    let (given, filled) = filled::<Brand, Book<S>, R>(alloc, Given { book }, source, wish);
+    let Given { book } = given;
+    add_snapshot(alloc, book, filled?, wish)
+}
+
+/// Takes what the job asks for, and commits parts of it. It hands the book back.
+fn filled<'b, B: Begun, K: Keeps, R: Source>(
+    alloc: Global,
+    given: Given<'b, K>,
+    source: R,
+    wish: &Wish<'_>,
+) -> (Given<'b, K>, Result<Filled, NotBackedUp>)
+    requires sums { let k = given.book.now in AreSums (K.ledger k).events (K.hooks k).watches (K.tallies k) }
+    requires name { given.book.ghost_name ≡ B.name }
+    requires before { K.ledger given.book.now ≡ B.before }
+    ensures same_reference { result.0.book.ghost_name ≡ given.entry.book.ghost_name }
+    ensures sums { let k = result.0.book.now in AreSums (K.ledger k).events (K.hooks k).watches (K.tallies k) }
+    ensures parts { ∥ StoresParts B.before (K.ledger result.0.book.now) ∥₁ }
+{
+    let Given { book } = given;
+    let mut lent: Lent<'b, B, K> = Lent {
+        book,
+        of: PhantomData,
+    };
+    let filled = fill(alloc, &mut lent, source, wish);
+    let Lent { book, of: _ } = lent;
+    (Given { book }, filled)
+}
+
+/// Commits the change that adds the snapshot.
+fn add_snapshot<K: Keeps>(
+    alloc: Global,
+    book: &mut K,
+    filled: Filled,
+    wish: &Wish<'_>,
+) -> Result<BackedUp, NotBackedUp>
+    requires { AreSums (K.ledger book.old).events (K.hooks book.old).watches (K.tallies book.old) }
+    ensures added { IfOk result (λ _. AddsSnapshot (K.ledger book.old) (K.ledger book.new)
+        (facts_view wish.now.facts.now) (map string_bytes wish.now.tags.now)) }
+    ensures refused { IfErr result (λ _. K.ledger book.new ≡ K.ledger book.old) }
+    ensures sums { AreSums (K.ledger book.new).events (K.hooks book.new).watches (K.tallies book.new) }
+{
+    let Filled {
+        archive,
+        parts,
+        skipped,
+    } = filled;
+    let view = book.view();
+    let planned = archive.plan_backup(alloc, &view, wish.facts, wish.tags)?;
+    match book.commit(planned) {
+        Ok(made) => Ok(BackedUp {
+            made,
+            parts,
+            skipped,
+        }),
+        Err(refusal) => Err(NotBackedUp::Refused(refusal)),
+    }
+}
+
+/// Takes what the job asks for, and commits parts of it.
+fn fill<B: Begun, K: Keeps, R: Source>(
+    alloc: Global,
+    lent: &mut Lent<'_, B, K>,
+    source: R,
+    wish: &Wish<'_>,
+) -> Result<Filled, NotBackedUp>
+    ensures same_reference { lent.new.book.ghost_name ≡ lent.old.book.ghost_name }
+{
+    let intake = Intake::new(alloc, lent, wish.cut);
+    let taking = Taking::new(alloc, source, intake)?;
+    walk(alloc, taking, wish.job)
+}
+
+/// The same, by a walk that has taken nothing yet.
+fn walk<B: Begun, K: Keeps, R: Source>(
+    alloc: Global,
+    mut taking: Taking<R, Intake<'_, '_, B, K>>,
+    job: &Job,
+) -> Result<Filled, NotBackedUp> {
+    let done = take(alloc, &mut taking, job);
+    let (_source, intake) = taking.into_parts();
+    intake.filled(done)
+}
+
+/// Goes the walk. It gives what isn't taken, or not as it was seen.
+fn take<A: Receives, R: Source>(
+    alloc: Global,
+    taking: &mut Taking<R, A>,
+    job: &Job,
+) -> Result<Vec<Skipped>, Stop> {
+    taking.take(job)?;
+    Ok(copies(alloc, taking.skipped())?)
+}
+
+/// A copy of the list.
+fn copies(alloc: Global, skipped: &[Skipped]) -> Result<Vec<Skipped>, AllocError>
+    ensures { IfOk result (λ copies. map skip_view copies.items ≡ map skip_view skipped.now) }
+{
+    let mut copies = Vec::new(alloc);
+    for one in skipped {
+        let path = one.path.clone()?;
+        copies.push(Skipped { path, why: one.why })?;
+    }
+    Ok(copies)
+}

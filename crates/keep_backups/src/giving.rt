@@ -1,0 +1,81 @@
+ghost use Rattle.std.specs.Prelude.{◌≡◌, OnOk};
+
+use crate::begun::Begun;
+use crate::intake::{Intake, name_of, others_of};
+use crate::keeps::Keeps;
+use crate::not_backed_up::NotBackedUp;
+use keep_names::Id;
+use keep_sighted::type_name_of;
+use keep_sources::{Receives, Sight, Stop};
+
+impl<B: Begun, K: Keeps> Receives for Intake<'_, '_, B, K> {
+    ghost use Rattle.keep_archive.specs.Archive.{archive_view};
+    ghost use Rattle.keep_backups.specs.Holding.{held_of};
+
+    ghost Seen = { Unit {0} };
+
+    ghost seen = { λ _. tt };
+
+    ghost after = { λ _ _. tt };
+
+    ghost holds = { λ intake. held_of (archive_view intake.archive) };
+
+    fn open_folder(&mut self, name: &str) -> Result<(), Stop> {
+        let name = name_of(self.alloc, name)?;
+        let done = self.archive.open_folder(name);
+        self.told(done)
+    }
+
+    fn close_folder(&mut self, sight: &Sight) -> Result<(), Stop> {
+        let others = others_of(self.alloc, sight)?;
+        let done = self.archive.close_folder(others);
+        self.told(done)
+    }
+
+    fn write(&mut self, bytes: &[u8]) -> Result<(), Stop> {
+        let done = self.archive.write(bytes);
+        self.told(done)
+    }
+
+    fn end_file(&mut self, name: &str, sight: &Sight) -> Result<(), Stop> {
+        let name = name_of(self.alloc, name)?;
+        let others = others_of(self.alloc, sight)?;
+        let done = self.archive.end_file(name, others);
+        self.told(done)
+    }
+
+    fn drop_file(&mut self) -> Result<(), Stop> {
+        let done = self.archive.drop_file();
+        self.told(done)
+    }
+
+    fn same_file(&mut self, name: &str, content: &[Id], sight: &Sight) -> Result<(), Stop> {
+        let name = name_of(self.alloc, name)?;
+        let others = others_of(self.alloc, sight)?;
+        let done = self.archive.same_file(name, content, others);
+        self.told(done)
+    }
+
+    fn add_other(&mut self, name: &str, sight: &Sight) -> Result<(), Stop> {
+        let name = name_of(self.alloc, name)?;
+        let type_name = String::from_str(self.alloc, type_name_of(&sight.kind))?;
+        let others = others_of(self.alloc, sight)?;
+        let done = self.archive.add_other(name, type_name, others);
+        self.told(done)
+    }
+
+    fn held(&self) -> u64 {
+        self.archive.held()
+    }
+
+    fn store_part(&mut self) -> Result<(), Stop> {
+        match self.lent.store(self.alloc, &self.archive) {
+            Ok(is_change) => self.parts = self.parts.saturating_add(is_change as u64),
+            Err(cause) => return Err(self.stop(cause)),
+        }
+        match self.archive.let_go() {
+            Ok(()) => Ok(()),
+            Err(error) => Err(self.stop(NotBackedUp::Unplanned(error))),
+        }
+    }
+}

@@ -1,0 +1,105 @@
+ghost use Rattle.std.specs.Prelude.{◌≡◌, IfOk, string_bytes};
+ghost use Rattle.keep_archive.specs.Archive.{carried_view};
+ghost use Rattle.keep_members.specs.Carried.{IsCarried};
+ghost use Rattle.keep_quoted.specs.Quote as spec;
+ghost use Rattle.keep_sighted.specs.Sighted.{sighted};
+
+use crate::begun::Begun;
+use crate::keeps::Keeps;
+use crate::lent::Lent;
+use crate::not_backed_up::NotBackedUp;
+use keep_archive::{Archive, Carried};
+use keep_backup::Cut;
+use keep_members::carried;
+use keep_plan::PlanError;
+use keep_quoted::quote;
+use keep_sighted::members_of;
+use keep_sources::{Sight, Skipped, Stop};
+use std::alloc::{AllocError, Global};
+
+/// What a walk gives, on its way into an archive over a book.
+#[derive(Drop)]
+pub(crate) struct Intake<'a, 'b, B: Begun, K: Keeps> {
+    pub(crate) alloc: Global,
+    pub(crate) lent: &'a mut Lent<'b, B, K>,
+    pub(crate) archive: Archive,
+    /// How many parts were committed.
+    pub(crate) parts: u64,
+    /// Why no more is taken, if it isn't memory that ran out.
+    pub(crate) refusal: Option<NotBackedUp>,
+}
+
+/// All that was taken.
+#[derive(Drop)]
+pub(crate) struct Filled {
+    pub(crate) archive: Archive,
+    /// How many parts of it were committed.
+    pub(crate) parts: u64,
+    /// What isn't in it, or not as it was seen.
+    pub(crate) skipped: Vec<Skipped>,
+}
+
+impl<'a, 'b, B: Begun, K: Keeps> Intake<'a, 'b, B, K> {
+    /// Nothing is given yet.
+    pub(crate) fn new(
+        alloc: Global,
+        lent: &'a mut Lent<'b, B, K>,
+        cut: Cut,
+    ) -> Intake<'a, 'b, B, K> {
+        Intake {
+            alloc,
+            lent,
+            archive: Archive::new(alloc, cut),
+            parts: 0,
+            refusal: None,
+        }
+    }
+
+    /// What was taken, or why not all of it was. That is kept, unless memory ran out.
+    pub(crate) fn filled(self, done: Result<Vec<Skipped>, Stop>) -> Result<Filled, NotBackedUp> {
+        let Intake {
+            alloc: _,
+            lent: _,
+            archive,
+            parts,
+            refusal,
+        } = self;
+        match done {
+            Ok(skipped) => Ok(Filled {
+                archive,
+                parts,
+                skipped,
+            }),
+            Err(_) => Err(refusal.unwrap_or(NotBackedUp::Unplanned(PlanError::Memory))),
+        }
+    }
+
+    /// Nothing more is taken for this cause.
+    pub(crate) fn stop(&mut self, cause: NotBackedUp) -> Stop {
+        self.refusal = Some(cause);
+        Stop::Refused
+    }
+
+    /// What the archive answered.
+    pub(crate) fn told(&mut self, done: Result<(), PlanError>) -> Result<(), Stop> {
+        match done {
+            Ok(()) => Ok(()),
+            Err(error) => Err(self.stop(NotBackedUp::Unplanned(error))),
+        }
+    }
+}
+
+/// The name as a tree has it.
+pub(crate) fn name_of(alloc: Global, name: &str) -> Result<String, AllocError>
+    ensures { IfOk result (λ quoted. string_bytes quoted ≡ spec.quoted name.now) }
+{
+    quote(alloc, name.as_bytes())
+}
+
+/// What was seen, as a node carries it.
+pub(crate) fn others_of(alloc: Global, sight: &Sight) -> Result<Carried, AllocError>
+    ensures { IfOk result (λ others. IsCarried (sighted sight.now) (carried_view others)) }
+{
+    let members = members_of(sight)?;
+    Ok(Carried::of(carried(alloc, &members)?))
+}
