@@ -64,7 +64,7 @@ const READING: [Form; 9] = [
 const LATEST: Argument = Argument {
     name: "latest",
     kind: Kind::Number(1, 1_048_576),
-    help: "Of each host and list of paths only the latest N",
+    help: "Only the latest N",
 };
 
 const BELOW: Argument = Argument {

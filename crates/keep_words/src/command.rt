@@ -6,7 +6,7 @@ pub enum Command<'a> {
         folder: &'a str,
     },
     Backup(Backup<'a>),
-    /// To list snapshots: of each group the latest so many, 1 to 1,048,576, or all.
+    /// To list snapshots: the latest so many, 1 to 1,048,576, or all.
     Snapshots {
         chosen: Chosen<'a>,
         latest: Option<u32>,
