@@ -4,14 +4,15 @@ use crate::failure::Failure;
 use crate::outcome::{numbers_text, print_parts_of, print_rows, refused};
 use crate::run::Run;
 use keep_book::Book;
-use keep_change::What;
-use keep_journal::{Notice, Status};
+use keep_events::{Wrote, events_of};
 use keep_names::Id;
+use keep_paths::path_of_key;
 use keep_read::{Finding, audit};
-use keep_rows::FindingRow;
-use keep_shelf::Shelf;
+use keep_rows::{FindingRow, When};
+use keep_shelf::{Key, Shelf};
 use keep_words::Command;
-use std::alloc::AllocError;
+use std::fs;
+use std::os::unix::fs::MetadataExt;
 
 /// Prints what the command asks for.
 pub(crate) fn look<S: Shelf>(
@@ -62,56 +63,40 @@ fn row_of(run: &Run<'_>, finding: Finding) -> Result<FindingRow, Failure> {
     })
 }
 
-/// `keep history`: the events, or the last so many, with what became of their changes.
+/// `keep history`
 fn history<S: Shelf>(run: &Run<'_>, book: &Book<S>, last: Option<u32>) -> Result<(), Failure> {
-    let history = book.ledger().history();
-    let notices = history.notices();
-    let skipped = match last {
-        Some(count) => notices.len().saturating_sub(count as usize),
-        None => 0,
+    let last = match last {
+        Some(count) => Some(u64::from(count)),
+        None => None,
     };
-    let mut text = String::new(run.alloc);
-    for notice in notices.iter().skip(skipped) {
-        let line = event_text(run, *notice, history.status(notice.change))?;
-        if run.is_json && !text.is_empty() {
-            text.push_str(",")?;
+    let mut rows = events_of(run.alloc, book.ledger().history(), last)?;
+    for row in rows.iter_mut() {
+        row.when = time_of(run, row.at)?;
+        if let Some(Wrote::Whole(_, Some(taken))) = &mut row.wrote {
+            set_offset(run, &mut taken.at);
         }
-        text.push_str(line.as_str())?;
     }
-    if run.is_json {
-        text = format!(in run.alloc; "[{text}]\n")?;
-    }
-    run.print(text.as_bytes())
+    print_rows(run, rows.as_slice())
 }
 
-/// What is told of an event, on a line or as a JSON object.
-fn event_text(run: &Run<'_>, notice: Notice, status: Status) -> Result<String, AllocError> {
-    let Notice { at, what, change } = notice;
-    let what = what_word(what);
-    let status = status_word(status);
-    if run.is_json {
-        return format!(in run.alloc;
-            "{{\"event\":{at},\"what\":\"{what}\",\"change\":{change},\"status\":\"{status}\"}}"
-        );
-    }
-    format!(in run.alloc; "{at}  {what} of {change}  {status}\n")
-}
-
-fn what_word(what: What) -> &'static str {
-    match what {
-        What::Commit => "commit",
-        What::Undo => "undo",
-        What::Redo => "redo",
-        What::Empty => "empty",
+/// Says the moment as the machine's zone has it.
+fn set_offset(run: &Run<'_>, at: &mut Option<When>) {
+    if let Some(when) = at {
+        when.offset = run.zone.offset_at(when.moment);
     }
 }
 
-fn status_word(status: Status) -> &'static str {
-    match status {
-        Status::Unknown => "unknown",
-        Status::Final => "final",
-        Status::InForce => "in force",
-        Status::Undone => "undone",
+/// When the event was written: the time of its entry in the folder, where that can be had.
+fn time_of(run: &Run<'_>, event: u64) -> Result<Option<When>, Failure> {
+    let path = path_of_key(run.alloc, Key::Entry(event))?;
+    let path = format!(in run.alloc; "{}/{path}", run.folder)?;
+    match fs::symlink_metadata(run.rt, path.as_str()) {
+        Ok(seen) => {
+            let moment = seen.mtime();
+            let offset = run.zone.offset_at(moment);
+            Ok(Some(When { moment, offset }))
+        }
+        Err(_) => Ok(None),
     }
 }
 

@@ -4,6 +4,7 @@ use keep_acts::{Made, NotDone, Outcome};
 use keep_advice::{Advice, PlanAdvice};
 use keep_book::TakenBack;
 use keep_change::Change;
+use keep_events::parts_of;
 use keep_journal::History;
 use keep_ledger::Refusal;
 use keep_rows::{Row, document_of, table_of};
@@ -67,27 +68,15 @@ pub(crate) fn tell_made(run: &Run<'_>, history: &History, made: Made) -> Result<
 pub(crate) fn print_parts_of(run: &Run<'_>, history: &History, number: u64) -> Result<(), Failure> {
     match history.change(number) {
         Some(change) => print_parts(run, change),
-        None if run.is_json => run.print(b"null"),
+        None if run.is_json => run.print(b"[]"),
         None => Ok(()),
     }
 }
 
-/// Prints how many files the change adds and drops, and how many marks it sets and clears.
+/// Prints the files and marks of the change.
 fn print_parts(run: &Run<'_>, change: &Change) -> Result<(), Failure> {
-    let adds = change.adds.as_slice().len();
-    let drops = change.drops.as_slice().len();
-    let sets = change.sets.as_slice().len();
-    let clears = change.clears.as_slice().len();
-    let text = if run.is_json {
-        format!(in run.alloc;
-            "{{\"added\":{adds},\"dropped\":{drops},\"marked\":{sets},\"unmarked\":{clears}}}"
-        )?
-    } else {
-        format!(in run.alloc;
-            "files added {adds}, dropped {drops}; packs marked {sets}, unmarked {clears}\n"
-        )?
-    };
-    run.print(text.as_bytes())
+    let rows = parts_of(run.alloc, change)?;
+    print_rows(run, rows.as_slice())
 }
 
 /// Prints the rows, as a table or as a list of objects.

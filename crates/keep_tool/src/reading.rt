@@ -2,8 +2,11 @@ use crate::failure::Failure;
 use crate::opening::over_folder;
 use crate::run::Run;
 use crate::script::script;
+use keep_beginnings::{BeginError, begin};
+use keep_openings::Unopened;
 use keep_typed::read_words;
 use keep_words::{Command, Words};
+use keep_zone::MachineZone;
 use std::env::{self, VarError};
 use std::io::ErrorKind;
 use std::time::Clock;
@@ -32,7 +35,7 @@ pub(crate) fn keep(rt: &HostRuntime) -> Result<(), Failure> {
     }
 }
 
-/// Does what these words say, over the repository that they name, or the variable `KEEP_REPOSITORY`.
+/// Does what these words say.
 fn run_words(rt: &HostRuntime, words: Words<'_>) -> Result<(), Failure> {
     let Words {
         repo,
@@ -40,21 +43,61 @@ fn run_words(rt: &HostRuntime, words: Words<'_>) -> Result<(), Failure> {
         wait,
         command,
     } = words;
+    match command {
+        Command::Init { folder } => begin_at(rt, folder, json),
+        command => run_command(rt, repo, json, wait, command),
+    }
+}
+
+/// Does what the command says, over the repository that the words name, or the variable `KEEP_REPOSITORY`.
+fn run_command(
+    rt: &HostRuntime,
+    repo: Option<&str>,
+    is_json: bool,
+    wait: u64,
+    command: Command<'_>,
+) -> Result<(), Failure> {
     let folder = match repo {
         Some(repo) => String::from_str(rt.alloc(), repo)?,
         None => folder_named(rt)?,
     };
+    let zone = MachineZone::read(rt);
     let run = Run {
         rt,
         alloc: rt.alloc(),
         folder: folder.as_str(),
-        is_json: json,
+        is_json,
         wait,
         now: now(rt),
+        zone: &zone,
     };
     match command {
         Command::Script { file } => script(&run, file),
         command => over_folder(&run, &command),
+    }
+}
+
+/// `keep init`
+fn begin_at(rt: &HostRuntime, folder: &str, is_json: bool) -> Result<(), Failure> {
+    let alloc = rt.alloc();
+    let text = match begin(rt, folder) {
+        Ok(id) if is_json => format!(in alloc; "{{\"id\":\"{id}\"}}\n")?,
+        Ok(id) => format!(in alloc; "repository {id} is in {folder}\n")?,
+        Err(BeginError::NotEmpty) => {
+            let cause = format!(in alloc;
+                "{folder} isn't empty: name a new folder, or an empty one"
+            )?;
+            return Err(Failure::Refused(cause));
+        }
+        Err(BeginError::Folder(error)) => {
+            let cause = Unopened::Folder(error);
+            let cause = format!(in alloc; "cannot make {folder}: {cause}")?;
+            return Err(Failure::Refused(cause));
+        }
+    };
+    match rt.print(text) {
+        Ok(()) => Ok(()),
+        Err(_) => Err(Failure::Unwritten),
     }
 }
 

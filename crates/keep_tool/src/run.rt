@@ -1,5 +1,6 @@
 use crate::failure::Failure;
 use keep_jobs::{Cut, Settings};
+use keep_zone::MachineZone;
 use std::alloc::Global;
 use std::io::Write;
 
@@ -19,6 +20,7 @@ pub(crate) struct Run<'a> {
     pub wait: u64,
     /// The moment: whole seconds since 1970-01-01T00:00:00Z.
     pub now: i64,
+    pub zone: &'a MachineZone,
 }
 
 impl Run<'_> {
