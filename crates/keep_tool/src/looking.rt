@@ -1,8 +1,11 @@
 ghost use Rattle.keep_book.specs.Armed.{HasSums};
 
+use crate::dumping::dump_file;
 use crate::failure::Failure;
 use crate::outcome::{numbers_text, print_parts_of, print_rows, refused};
+use crate::restoring::restore_snapshot;
 use crate::run::Run;
+use crate::viewing::{compare, find, list_nodes, list_snapshots};
 use keep_book::Book;
 use keep_events::{Wrote, events_of};
 use keep_names::Id;
@@ -26,6 +29,12 @@ pub(crate) fn look<S: Shelf>(
         Command::Check { .. } => check(run, book),
         Command::History { last } => history(run, book, *last),
         Command::Show { change } => show(run, book, *change),
+        Command::Restore(words) => restore_snapshot(run, book, words),
+        Command::Dump { snapshot, path } => dump_file(run, book, snapshot, path),
+        Command::Snapshots { chosen, latest } => list_snapshots(run, book, chosen, *latest),
+        Command::Ls { snapshot, path } => list_nodes(run, book, snapshot, *path),
+        Command::Diff { old, new } => compare(run, book, old, new),
+        Command::Find { pattern } => find(run, book, pattern),
         _ => Err(Failure::unmeant(run.alloc, "this command isn't there yet")),
     }
 }

@@ -3,13 +3,18 @@
 
 mod answer;
 mod asking;
+mod dumping;
 mod failure;
+mod left;
 mod looking;
+mod naming;
 mod opening;
 mod outcome;
 mod reading;
+mod restoring;
 mod run;
 mod script;
+mod viewing;
 
 use crate::failure::tell;
 use crate::reading::keep;

@@ -1,6 +1,8 @@
 use crate::failure::Failure;
+use keep_docs::write_doc;
 use keep_jobs::{Cut, Settings};
 use keep_zone::MachineZone;
+use serde_json::Value;
 use std::alloc::Global;
 use std::io::Write;
 
@@ -40,5 +42,12 @@ impl Run<'_> {
             (Ok(()), Ok(())) => Ok(()),
             _ => Err(Failure::Unwritten),
         }
+    }
+
+    /// Writes the value as a JSON document on standard output.
+    pub fn print_value(&self, value: &Value) -> Result<(), Failure> {
+        let mut text = write_doc(self.alloc, value)?;
+        text.push(b'\n')?;
+        self.print(text.as_slice())
     }
 }

@@ -1,0 +1,92 @@
+use crate::failure::Failure;
+use crate::naming::{meant, pattern_of};
+use crate::outcome::print_rows;
+use crate::run::Run;
+use keep_book::Book;
+use keep_looks::{Unlisted, difference_rows, found_rows, node_rows, snapshot_rows};
+use keep_read::RestoreError;
+use keep_shelf::Shelf;
+use keep_words::Chosen;
+
+/// `keep snapshots`
+pub(crate) fn list_snapshots<S: Shelf>(
+    run: &Run<'_>,
+    book: &Book<S>,
+    chosen: &Chosen<'_>,
+    latest: Option<u32>,
+) -> Result<(), Failure> {
+    let view = book.ledger().view();
+    let history = book.ledger().history();
+    let shown = snapshot_rows(run.alloc, &view, history, chosen, latest, run.zone)?;
+    print_rows(run, shown.rows.as_slice())?;
+    tell_unlisted(run, shown.unlisted.as_slice())
+}
+
+/// `keep ls`
+pub(crate) fn list_nodes<S: Shelf>(
+    run: &Run<'_>,
+    book: &Book<S>,
+    snapshot: &str,
+    path: Option<&str>,
+) -> Result<(), Failure> {
+    let id = meant(run, book, snapshot)?;
+    let view = book.ledger().view();
+    match (node_rows(run.alloc, &view, id, path, run.zone), path) {
+        (Ok(rows), Some(path)) if rows.is_empty() => {
+            let cause = format!(in run.alloc; "{snapshot} has nothing at {path}")?;
+            Err(Failure::Refused(cause))
+        }
+        (Ok(rows), _) => print_rows(run, rows.as_slice()),
+        (Err(error), _) => Err(unlisted(run, snapshot, error)),
+    }
+}
+
+/// `keep diff`
+pub(crate) fn compare<S: Shelf>(
+    run: &Run<'_>,
+    book: &Book<S>,
+    old: &str,
+    new: &str,
+) -> Result<(), Failure> {
+    let old_id = meant(run, book, old)?;
+    let new_id = meant(run, book, new)?;
+    let view = book.ledger().view();
+    match difference_rows(run.alloc, &view, old_id, new_id) {
+        Ok(rows) => print_rows(run, rows.as_slice()),
+        Err(error) => {
+            let cause = format!(in run.alloc;
+                "cannot compare {old} with {new}: {error}: keep check lists what is wrong"
+            )?;
+            Err(Failure::Refused(cause))
+        }
+    }
+}
+
+/// `keep find`
+pub(crate) fn find<S: Shelf>(run: &Run<'_>, book: &Book<S>, pattern: &str) -> Result<(), Failure> {
+    let pattern = pattern_of(run, pattern)?;
+    let view = book.ledger().view();
+    let found = found_rows(run.alloc, &view, book.ledger().history(), &pattern)?;
+    print_rows(run, found.rows.as_slice())?;
+    tell_unlisted(run, found.unlisted.as_slice())
+}
+
+/// Names the snapshots that can't be listed on standard error.
+fn tell_unlisted(run: &Run<'_>, unlisted: &[Unlisted]) -> Result<(), Failure> {
+    for one in unlisted {
+        let _said = eprintln!(run.rt; "keep: {one}");
+    }
+    if unlisted.is_empty() {
+        Ok(())
+    } else {
+        Err(Failure::Partly)
+    }
+}
+
+/// Says why the snapshot can't be listed.
+fn unlisted(run: &Run<'_>, snapshot: &str, error: RestoreError) -> Failure {
+    match format!(in run.alloc; "cannot list {snapshot}: {error}: keep check lists what is wrong") {
+        Ok(cause) => Failure::Refused(cause),
+        Err(_) => Failure::Memory,
+    }
+}
