@@ -1,5 +1,6 @@
 ghost use Rattle.keep_book.specs.Armed.{HasSums};
 
+use crate::backing::backup;
 use crate::dumping::dump_file;
 use crate::failure::Failure;
 use crate::outcome::{numbers_text, print_parts_of, print_rows, refused};
@@ -29,6 +30,7 @@ pub(crate) fn look<S: Shelf>(
         Command::Check { .. } => check(run, book),
         Command::History { last } => history(run, book, *last),
         Command::Show { change } => show(run, book, *change),
+        Command::Backup(words) => backup(run, book, words),
         Command::Restore(words) => restore_snapshot(run, book, words),
         Command::Dump { snapshot, path } => dump_file(run, book, snapshot, path),
         Command::Snapshots { chosen, latest } => list_snapshots(run, book, chosen, *latest),

@@ -3,6 +3,7 @@
 
 mod answer;
 mod asking;
+mod backing;
 mod dumping;
 mod failure;
 mod left;
@@ -10,6 +11,7 @@ mod looking;
 mod naming;
 mod opening;
 mod outcome;
+mod places;
 mod reading;
 mod restoring;
 mod run;

@@ -35,6 +35,7 @@ fn only_looks(command: &Command<'_>) -> bool {
         Command::Snapshots { .. } | Command::Ls { .. } | Command::Dump { .. } => true,
         Command::Diff { .. } | Command::Find { .. } | Command::Graph { .. } => true,
         Command::Restore(_) => true,
+        Command::Backup(words) => words.dry_run,
         Command::Forget(words) => words.dry_run,
         Command::Rewrite(words) => words.dry_run,
         _ => false,

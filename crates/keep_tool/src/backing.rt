@@ -1,0 +1,161 @@
+ghost use Rattle.keep_book.specs.Armed.{HasSums};
+
+use crate::failure::Failure;
+use crate::left::{Left, left_value, tell_left};
+use crate::naming::patterns_of;
+use crate::outcome::refused;
+use crate::places::place_of;
+use crate::run::Run;
+use keep_advice::PlanAdvice;
+use keep_backup::BackupFacts;
+use keep_backups::{BackedUp, NotBackedUp, Wish, back_up};
+use keep_book::Book;
+use keep_host_source::{HostSource, host_name, user_name};
+use keep_ledger::Refusal;
+use keep_shelf::Shelf;
+use keep_sources::{Job, Why};
+use keep_tables::utc_time;
+use keep_words::Backup;
+use serde_json::json;
+use std::collections::BTreeMap;
+use std::io;
+
+/// `keep backup`. Where it is tried alone, the book is one over a copy in memory.
+pub(crate) fn backup<S: Shelf>(
+    run: &Run<'_>,
+    book: &mut Book<S>,
+    words: &Backup<'_>,
+) -> Result<(), Failure>
+    requires { HasSums book.old }
+{
+    let facts = facts_of(run, words)?;
+    let tags = texts_of(run, words.tags.as_slice())?;
+    let job = job_of(run, words, facts.paths.as_slice())?;
+    let source = HostSource::new(run.rt, "/")?;
+    let wish = Wish {
+        job: &job,
+        facts: &facts,
+        tags: tags.as_slice(),
+        cut: run.settings().cut,
+    };
+    match back_up(run.alloc, book, source, &wish) {
+        Ok(done) => tell_backup(run, &done, words.dry_run),
+        Err(NotBackedUp::Unplanned(error)) => Err(Failure::refused(run.alloc, &PlanAdvice(&error))),
+        Err(NotBackedUp::Refused(refusal)) => Err(refused(run, 0, &refusal)),
+    }
+}
+
+/// What the snapshot says of itself.
+fn facts_of(run: &Run<'_>, words: &Backup<'_>) -> Result<BackupFacts, Failure> {
+    let mut paths = Vec::new(run.alloc);
+    for word in &words.paths {
+        paths.push(place_of(run, word)?)?;
+    }
+    let host = match words.host {
+        Some(host) => String::from_str(run.alloc, host)?,
+        None => told(run, "the machine's name", host_name(run.rt))?,
+    };
+    let time = match words.time {
+        Some(time) => String::from_str(run.alloc, time)?,
+        None => utc_time(run.alloc, run.now)?,
+    };
+    Ok(BackupFacts {
+        host,
+        user: told(run, "who runs this", user_name(run.rt))?,
+        paths,
+        time,
+    })
+}
+
+/// What the machine says of itself.
+fn told(run: &Run<'_>, what: &str, said: io::Result<String>) -> Result<String, Failure> {
+    match said {
+        Ok(text) => Ok(text),
+        Err(error) => {
+            let cause = format!(in run.alloc; "cannot tell {what}: {error}")?;
+            Err(Failure::Refused(cause))
+        }
+    }
+}
+
+fn texts_of(run: &Run<'_>, words: &[&str]) -> Result<Vec<String>, Failure> {
+    let mut texts = Vec::new(run.alloc);
+    for word in words {
+        texts.push(String::from_str(run.alloc, word)?)?;
+    }
+    Ok(texts)
+}
+
+/// What is taken from the root of the machine's files.
+fn job_of(run: &Run<'_>, words: &Backup<'_>, places: &[String]) -> Result<Job, Failure> {
+    let mut paths = Vec::new(run.alloc);
+    for place in places {
+        let path = place.as_str();
+        let path = path.strip_prefix('/').unwrap_or(path);
+        paths.push(String::from_str(run.alloc, path)?)?;
+    }
+    Ok(Job {
+        paths,
+        excludes: patterns_of(run, words.exclude.as_slice())?,
+        known: BTreeMap::new(run.alloc),
+    })
+}
+
+/// Prints what the backup came to, and names what isn't in it.
+fn tell_backup(run: &Run<'_>, done: &BackedUp, is_dry: bool) -> Result<(), Failure> {
+    let left = left_of(run, done)?;
+    let left = left.as_slice();
+    let number = done.made.number;
+    let event = done.made.event;
+    let parts = done.parts;
+    let is_unsettled = done.made.is_unsettled;
+    if run.is_json {
+        let left_out = left_value(run, left)?;
+        let value = json!(in run.alloc; {
+            "change": number,
+            "event": event,
+            "left_out": left_out,
+            "parts": parts,
+            "planned": is_dry,
+            "unsettled": is_unsettled
+        })?;
+        run.print_value(&value)?;
+    } else {
+        let word = if is_dry { "would be" } else { "is" };
+        let text = format!(in run.alloc;
+            "the snapshot {word} @{number}, added by change {number} at event {event}; parts stored before: {parts}\n"
+        )?;
+        run.print(text.as_bytes())?;
+    }
+    if is_unsettled {
+        return Err(refused(run, number, &Refusal::Unsettled(number)));
+    }
+    tell_left(run, left)
+}
+
+/// What isn't in the backup, or not as it was seen, in words.
+fn left_of(run: &Run<'_>, done: &BackedUp) -> Result<Vec<Left>, Failure> {
+    let mut left = Vec::new(run.alloc);
+    for one in &done.skipped {
+        let path = format!(in run.alloc; "/{}", one.path)?;
+        let why = why_text(run, one.why)?;
+        left.push(Left { path, why })?;
+    }
+    Ok(left)
+}
+
+fn why_text(run: &Run<'_>, why: Why) -> Result<String, Failure> {
+    let text = match why {
+        Why::Denied => "it can't be read: permission is wanting",
+        Why::Gone => "it isn't there any more",
+        Why::Replaced => "something else stands there now",
+        Why::Unsayable(count) => {
+            return Ok(format!(in run.alloc; "{count} names in it aren't UTF-8")?);
+        }
+        Why::TooDeep => "more than 256 folders lead there",
+        Why::Failed => "it can't be read",
+        Why::Shrank => "it became shorter while it was read: it is there as it was read",
+        Why::Grew => "it became longer while it was read: it is there as it was read",
+    };
+    Ok(String::from_str(run.alloc, text)?)
+}
