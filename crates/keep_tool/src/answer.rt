@@ -31,10 +31,6 @@ pub(crate) fn answer<S: Shelf>(
             run.alloc,
             "give one of --host, --tag and --path",
         )),
-        Err(NoDeed::NamedSnapshots) => Err(Failure::unmeant(
-            run.alloc,
-            "tags of single snapshots can't be changed yet: give --all",
-        )),
         Err(NoDeed::Memory) => Err(Failure::Memory),
     }
 }

@@ -33,8 +33,7 @@ fn only_looks(command: &Command<'_>) -> bool {
     match command {
         Command::Check { .. } | Command::History { .. } | Command::Show { .. } => true,
         Command::Snapshots { .. } | Command::Ls { .. } | Command::Dump { .. } => true,
-        Command::Diff { .. } | Command::Find { .. } | Command::Graph { .. } => true,
-        Command::Restore(_) => true,
+        Command::Diff { .. } | Command::Find { .. } | Command::Restore(_) => true,
         Command::Backup(words) => words.dry_run,
         Command::Forget(words) => words.dry_run,
         Command::Rewrite(words) => words.dry_run,
