@@ -56,6 +56,13 @@ impl<T: FileTree> KeyedFolder<T> {
         self.files.is_sound
     }
 
+    /// The tree, with all that was done in it.
+    pub fn into_tree(self) -> T
+        ensures { T.seen result ≡ seen_in T.seen self }
+    {
+        self.files.tree
+    }
+
     /// Puts the bytes into the key's file, or into a new one.
     pub fn put(&mut self, path: &KeyPath, bytes: &Bytes) -> Result<(), TreeError>
         requires { IsClosed (stands_in T.seen self.old) }
