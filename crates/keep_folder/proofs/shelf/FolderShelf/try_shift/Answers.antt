@@ -1,4 +1,4 @@
-use Rattle.std.proofs.Common.{◌≡◌, ◌∙◌, Some, sym, ap, subst}
+use Rattle.std.proofs.Common.{◌≡◌, ◌∙◌, sym, ap, subst}
 use Rattle.std.specs.FinMap as map
 use Rattle.keep_files.specs.Content.{HoldsFiles}
 use Rattle.keep_keyed_folder.specs.Keyed.{stands_in}
