@@ -8,6 +8,7 @@ mod marking;
 mod open_error;
 mod opening;
 mod settling;
+mod sharing;
 mod telling;
 mod trash;
 
