@@ -6,14 +6,16 @@ use crate::naming::patterns_of;
 use crate::outcome::refused;
 use crate::places::place_of;
 use crate::run::Run;
+use crate::unchanged::unchanged;
 use keep_advice::PlanAdvice;
 use keep_backup::BackupFacts;
 use keep_backups::{BackedUp, NotBackedUp, Wish, back_up};
 use keep_book::Book;
 use keep_host_source::{HostSource, host_name, user_name};
 use keep_ledger::Refusal;
+use keep_plan::PlanError;
 use keep_shelf::Shelf;
-use keep_sources::{Job, Why};
+use keep_sources::{Job, Known, Why};
 use keep_tables::utc_time;
 use keep_words::Backup;
 use serde_json::json;
@@ -29,17 +31,44 @@ pub(crate) fn backup<S: Shelf>(
     requires { HasSums book.old }
 {
     let facts = facts_of(run, words)?;
+    let known = unchanged(run, book, &facts)?;
+    match taken(run, book, words, &facts, known)? {
+        // A file that was known lacks a piece by now: all are read.
+        Err(NotBackedUp::Unplanned(PlanError::Reach(_))) => {
+            let came = taken(run, book, words, &facts, BTreeMap::new(run.alloc))?;
+            tell(run, came, words.dry_run)
+        }
+        came => tell(run, came, words.dry_run),
+    }
+}
+
+/// Takes in what the words name. Files that are known and unchanged aren't read.
+fn taken<S: Shelf>(
+    run: &Run<'_>,
+    book: &mut Book<S>,
+    words: &Backup<'_>,
+    facts: &BackupFacts,
+    known: BTreeMap<String, Known>,
+) -> Result<Result<BackedUp, NotBackedUp>, Failure>
+    requires { HasSums book.old }
+    ensures { HasSums book.new }
+{
     let tags = texts_of(run, words.tags.as_slice())?;
-    let job = job_of(run, words, facts.paths.as_slice())?;
+    let job = job_of(run, words, facts.paths.as_slice(), known)?;
     let source = HostSource::new(run.rt, "/")?;
     let wish = Wish {
         job: &job,
-        facts: &facts,
+        facts,
         tags: tags.as_slice(),
         cut: run.settings().cut,
     };
-    match back_up(run.alloc, book, source, &wish) {
-        Ok(done) => tell_backup(run, &done, words.dry_run),
+    Ok(back_up(run.alloc, book, source, &wish))
+}
+
+/// Prints what came of it.
+fn tell(run: &Run<'_>, came: Result<BackedUp, NotBackedUp>, is_dry: bool) -> Result<(), Failure> {
+    match came {
+        Ok(done) => tell_backup(run, &done, is_dry),
         Err(NotBackedUp::Unplanned(error)) => Err(Failure::refused(run.alloc, &PlanAdvice(&error))),
         Err(NotBackedUp::Refused(refusal)) => Err(refused(run, 0, &refusal)),
     }
@@ -87,7 +116,12 @@ fn texts_of(run: &Run<'_>, words: &[&str]) -> Result<Vec<String>, Failure> {
 }
 
 /// What is taken from the root of the machine's files.
-fn job_of(run: &Run<'_>, words: &Backup<'_>, places: &[String]) -> Result<Job, Failure> {
+fn job_of(
+    run: &Run<'_>,
+    words: &Backup<'_>,
+    places: &[String],
+    known: BTreeMap<String, Known>,
+) -> Result<Job, Failure> {
     let mut paths = Vec::new(run.alloc);
     for place in places {
         let path = place.as_str();
@@ -97,7 +131,7 @@ fn job_of(run: &Run<'_>, words: &Backup<'_>, places: &[String]) -> Result<Job, F
     Ok(Job {
         paths,
         excludes: patterns_of(run, words.exclude.as_slice())?,
-        known: BTreeMap::new(run.alloc),
+        known,
     })
 }
 

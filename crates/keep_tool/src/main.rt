@@ -16,6 +16,7 @@ mod reading;
 mod restoring;
 mod run;
 mod script;
+mod unchanged;
 mod viewing;
 
 use crate::failure::tell;
