@@ -25,8 +25,8 @@ use Rattle.keep_moves.proofs.Erased.{all_filtered, all_weaker}
 use Rattle.keep_reading.specs.Lists.{IsListed}
 use Rattle.keep_reading.specs.Reads.{Reads, all_of}
 use Rattle.keep_stops.specs.Due.{IsMoveOf, IsRead}
-use Rattle.keep_due.specs.Remaining.{IsDue, due_in}
-use Rattle.keep_due.proofs.Resting.{due_leads}
+use Rattle.keep_opening.specs.Remaining.{IsDue, due_in}
+use Rattle.keep_opening.proofs.Resting.{due_leads}
 use Rattle.keep_touch.specs.Mentions.{AreNoted}
 use Rattle.keep_touch.specs.declared.mention.Mention.{Mention}
 use Rattle.keep_touch.specs.declared.touch.Touch.{Touch}

@@ -18,7 +18,7 @@ use Rattle.keep_opening.specs.declared.open_error.OpenError.TheVariants.{BadEntr
 use Rattle.keep_stops.specs.Laws.{contents_along}
 use Rattle.keep_stops.proofs.Moving.{moves_read}
 use Rattle.keep_stops.proofs.Stopping.{all_looks}
-use Rattle.keep_due.specs.Remaining.{due_in}
+use Rattle.keep_opening.specs.Remaining.{due_in}
 use Rattle.keep_ledger.specs.Ends.{FaultsAtMoves}
 use Rattle.keep_ledger.specs.OnShelf.{OnShelf}
 use Rattle.keep_ledger.specs.Opened.{IsGivenBack, IsReadOf, SaysStill, StopsOpening, failures_left}

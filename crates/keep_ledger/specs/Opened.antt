@@ -14,7 +14,7 @@ use Rattle.keep_reading.specs.Reads.{Reads}
 use Rattle.keep_opening.specs.Opened.{IsRefused}
 use Rattle.keep_opening.specs.declared.open_error.OpenError.{OpenError}
 use Rattle.keep_opening.specs.declared.open_error.OpenError.TheVariants.{BadEntry, Fault, Memory}
-use Rattle.keep_due.specs.Remaining.{due_in}
+use Rattle.keep_opening.specs.Remaining.{due_in}
 use Rattle.keep_ledger.specs.LedgerState.{new_ledger}
 use Rattle.keep_ledger.specs.OnShelf.{OnShelf}
 

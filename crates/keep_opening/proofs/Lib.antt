@@ -5,7 +5,10 @@ pub mod Glued
 pub mod Going
 pub mod Joined
 pub mod Lasting
+pub mod Leading
+pub mod Numbers
 pub mod Remade
+pub mod Resting
 pub mod Short
 pub mod Trashed
 pub mod Unmade

@@ -4,6 +4,7 @@ pub mod Leafing
 pub mod Marking
 pub mod OpenError
 pub mod Opened
+pub mod Remaining
 pub mod Settling
 pub mod Telling
 pub mod Wanted

@@ -4,7 +4,7 @@ use Rattle.std.specs.FinMap as finite
 use Rattle.std.proofs.lemmas.Result.{err_from_is_err_and}
 use Rattle.keep_repo.specs.Repository.{Repository}
 use Rattle.keep_shelf.specs.Shelved.{Content}
-use Rattle.keep_due.specs.Remaining.{due_in}
+use Rattle.keep_opening.specs.Remaining.{due_in}
 use Rattle.keep_reading.specs.Reads.{Reads}
 use Rattle.keep_ledger.specs.OnShelf.{IsKept}
 use Rattle.keep_ledger.specs.Opened.{IsGivenBack}

@@ -1,13 +1,13 @@
 ghost use Rattle.std.specs.Prelude.{◌≡◌, IfOk, filter};
 ghost use Rattle.std.specs.FinMap as map;
-ghost use Rattle.keep_due.specs.Remaining.{due_in};
+ghost use Rattle.keep_opening.specs.Remaining.{due_in};
 ghost use Rattle.keep_moves.specs.Move.{remains as remains_in};
 
 use crate::over::over_moves;
+use crate::{last_moves, remains};
 use keep_change::What;
 use keep_journal::History;
 use keep_moves::Move;
-use keep_opening::{last_moves, remains};
 use keep_shelf::Stock;
 use std::alloc::{AllocError, Global};
 

@@ -41,8 +41,8 @@ use Rattle.keep_opening.proofs.Lasting.{LastTold, commit_told, settled_moves}
 use Rattle.keep_opening.proofs.Whole.{found_there}
 use Rattle.keep_opening.specs.Settling.{moves_for}
 use Rattle.keep_opening.specs.Wanted.{is_files}
-use Rattle.keep_due.specs.Remaining.{IsDue, WhatIsDueLeadsOn, due_by, due_in, is_over, over_test}
-use Rattle.keep_due.proofs.Leading.{all_filter, commit_apart, left_can, left_leads, redo_apart, undo_apart}
+use Rattle.keep_opening.specs.Remaining.{IsDue, WhatIsDueLeadsOn, due_by, due_in, is_over, over_test}
+use Rattle.keep_opening.proofs.Leading.{all_filter, commit_apart, left_can, left_leads, redo_apart, undo_apart}
 
 -- ---- keys that are over
 

@@ -3,7 +3,7 @@ ghost use Rattle.std.specs.BTreeSet as tree;
 ghost use Rattle.std.specs.FinMap as finite;
 ghost use Rattle.std.specs.List.{list_any};
 ghost use Rattle.std.specs.Ordering.{nat_cmp};
-ghost use Rattle.keep_due.specs.Remaining.{is_over as is_over_by, over_test};
+ghost use Rattle.keep_opening.specs.Remaining.{is_over as is_over_by, over_test};
 ghost use Rattle.keep_journal.specs.History.{notices_of};
 ghost use Rattle.keep_moves.specs.declared.moves.Move.TheVariants.{Erase};
 

@@ -7,8 +7,8 @@ use Rattle.keep_journal.specs.declared.event.Notice.{Notice}
 use Rattle.keep_moves.specs.Move.{remains}
 use Rattle.keep_moves.specs.declared.moves.Move.{Move}
 use Rattle.keep_opening.proofs.Lasting.{LastTold, last_is}
-use Rattle.keep_due.proofs.Resting.{due_empty, due_plain}
-use Rattle.keep_due.proofs.due.due_moves.Goals as goal
+use Rattle.keep_opening.proofs.Resting.{due_empty, due_plain}
+use Rattle.keep_opening.proofs.due.due_moves.Goals as goal
 
 pub returns-in-Empty : goal.returns-in-Empty
 returns-in-Empty c =

@@ -4,11 +4,11 @@ use Rattle.std.specs.Prelude.{IfOk, filter}
 use Rattle.std.specs.BTreeSet as tree
 use Rattle.std.specs.FinMap as finite
 use Rattle.std.specs.Ordering.{nat_cmp}
-use Rattle.keep_due.proofs.Resting.{same_over}
-use Rattle.keep_due.specs.Remaining.{is_over}
+use Rattle.keep_opening.proofs.Resting.{same_over}
+use Rattle.keep_opening.specs.Remaining.{is_over}
 use Rattle.keep_moves.specs.declared.moves.Move.TheVariants.{Erase}
 use Rattle.keep_shelf.specs.declared.key.Key.{Key}
-use Rattle.keep_due.proofs.over.over_moves.Goals as goal
+use Rattle.keep_opening.proofs.over.over_moves.Goals as goal
 
 pub returns : goal.returns
 returns c =

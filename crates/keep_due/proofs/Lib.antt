@@ -1,3 +1,0 @@
-pub mod Leading
-pub mod Numbers
-pub mod Resting
