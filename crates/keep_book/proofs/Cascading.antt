@@ -14,8 +14,8 @@ use Rattle.keep_moves.specs.Course.{entry_put}
 use Rattle.keep_moves.proofs.Erased.{all_append, all_weaker}
 use Rattle.keep_stops.specs.Laws.{contents_along}
 use Rattle.keep_stops.proofs.Stopping.{calls_added}
-use Rattle.keep_taken.specs.Taken.{AreTaken}
-use Rattle.keep_taken.specs.Undone.{kept_without, undone_in}
+use Rattle.keep_touch.specs.Taken.{AreTaken}
+use Rattle.keep_touch.specs.Undone.{kept_without, undone_in}
 use Rattle.keep_ledger.specs.Ends.{Ends, FaultsAtEntry, FaultsAtMoves, FaultsLast, failures_after, heard}
 use Rattle.keep_ledger.specs.LedgerState.{LedgerState}
 use Rattle.keep_ledger.specs.Made.{event_of, with_event}

@@ -13,8 +13,8 @@ use Rattle.keep_journal.specs.Kept.{is_kept, kept, later}
 use Rattle.keep_journal.specs.Opening.{IsOpen}
 use Rattle.keep_journal.proofs.Later.{a_kept_change}
 use Rattle.keep_journal.proofs.Numbers.{is_change_found}
-use Rattle.keep_taken.specs.Taken.{IsTaken, itself, leaning}
-use Rattle.keep_taken.specs.Undone.{kept_without, undone_in}
+use Rattle.keep_touch.specs.Taken.{IsTaken, itself, leaning}
+use Rattle.keep_touch.specs.Undone.{kept_without, undone_in}
 use Rattle.keep_ledger.specs.Dependents.{leaned_on}
 use Rattle.keep_ledger.specs.LedgerState.{LedgerState}
 use Rattle.keep_ledger.specs.Made.{with_event}
@@ -27,8 +27,8 @@ use Rattle.keep_journal.specs.declared.request.Request.TheVariants.{Undo}
 use Rattle.keep_ledger.proofs.Doing.{made-Undo}
 use Rattle.keep_ledger.proofs.Replying.{undo_answers}
 use Rattle.keep_ledger.proofs.Undoing.{above_final, kept_is_there, same_undo_refusal}
-use Rattle.keep_taken.proofs.Leaning.{next_taken, still_kept, unleaned}
-use Rattle.keep_taken.proofs.Undoing.{change_of-undone, kept-undone}
+use Rattle.keep_touch.proofs.Leaning.{next_taken, still_kept, unleaned}
+use Rattle.keep_touch.proofs.Undoing.{change_of-undone, kept-undone}
 use Rattle.keep_book.specs.Cascade.{AreUndone, NothingLeansOnTheNext, taken_refusal, with_undos}
 
 -- the ledger is open

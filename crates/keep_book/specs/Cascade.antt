@@ -6,8 +6,8 @@ use Rattle.keep_journal.specs.History.{final_number, is_change, is_in_force}
 use Rattle.keep_journal.specs.Journal.{Journal}
 use Rattle.keep_journal.specs.Opening.{IsOpen}
 use Rattle.keep_shelf.specs.Shelved.{Content}
-use Rattle.keep_taken.specs.Taken.{AreTaken}
-use Rattle.keep_taken.specs.Undone.{kept_without, undone_in}
+use Rattle.keep_touch.specs.Taken.{AreTaken}
+use Rattle.keep_touch.specs.Undone.{kept_without, undone_in}
 use Rattle.keep_ledger.specs.Ends.{Ends, FaultsAtMoves, failures_after}
 use Rattle.keep_ledger.specs.LedgerState.{LedgerState}
 use Rattle.keep_ledger.specs.Made.{with_event}

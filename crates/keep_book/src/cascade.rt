@@ -3,11 +3,11 @@ use crate::taken_back::TakenBack;
 use keep_journal::Status;
 use keep_ledger::Refusal;
 use keep_shelf::Shelf;
-use keep_taken::taken_with;
+use keep_touch::taken_with;
 
 impl<S: Shelf> Book<S> {
     ghost use Rattle.keep_journal.specs.Opening.{IsOpen};
-    ghost use Rattle.keep_taken.specs.Taken.{AreTaken};
+    ghost use Rattle.keep_touch.specs.Taken.{AreTaken};
     ghost use Rattle.keep_book.specs.Armed.{HasSums, ledger_of};
     ghost use Rattle.keep_book.specs.Cascade.{Cascades, RefusesOrGives, taken_refusal};
 

@@ -6,8 +6,8 @@ use Rattle.std.proofs.lemmas.List.Sums.{fold-append}
 use Rattle.keep_hooks.specs.Guards.{Rule}
 use Rattle.keep_journal.specs.Event.{undoing}
 use Rattle.keep_journal.specs.declared.event.Event.{Event}
-use Rattle.keep_taken.specs.Taken.{AreTaken}
-use Rattle.keep_taken.specs.Undone.{undone_in}
+use Rattle.keep_touch.specs.Taken.{AreTaken}
+use Rattle.keep_touch.specs.Undone.{undone_in}
 use Rattle.keep_ledger.specs.LedgerState.{LedgerState}
 use Rattle.keep_ledger.specs.Made.{with_event}
 use Rattle.keep_ledger.specs.Reply.{RefusesOrTells, Replies, early_refusal, is_full, told_of}

@@ -4,7 +4,7 @@ ghost use Rattle.keep_journal.specs.Opening.{IsOpen};
 ghost use Rattle.keep_ledger.specs.Ends.{failures_after, heard};
 ghost use Rattle.keep_ledger.specs.Reply.{Replies, about, state_after};
 ghost use Rattle.keep_ledger.specs.Sums.{AreSums};
-ghost use Rattle.keep_taken.specs.Taken.{AreTaken};
+ghost use Rattle.keep_touch.specs.Taken.{AreTaken};
 ghost use Rattle.keep_book.specs.Cascade.{RefusesOrGives, taken_refusal};
 
 use keep_book::Book;

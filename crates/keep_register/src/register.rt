@@ -3,7 +3,7 @@ ghost use mathlib.Core.List.{IsPrefix};
 ghost use Rattle.keep_journal.specs.Opening.{IsOpen};
 ghost use Rattle.keep_journal.specs.declared.event.Event as the_event;
 ghost use Rattle.keep_ledger.specs.Sums.{AreSums};
-ghost use Rattle.keep_taken.specs.Taken.{AreTaken};
+ghost use Rattle.keep_touch.specs.Taken.{AreTaken};
 ghost use Rattle.keep_book.specs.Cascade.{RefusesOrGives, taken_refusal};
 ghost use Rattle.keep_chronicle.specs.Chronicle.{events_of};
 ghost use Rattle.keep_pages.specs.Histories.{length_at, state_of, IsHistory, IsLegal};

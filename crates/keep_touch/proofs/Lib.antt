@@ -2,9 +2,16 @@ pub mod Alone
 pub mod Counting
 pub mod Cutting
 pub mod Followed
+pub mod Leaning
 pub mod Listing
+pub mod Members
+pub mod Mentioned
 pub mod Picking
 pub mod Putting
 pub mod Rising
 pub mod Searching
+pub mod Seeking
+pub mod Steps
 pub mod Telling
+pub mod Undoing
+pub mod Walking

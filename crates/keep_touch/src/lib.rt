@@ -1,12 +1,18 @@
-//! Which changes touch a facet: for each facet its mentions, in the order of the changes' numbers.
+//! What leans on what: which changes touch a facet, for each its mentions in the order of the changes' numbers; and which
+//! have to be taken back with a change, those that lean on it and on those in turn.
 #![tactic(auto)]
 
+mod found;
 mod laws;
 mod lookup;
 mod mention;
 mod noting;
+mod taken_laws;
+mod taking;
 mod touch;
 
 pub use laws::notes_follow_events;
 pub use mention::Mention;
+pub use taken_laws::{one_list_is_taken, the_taken_set_is_least, undos_leave_the_others};
+pub use taking::taken_with;
 pub use touch::Touch;

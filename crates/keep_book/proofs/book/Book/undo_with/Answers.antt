@@ -2,7 +2,7 @@
 use Rattle.std.proofs.Common.{◌∙◌, ◌<◌, ℕ, Vec, Some, ap, arith, length, refl, subst}
 use Rattle.std.proofs.lemmas.List.{take_all}
 use Rattle.std.specs.Global.{Global}
-use Rattle.keep_taken.specs.Taken.{AreTaken}
+use Rattle.keep_touch.specs.Taken.{AreTaken}
 use Rattle.keep_book.specs.Armed.{hooks_of, on_shelf}
 use Rattle.keep_book.specs.Cascade.{taken_refusal}
 use Rattle.keep_book.proofs.Cascading.{Going, all_taken, as_told, gives, goes_on, nothing_asked, refuses, stops_there}

@@ -4,7 +4,7 @@ use Rattle.std.proofs.lemmas.List.{take_all}
 use Rattle.std.specs.Global.{Global}
 use mathlib.Core.List.{IsPrefix}
 use Rattle.keep_journal.specs.declared.event.Event.{Event}
-use Rattle.keep_taken.specs.Taken.{AreTaken}
+use Rattle.keep_touch.specs.Taken.{AreTaken}
 use Rattle.keep_book.specs.Cascade.{count_at, taken_refusal}
 use Rattle.keep_book.proofs.Cascading.{gives, refuses}
 use Rattle.keep_chronicle.proofs.Prefixes.{prefix_self, prefix_trans}

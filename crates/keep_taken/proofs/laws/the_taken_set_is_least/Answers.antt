@@ -1,5 +1,0 @@
-use Rattle.keep_taken.proofs.Members.{taken_is_least}
-use Rattle.keep_taken.proofs.laws.the_taken_set_is_least.Goals as goal
-
-pub returns : goal.returns
-returns c = taken_is_least

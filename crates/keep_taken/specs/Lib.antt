@@ -1,3 +1,0 @@
-pub mod Gathering
-pub mod Taken
-pub mod Undone
