@@ -12,7 +12,7 @@ use Rattle.keep_view.specs.Shown.{Shown}
 use Rattle.keep_ledger.specs.LedgerState.{LedgerState}
 use Rattle.keep_pages.specs.Histories.{shown_at}
 use Rattle.keep_register.specs.Asked.{counted_after}
-use Rattle.keep_pass.specs.Known.{Known}
+use Rattle.keep_register.specs.Known.{Known}
 use Rattle.keep_crew.specs.Answered.{IsAnswered, has_event}
 use Rattle.keep_crew.specs.Planned.{IsPlanned}
 use Rattle.keep_crew.specs.declared.answers.DeskError.{DeskError}

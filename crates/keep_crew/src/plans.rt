@@ -3,9 +3,8 @@ ghost use Rattle.keep_pages.specs.Histories.{shown_at};
 ghost use Rattle.keep_crew.specs.Planned.{IsPlanned};
 
 use keep_change::Planned;
-use keep_pass::Pass;
 use keep_plan::PlanError;
-use keep_register::Naming;
+use keep_register::{Naming, Pass};
 use keep_view::View;
 
 /// What plans a change on what an operator is shown.

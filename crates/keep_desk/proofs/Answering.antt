@@ -11,7 +11,7 @@ use Rattle.keep_journal.specs.declared.request.Told.{Told}
 use Rattle.keep_journal.specs.declared.request.Request.{Request}
 use Rattle.keep_chronicle.proofs.Prefixes.{prefix_self}
 use Rattle.keep_pages.specs.Histories.{state_of}
-use Rattle.keep_pass.specs.Known.{Known}
+use Rattle.keep_register.specs.Known.{Known}
 use Rattle.keep_register.specs.Asked.{WasAsked}
 use Rattle.keep_register.specs.Pages.{PageState, StepState, events_on}
 use Rattle.keep_crew.specs.Answered.{IsAnswered, number_in}

@@ -5,7 +5,7 @@ use Rattle.std.proofs.lemmas.List.Sums.{sum_by-cons}
 use Rattle.std.specs.List.{All, slice_index_or}
 use mathlib.Core.List.{IsPrefix}
 use Rattle.keep_journal.specs.declared.event.Event.{Event}
-use Rattle.keep_pass.specs.Known.{Known}
+use Rattle.keep_register.specs.Known.{Known}
 use Rattle.keep_crew.specs.Asking.{count_of}
 
 -- some passes were taken in, from the end: what they had seen begins the list, and so many they counted

@@ -36,9 +36,9 @@ use Rattle.keep_register.specs.contracts.step.Step as step
 use Rattle.keep_register.proofs.register.Register.TheSendSync as registers
 use Rattle.keep_register.proofs.step.Step.TheSendSync as steps
 use Rattle.keep_register.proofs.Crossing.{page_send, page_sync}
-use Rattle.keep_pass.proofs.Crossing.{factory_send, number_send, pass_send, slot_send}
-use Rattle.keep_pass.specs.contracts.rule.Published as published
-use Rattle.keep_pass.specs.contracts.rule.PublishedProtocolPageUnit.TheImpl as rules
+use Rattle.keep_register.proofs.PassCrossing.{factory_send, number_send, pass_send, slot_send}
+use Rattle.keep_register.specs.contracts.rule.Published as published
+use Rattle.keep_register.specs.contracts.rule.PublishedProtocolPageUnit.TheImpl as rules
 use Rattle.keep_crew.specs.contracts.work.Work as work
 use Rattle.keep_crew.specs.contracts.answers.NotTold as not_told
 use Rattle.keep_desk.specs.contracts.crew.Operator as operator

@@ -9,7 +9,7 @@ use Rattle.keep_pages.specs.Histories.{length_at}
 use Rattle.keep_pages.proofs.Histories.{length_at-all}
 use Rattle.keep_register.specs.Pages.{IsPage, PageState, StepState, events_on}
 use Rattle.keep_desk.specs.Held.{IsUpTo, Waits}
-use Rattle.keep_pass.proofs.Paging.{page_length}
+use Rattle.keep_register.proofs.Paging.{page_length}
 
 -- an event that came late
 pub record IsLate (book : Book) (es : List Event) (p : PageState) (pending : List StepState) : Type 0 where

@@ -9,7 +9,7 @@ use Rattle.keep_ledger.specs.declared.reply.Refusal.{Refusal}
 use Rattle.keep_ledger.specs.declared.reply.Refusal.TheVariants.{Memory, Unsettled}
 use Rattle.keep_book.specs.Cascade.{AreUndone, TakesAlong}
 use Rattle.keep_pages.specs.Histories.{state_of}
-use Rattle.keep_pass.specs.Known.{Known}
+use Rattle.keep_register.specs.Known.{Known}
 use Rattle.keep_crew.specs.declared.answers.DeskError.{DeskError}
 use Rattle.keep_crew.specs.declared.answers.DeskError.TheVariants.{Late, Refused}
 use Rattle.keep_desk.specs.declared.taken_back.TakenBack.{TakenBack}

@@ -8,7 +8,7 @@ use Rattle.keep_journal.specs.declared.event.Event.{Event}
 use Rattle.keep_hooks.specs.Guards.{Rule}
 use Rattle.keep_ledger.specs.LedgerState.{LedgerState}
 use Rattle.keep_pages.specs.Histories.{state_of, IsHistory}
-use Rattle.keep_pass.specs.Known.{Known}
+use Rattle.keep_register.specs.Known.{Known}
 use Rattle.keep_register.specs.Allowed.{AreAllowed}
 use Rattle.keep_crew.specs.Asking.{count_of}
 use Rattle.keep_desk.specs.declared.answers.NotOpened.{NotOpened}

@@ -7,7 +7,7 @@ use Rattle.keep_hooks.specs.Guards.{Rule}
 use Rattle.keep_plan.specs.declared.plan_error.PlanError.{PlanError}
 use Rattle.keep_view.specs.Shown.{Shown}
 use Rattle.keep_ledger.specs.LedgerState.{LedgerState}
-use Rattle.keep_pass.specs.Known.{Known}
+use Rattle.keep_register.specs.Known.{Known}
 use Rattle.keep_crew.specs.Asking.{Asks, PlansAndCommits}
 use Rattle.keep_crew.specs.declared.answers.NotTold.{NotTold}
 use Rattle.keep_crew.specs.declared.work.Work.{Work}

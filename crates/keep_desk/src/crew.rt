@@ -12,9 +12,8 @@ use crate::locked::Locked;
 use keep_change::Planned;
 use keep_crew::{DeskError, Gate, NotTold, Plans, Work, plan_on};
 use keep_ledger::Told;
-use keep_pass::Pass;
 use keep_plan::PlanError;
-use keep_register::{Keeper, Naming};
+use keep_register::{Keeper, Naming, Pass};
 use std::sync::Wait;
 use std::thread::{self, Threads};
 

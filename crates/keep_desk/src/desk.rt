@@ -7,7 +7,7 @@ ghost use Rattle.keep_register.specs.Asked.{counted_after};
 ghost use Rattle.keep_crew.specs.Answered.{IsAnswered, has_event};
 ghost use Rattle.keep_desk.specs.Cascade.{IsTakenBack};
 ghost use Rattle.keep_desk.specs.Closed.{IsClosed, keeper_of};
-ghost use Rattle.keep_pass.specs.Known.{AreFresh};
+ghost use Rattle.keep_register.specs.Known.{AreFresh};
 
 use crate::answers::NotOpened;
 use crate::locked::Locked;
@@ -17,8 +17,7 @@ use keep_change::Planned;
 use keep_chronicle::Opened;
 use keep_crew::DeskError;
 use keep_ledger::{Request, Told};
-use keep_pass::{NoPage, Pass, Shown};
-use keep_register::{Keeper, Naming, Register};
+use keep_register::{Keeper, Naming, NoPage, Pass, Register, Shown};
 use std::alloc::Global;
 use std::marker::PhantomData;
 use std::sync::ledger::Blank;

@@ -13,6 +13,6 @@ pub use answers::NotOpened;
 pub use crew::Operator;
 pub use desk::Desk;
 pub use keep_crew::{DeskError, Gate, NotTold, OpenGate, Plans, Work};
-pub use keep_pass::{NoPage, Pass, Shown};
+pub use keep_register::{NoPage, Pass, Shown};
 pub use locked::Locked;
 pub use taken_back::TakenBack;

@@ -4,13 +4,12 @@ ghost use Rattle.keep_chronicle.specs.Chronicle.{events_of};
 ghost use Rattle.keep_pages.specs.Histories.{length_at, IsHistory};
 ghost use Rattle.keep_pages.specs.Sheet.{sheet_of};
 ghost use Rattle.keep_register.specs.Pages.{events_on};
-ghost use Rattle.keep_pass.specs.Known.{AreFresh};
+ghost use Rattle.keep_register.specs.Known.{AreFresh};
 
 use crate::press::Press;
 use keep_chronicle::Sight;
 use keep_pages::Sheet;
-use keep_pass::Pass;
-use keep_register::{Keeper, Naming, Page};
+use keep_register::{Keeper, Naming, Page, Pass};
 use std::alloc::{AllocError, Global};
 use std::sync::Wait;
 use std::sync::ledger::Share;

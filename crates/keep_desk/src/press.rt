@@ -2,8 +2,7 @@ ghost use Rattle.std.specs.Prelude.{◌≡◌, ◌^◌, ◌<◌, ◌↔◌, [], 
 ghost use Rattle.keep_register.specs.Pages.{IsPage, page_after};
 
 use core::mem::replace_with;
-use keep_pass::{Published, Shows};
-use keep_register::{Naming, Page, Step};
+use keep_register::{Naming, Page, Published, Shows, Step};
 use left_right::reader::Reader;
 use left_right::writer::Writer;
 use std::alloc::{AllocError, Global};

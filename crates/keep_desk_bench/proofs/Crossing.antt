@@ -9,7 +9,7 @@ use Rattle.std.specs.contracts.option.Option as option
 use Rattle.std.specs.declared.sync.ledger.Ledger as ledger
 use Rattle.keep_chronicle.specs.declared.chronicle.Chronicled as chronicled
 use Rattle.keep_register.specs.declared.naming.Naming as naming
-use Rattle.keep_pass.proofs.Crossing.{pass_send}
+use Rattle.keep_register.proofs.PassCrossing.{pass_send}
 use Rattle.keep_desk_bench.specs.contracts.done.Done as done
 use Rattle.keep_desk_bench.specs.contracts.worker.Shift as shift
 use Rattle.keep_desk_bench.specs.contracts.worker.Worker as worker

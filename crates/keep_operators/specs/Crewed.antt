@@ -14,7 +14,7 @@ use Rattle.keep_journal.specs.declared.request.Told.{Told}
 use Rattle.keep_pages.specs.Histories.{shown_at, state_of, IsHistory}
 use Rattle.keep_jobs.specs.Job.{SettingsData, job_change}
 use Rattle.keep_register.specs.Allowed.{AreAllowed}
-use Rattle.keep_pass.specs.Known.{Known, fresh}
+use Rattle.keep_register.specs.Known.{Known, fresh}
 use Rattle.keep_crew.specs.Asking.{PlansAndCommits, count_of}
 use Rattle.keep_crew.specs.Planned.{IsPlanned}
 use Rattle.keep_crew.specs.declared.answers.NotTold.{NotTold}

@@ -16,7 +16,7 @@ use Rattle.keep_pages.specs.Histories.{shown_at, state_of, state_with}
 use Rattle.keep_pages.proofs.Histories.{state_of-push, with_event-is}
 use Rattle.keep_chronicle.proofs.Prefixes.{prefix_trans}
 use Rattle.keep_register.specs.Allowed.{AreAllowed, IsAllowed, MayFollow}
-use Rattle.keep_pass.specs.Known.{Known}
+use Rattle.keep_register.specs.Known.{Known}
 use Rattle.keep_desk.specs.Closed.{IsClosed}
 use Rattle.keep_jobs.specs.Job.{SettingsData, job_change}
 use Rattle.keep_operators.specs.Backups.{backup_of}

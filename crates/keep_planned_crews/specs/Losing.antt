@@ -8,7 +8,7 @@ use Rattle.keep_sound.specs.Met.{AddsPart}
 use Rattle.keep_journal.specs.declared.event.Event.{Event}
 use Rattle.keep_ledger.specs.LedgerState.{LedgerState}
 use Rattle.keep_pages.specs.Histories.{shown_at}
-use Rattle.keep_pass.specs.Known.{Known}
+use Rattle.keep_register.specs.Known.{Known}
 use Rattle.keep_desk.specs.Closed.{IsClosed}
 use Rattle.keep_jobs.specs.Job.{SettingsData, job_change}
 use Rattle.keep_operators.specs.Backups.{backup_of}

@@ -1,3 +1,4 @@
 pub mod Allowed
 pub mod Asked
+pub mod Known
 pub mod Pages

@@ -15,7 +15,7 @@ use Rattle.keep_ledger.specs.LedgerState.{LedgerState}
 use Rattle.keep_journal.specs.declared.request.Told.{Told}
 use Rattle.keep_jobs.specs.Job.{JobData, SettingsData, job_change, settings_view}
 use Rattle.keep_register.proofs.Allowing.{allowed_as}
-use Rattle.keep_pass.specs.Known.{AreFresh, Known, fresh}
+use Rattle.keep_register.specs.Known.{AreFresh, Known, fresh}
 use Rattle.keep_crew.specs.Allowing.{AllowsPlans, AllowsWork}
 use Rattle.keep_crew.specs.declared.work.Work.{Work}
 use Rattle.keep_crew.specs.declared.work.Work.TheVariants.{Plan, Undo, Redo, Empty}

@@ -1,5 +1,5 @@
 use Rattle.std.proofs.Common.{◌≡◌, ◌+◌, length}
-use Rattle.keep_pass.specs.Known.{AreFresh}
+use Rattle.keep_register.specs.Known.{AreFresh}
 use Rattle.keep_desk.proofs.opening.passes_of.Given as goal
 
 abbrev pub invariant-loop : goal.invariant-loop

@@ -4,7 +4,7 @@ use Rattle.keep_journal.specs.declared.event.Event.{Event}
 use Rattle.keep_ledger.specs.declared.reply.Refusal.{Refusal}
 use Rattle.keep_journal.specs.declared.request.Told.{Told}
 use Rattle.keep_chronicle.proofs.Prefixes.{prefix_self}
-use Rattle.keep_pass.specs.Known.{Known}
+use Rattle.keep_register.specs.Known.{Known}
 use Rattle.keep_register.specs.Asked.{WasAsked}
 use Rattle.keep_crew.specs.Answered.{number_in}
 use Rattle.keep_desk.proofs.Answering.{none_of, unchanged}

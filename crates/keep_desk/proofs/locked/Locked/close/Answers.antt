@@ -2,7 +2,7 @@ use Rattle.std.proofs.Common.{List, subst, sym}
 use Rattle.std.specs.List.{All}
 use mathlib.Core.List.{IsPrefix}
 use Rattle.keep_journal.specs.declared.event.Event.{Event}
-use Rattle.keep_pass.specs.Known.{Known}
+use Rattle.keep_register.specs.Known.{Known}
 use Rattle.keep_desk.proofs.Closing.{closed}
 use Rattle.keep_desk.proofs.locked.Locked.close.Goals as goal
 

@@ -1,7 +1,7 @@
 use Rattle.std.proofs.Common.{◌∙◌, ap, sym}
 use Rattle.keep_journal.specs.History.{length_of}
 use Rattle.keep_register.specs.Pages.{PageState}
-use Rattle.keep_pass.proofs.Paging.{page_next}
+use Rattle.keep_register.proofs.Paging.{page_next}
 use Rattle.keep_desk.proofs.Settling.{one_late}
 use Rattle.keep_desk.proofs.locked.Locked.settle.Goals as goal
 

@@ -2,7 +2,7 @@ ghost use Rattle.std.specs.Prelude.{◌≡◌};
 ghost use Rattle.keep_pages.specs.Histories.{shown_at};
 ghost use Rattle.keep_register.specs.Pages.{IsPage, events_on};
 
-use keep_register::{Naming, Page};
+use crate::{Naming, Page};
 use keep_view::View;
 
 /// What a page of this desk's list shows: the repository just after the events that are on it.

@@ -1,8 +1,8 @@
 use Rattle.std.proofs.Common.{◌∙◌}
 use Rattle.keep_pages.specs.Histories.{state_of}
 use Rattle.keep_register.specs.Pages.{events_on}
-use Rattle.keep_pass.proofs.Paging.{page_laid, page_shown}
-use Rattle.keep_pass.proofs.page.shown_on.Goals as goal
+use Rattle.keep_register.proofs.Paging.{page_laid, page_shown}
+use Rattle.keep_register.proofs.page_shown.shown_on.Goals as goal
 
 pub view-requires : goal.view-requires
 view-requires g c =

@@ -6,11 +6,11 @@ ghost use Rattle.keep_register.specs.Allowed.{MayFollow};
 ghost use Rattle.keep_register.specs.Asked.{WasAsked, counted_after, is_in};
 ghost use Rattle.keep_register.specs.Pages.{IsPage};
 
-use crate::page::shown_on;
+use crate::page_shown::shown_on;
 use crate::rule::{Published, Shows};
+use crate::{Keeper, Naming, Page, Register};
 use keep_chronicle::Sight;
 use keep_ledger::{Refusal, Request, Told};
-use keep_register::{Keeper, Naming, Page, Register};
 use keep_view::View;
 use left_right::reader::{Reader, Reading};
 use std::marker::Model;
@@ -33,7 +33,7 @@ impl<B: Naming> Model for Pass<B> {
     ghost use Rattle.keep_chronicle.specs.Chronicle.{events_of};
     ghost use Rattle.keep_pages.specs.Histories.{length_at, IsHistory};
     ghost use Rattle.keep_register.specs.Pages.{IsPage, events_on};
-    ghost use Rattle.keep_pass.specs.Known.{Known};
+    ghost use Rattle.keep_register.specs.Known.{Known};
 
     ghost Value = { Known };
 
@@ -52,7 +52,7 @@ impl<B: Naming> Model for Pass<B> {
 }
 
 impl<B: Naming> Pass<B> {
-    ghost use Rattle.keep_pass.specs.Known.{fresh};
+    ghost use Rattle.keep_register.specs.Known.{fresh};
 
     /// A pass that has seen nothing yet.
     pub fn new(

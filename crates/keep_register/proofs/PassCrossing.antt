@@ -30,10 +30,10 @@ use Rattle.keep_chronicle.specs.declared.chronicle.Chronicled as chronicled
 use Rattle.keep_register.specs.declared.naming.Naming as naming
 use Rattle.keep_register.specs.contracts.page.Page as page
 use Rattle.keep_register.proofs.Crossing.{page_sync}
-use Rattle.keep_pass.specs.contracts.pass.Pass as pass
-use Rattle.keep_pass.specs.contracts.rule.Published as published
-use Rattle.keep_pass.specs.contracts.rule.PublishedProtocolPageUnit.TheImpl as rules
-use Rattle.keep_pass.specs.contracts.pass.Pass.TheInside as inside
+use Rattle.keep_register.specs.contracts.pass.Pass as pass
+use Rattle.keep_register.specs.contracts.rule.Published as published
+use Rattle.keep_register.specs.contracts.rule.PublishedProtocolPageUnit.TheImpl as rules
+use Rattle.keep_register.specs.contracts.pass.Pass.TheInside as inside
 
 pub number_send : IsSend u64
 number_send = search sendable

@@ -1,5 +1,5 @@
+use crate::{Naming, Page};
 use crossbeam_utils::rule::{Outcome, Protocol};
-use keep_register::{Naming, Page};
 use std::marker::PhantomData;
 
 /// The rule of what is published: it is a page of the desk's list of events, whatever readers know.

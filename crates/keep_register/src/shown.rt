@@ -2,8 +2,8 @@ ghost use Rattle.std.specs.Prelude.{◌≡◌, false, true, IfOk};
 ghost use mathlib.Core.List.{IsPrefix};
 ghost use Rattle.keep_pages.specs.Histories.{shown_at, IsLegal};
 
+use crate::Naming;
 use crate::pass::Pass;
-use keep_register::Naming;
 use keep_view::View;
 
 /// No page can be entered, as where the end is gone from which pages are published. A desk has that end as long as it is

@@ -2,8 +2,8 @@ use Rattle.std.proofs.Common.{◌∙◌}
 use Rattle.keep_journal.specs.History.{length_of}
 use Rattle.keep_chronicle.specs.Chronicle.{events_of}
 use Rattle.keep_pages.proofs.Histories.{length_at-all}
-use Rattle.keep_pass.proofs.Paging.{page_length}
-use Rattle.keep_pass.proofs.pass.Pass.read.Goals as goal
+use Rattle.keep_register.proofs.Paging.{page_length}
+use Rattle.keep_register.proofs.pass.Pass.read.Goals as goal
 
 pub goes_on-requires-clause-counted : goal.goes_on-requires-clause-counted
 goes_on-requires-clause-counted g c =
