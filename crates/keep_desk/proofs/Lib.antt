@@ -1,4 +1,5 @@
 pub mod Answering
+pub mod BookCrossing
 pub mod Cascading
 pub mod Closing
 pub mod Counting

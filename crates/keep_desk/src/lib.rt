@@ -3,6 +3,7 @@
 
 mod answers;
 mod crew;
+mod crossing;
 mod desk;
 mod locked;
 mod opening;
@@ -11,6 +12,7 @@ mod taken_back;
 
 pub use answers::NotOpened;
 pub use crew::Operator;
+pub use crossing::books_cross_threads;
 pub use desk::Desk;
 pub use keep_crew::{DeskError, Gate, NotTold, OpenGate, Plans, Work};
 pub use keep_register::{NoPage, Pass, Shown};

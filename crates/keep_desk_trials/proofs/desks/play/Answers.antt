@@ -1,6 +1,6 @@
 use denote.Exit.{yes}
 use denote.Param.Send.{arg_send, param_send}
-use Rattle.keep_crossing.proofs.Crossing.{book_send}
+use Rattle.keep_desk.proofs.BookCrossing.{book_send}
 use Rattle.keep_desk_trials.specs.contracts.desks.play.dyn-1 as asked
 use Rattle.keep_desk_trials.specs.contracts.desks.play.dyn-2 as counted
 use Rattle.keep_desk_trials.proofs.desks.play.Goals as goal

@@ -1,6 +1,6 @@
 use denote.Exit.{yes}
 use denote.Param.Send.{arg_send, param_send}
-use Rattle.keep_crossing.proofs.Crossing.{book_send}
+use Rattle.keep_desk.proofs.BookCrossing.{book_send}
 use Rattle.keep_main.specs.contracts.desk.crewed.dyn-1 as asked
 use Rattle.keep_main.specs.contracts.desk.crewed.dyn-2 as counted
 use Rattle.keep_main.proofs.desk.crewed.Goals as goal

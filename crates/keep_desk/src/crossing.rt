@@ -1,5 +1,4 @@
 //! What can be handed to another thread: a book, where its shelf can.
-#![tactic(auto)]
 
 ghost use Rattle.std.specs.Prelude.{◌≡◌};
 
