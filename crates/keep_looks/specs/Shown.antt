@@ -9,8 +9,8 @@ use Rattle.keep_snap.specs.Time.{moment_in}
 use Rattle.keep_read.specs.declared.restore_error.RestoreError.{RestoreError}
 use Rattle.keep_nodes.specs.Entries.{EntryData}
 use Rattle.keep_nodes.specs.Listed.{nodes_due}
-use Rattle.keep_tallies.specs.Tallies.{tally_of}
-use Rattle.keep_tallies.specs.declared.tally.Tally.{Tally}
+use Rattle.keep_nodes.specs.Tallies.{tally_of}
+use Rattle.keep_nodes.specs.declared.tally.Tally.{Tally}
 use Rattle.keep_named.specs.Meaning.{named_due}
 use Rattle.keep_named.specs.Rows.{RowData, moment_cmp, row_view, rows_in}
 use Rattle.keep_named.specs.declared.named_error.NamedError.{NamedError}

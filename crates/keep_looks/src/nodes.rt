@@ -4,17 +4,16 @@ ghost use Rattle.keep_catalog.specs.declared.reach_error.ReachError.TheVariants.
 ghost use Rattle.keep_members.specs.Members.{stamp_view, text_view};
 ghost use Rattle.keep_nodes.specs.Entries.{entry_view};
 ghost use Rattle.keep_read.specs.declared.restore_error.RestoreError.TheVariants.{Reach};
-ghost use Rattle.keep_tallies.specs.Tallies as tallies;
+ghost use Rattle.keep_nodes.specs.Tallies as tallies;
 ghost use Rattle.keep_tree.specs.Tree.{kind_view};
 ghost use Rattle.keep_words.specs.Read.{text_of};
 ghost use Rattle.keep_looks.specs.Nodes.{mode_due, moment_at, node_due, node_rows_due, node_shown, nodes_shown, owner_due, second_of, size_due};
 
 use keep_members::{Found, Stamp, members_in};
 use keep_names::Id;
-use keep_nodes::{Entry, nodes_below, nodes_of};
+use keep_nodes::{Entry, Lengths, nodes_below, nodes_of};
 use keep_read::RestoreError;
 use keep_rows::{NodeRow, When};
-use keep_tallies::Lengths;
 use keep_tree::NodeKind;
 use keep_view::View;
 use keep_zone::MachineZone;

@@ -4,12 +4,16 @@
 
 mod choosing;
 mod entry;
+mod lengths;
 mod listing;
 mod pieces;
 mod root;
+mod tally;
 mod walk;
 
 pub use choosing::{matched, node_at, nodes_below};
 pub use entry::Entry;
+pub use lengths::Lengths;
 pub use listing::{nodes_of, whole_nodes_of};
 pub use pieces::piece;
+pub use tally::Tally;

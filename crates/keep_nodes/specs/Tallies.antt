@@ -4,8 +4,8 @@ use Rattle.keep_names.specs.declared.id.Id.{Id}
 use Rattle.keep_repo.specs.Repository.{Repository}
 use Rattle.keep_tree.specs.Tree.{KindData, dir, file, other}
 use Rattle.keep_nodes.specs.Entries.{EntryData}
-use Rattle.keep_tallies.specs.Lengths.{piece_length}
-use Rattle.keep_tallies.specs.declared.tally.Tally.{Tally}
+use Rattle.keep_nodes.specs.Lengths.{piece_length}
+use Rattle.keep_nodes.specs.declared.tally.Tally.{Tally}
 
 abbrev pub is_file : KindData → Bool
 is_file (file content) = true

@@ -1,5 +1,5 @@
-use Rattle.keep_tallies.proofs.Sums.{one_known}
-use Rattle.keep_tallies.proofs.tally.piece_bytes.Goals as goal
+use Rattle.keep_nodes.proofs.Sums.{one_known}
+use Rattle.keep_nodes.proofs.tally.piece_bytes.Goals as goal
 
 pub returns-clause-known : goal.returns-clause-known
 returns-clause-known c =

@@ -9,10 +9,10 @@ use Rattle.keep_names.proofs.Orders.{id_exact}
 use Rattle.keep_names.specs.Orders.{id_cmp}
 use Rattle.keep_names.specs.declared.id.Id.{Id}
 use Rattle.keep_repo.specs.Repository.{Repository}
-use Rattle.keep_tallies.specs.Lengths.{AreLengths, piece_length}
+use Rattle.keep_nodes.specs.Lengths.{AreLengths, piece_length}
 use Rattle.keep_nodes.specs.Entries.{EntryData}
-use Rattle.keep_tallies.specs.Tallies.{at_most, bytes_of, is_file, is_folder, is_other, tally_of}
-use Rattle.keep_tallies.specs.declared.tally.Tally.{Tally}
+use Rattle.keep_nodes.specs.Tallies.{at_most, bytes_of, is_file, is_folder, is_other, tally_of}
+use Rattle.keep_nodes.specs.declared.tally.Tally.{Tally}
 
 -- one more, where what is left was summed too
 pub one_more : (bytes x more rest total later : ℕ) → at_most (bytes + (x + rest)) ≡ total → more ≡ at_most x → later ≡ min (bytes + more) (2 ^ 64 - 1) → at_most (later + rest) ≡ total

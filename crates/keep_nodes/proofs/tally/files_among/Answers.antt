@@ -4,8 +4,8 @@ use Rattle.std.proofs.lemmas.Iterator.Consumers.{YieldsList-at, YieldsList-from_
 use Rattle.std.proofs.lemmas.List.Sums.{length-filter}
 use Rattle.keep_nodes.specs.declared.entry.Entry.{Entry}
 use Rattle.keep_tree.specs.Tree.{kind_view}
-use Rattle.keep_tallies.specs.Tallies as spec
-use Rattle.keep_tallies.proofs.tally.files_among.Goals as goal
+use Rattle.keep_nodes.specs.Tallies as spec
+use Rattle.keep_nodes.proofs.tally.files_among.Goals as goal
 
 pub returns : goal.returns
 returns c =

@@ -1,13 +1,13 @@
 ghost use Rattle.std.specs.Prelude.{◌≡◌, ◌<◌, ◌^◌, IfOk, count_by, length, map};
 ghost use Rattle.keep_tree.specs.Tree.{kind_view};
 ghost use Rattle.keep_nodes.specs.Entries.{entry_view};
-ghost use Rattle.keep_tallies.specs.Lengths.{AreLengths, piece_length};
-ghost use Rattle.keep_tallies.specs.Tallies as spec;
-ghost use Rattle.keep_tallies.specs.Tallies.{at_most, bytes_of, content_length, kind_length, tally_of};
+ghost use Rattle.keep_nodes.specs.Lengths.{AreLengths, piece_length};
+ghost use Rattle.keep_nodes.specs.Tallies as spec;
+ghost use Rattle.keep_nodes.specs.Tallies.{at_most, bytes_of, content_length, kind_length, tally_of};
 
+use crate::Entry;
 use keep_catalog::Catalog;
 use keep_names::{BlobId, Id};
-use keep_nodes::Entry;
 use keep_tree::NodeKind;
 use std::alloc::AllocError;
 use std::collections::BTreeMap;

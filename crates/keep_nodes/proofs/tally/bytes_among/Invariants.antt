@@ -1,8 +1,8 @@
 use Rattle.std.proofs.Common.{◌≡◌, ◌+◌, ◌<◌, ◌^◌, drop, map}
 use Rattle.keep_nodes.specs.Entries.{entry_view}
-use Rattle.keep_tallies.specs.Lengths.{AreLengths}
-use Rattle.keep_tallies.specs.Tallies.{at_most, bytes_of}
-use Rattle.keep_tallies.proofs.tally.bytes_among.Given as goal
+use Rattle.keep_nodes.specs.Lengths.{AreLengths}
+use Rattle.keep_nodes.specs.Tallies.{at_most, bytes_of}
+use Rattle.keep_nodes.proofs.tally.bytes_among.Given as goal
 
 abbrev pub invariant-loop-entry : goal.invariant-loop-entry
 invariant-loop-entry l = record {

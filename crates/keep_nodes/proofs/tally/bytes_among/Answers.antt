@@ -1,9 +1,9 @@
 use Rattle.std.proofs.Common.{drop, map}
 use Rattle.std.proofs.lemmas.List.{at_drop_all}
 use Rattle.keep_nodes.specs.Entries.{entry_view}
-use Rattle.keep_tallies.specs.Tallies.{bytes_of}
-use Rattle.keep_tallies.proofs.Sums.{at_end}
-use Rattle.keep_tallies.proofs.tally.bytes_among.Goals as goal
+use Rattle.keep_nodes.specs.Tallies.{bytes_of}
+use Rattle.keep_nodes.proofs.Sums.{at_end}
+use Rattle.keep_nodes.proofs.tally.bytes_among.Goals as goal
 
 pub returns-clause-bytes : goal.returns-clause-bytes
 returns-clause-bytes c =

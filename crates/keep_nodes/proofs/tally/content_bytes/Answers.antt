@@ -1,8 +1,8 @@
 use Rattle.std.proofs.Common.{drop}
 use Rattle.std.proofs.lemmas.List.{at_drop_all}
-use Rattle.keep_tallies.specs.Tallies.{content_length}
-use Rattle.keep_tallies.proofs.Sums.{at_end}
-use Rattle.keep_tallies.proofs.tally.content_bytes.Goals as goal
+use Rattle.keep_nodes.specs.Tallies.{content_length}
+use Rattle.keep_nodes.proofs.Sums.{at_end}
+use Rattle.keep_nodes.proofs.tally.content_bytes.Goals as goal
 
 pub returns-clause-bytes : goal.returns-clause-bytes
 returns-clause-bytes c =

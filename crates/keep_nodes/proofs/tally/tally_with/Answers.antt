@@ -1,8 +1,8 @@
 use Rattle.std.proofs.Common.{map, sym, ◌∙◌}
 use Rattle.keep_nodes.specs.Entries.{EntryData, entry_view}
-use Rattle.keep_tallies.specs.Tallies.{is_file, is_folder, is_other}
-use Rattle.keep_tallies.proofs.Sums.{count-view, tally_made}
-use Rattle.keep_tallies.proofs.tally.tally_with.Goals as goal
+use Rattle.keep_nodes.specs.Tallies.{is_file, is_folder, is_other}
+use Rattle.keep_nodes.proofs.Sums.{count-view, tally_made}
+use Rattle.keep_nodes.proofs.tally.tally_with.Goals as goal
 
 pub returns-clause-tally : goal.returns-clause-tally
 returns-clause-tally c =

@@ -1,7 +1,7 @@
 use Rattle.std.proofs.Common.{◌≡◌, ◌+◌, ◌<◌, ◌^◌, drop}
-use Rattle.keep_tallies.specs.Lengths.{AreLengths}
-use Rattle.keep_tallies.specs.Tallies.{at_most, content_length}
-use Rattle.keep_tallies.proofs.tally.content_bytes.Given as goal
+use Rattle.keep_nodes.specs.Lengths.{AreLengths}
+use Rattle.keep_nodes.specs.Tallies.{at_most, content_length}
+use Rattle.keep_nodes.proofs.tally.content_bytes.Given as goal
 
 abbrev pub invariant-loop-id : goal.invariant-loop-id
 invariant-loop-id l = record {

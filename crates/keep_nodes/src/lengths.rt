@@ -1,12 +1,12 @@
 ghost use Rattle.std.specs.Prelude.{◌≡◌, IfOk, map};
 ghost use Rattle.keep_names.specs.declared.id.Id as the_id;
 ghost use Rattle.keep_nodes.specs.Entries.{entry_view};
-ghost use Rattle.keep_tallies.specs.Tallies.{tally_of};
+ghost use Rattle.keep_nodes.specs.Tallies.{tally_of};
 
+use crate::Entry;
 use crate::tally::{Tally, tally_with};
 use keep_catalog::Catalog;
 use keep_names::Id;
-use keep_nodes::Entry;
 use std::alloc::{AllocError, Global};
 use std::collections::BTreeMap;
 use std::marker::Model;
@@ -20,7 +20,7 @@ pub struct Lengths<'a> {
 
 impl<'a> Model for Lengths<'a> {
     ghost use Rattle.keep_repo.specs.Repository.{Repository, coded_repository};
-    ghost use Rattle.keep_tallies.specs.Lengths.{AreLengths};
+    ghost use Rattle.keep_nodes.specs.Lengths.{AreLengths};
 
     ghost Value = { Repository };
 
