@@ -1,9 +1,11 @@
 use crate::state::State;
 use crate::stop::Stop;
 use crate::words;
-use keep_differences::{Difference, differences};
 use keep_names::Id;
-use keep_nodes::{Entry, Lengths, matched, node_at, nodes_below, nodes_of, piece, whole_nodes_of};
+use keep_nodes::{
+    Difference, Entry, Lengths, differences, matched, node_at, nodes_below, nodes_of, piece,
+    whole_nodes_of,
+};
 use keep_read::RestoreError;
 use keep_tree::{NodeKind, parse_pattern};
 use std::alloc::AllocError;

@@ -11,7 +11,7 @@ use Rattle.keep_nodes.specs.Choosing.{nodes_below}
 use Rattle.keep_nodes.specs.Entries.{EntryData}
 use Rattle.keep_nodes.specs.Listed.{nodes_due}
 use Rattle.keep_nodes.specs.Tallies.{is_file, is_folder, tally_of}
-use Rattle.keep_differences.specs.Differences.{DifferenceData, added, changed, differences, removed}
+use Rattle.keep_nodes.specs.Differences.{DifferenceData, added, changed, differences, removed}
 use Rattle.keep_rows.specs.declared.difference.Difference.{Difference}
 use Rattle.keep_rows.specs.declared.difference.Difference.TheVariants.{Added, Removed, Modified}
 use Rattle.keep_rows.specs.declared.difference.DifferenceRow.{DifferenceRow}

@@ -1,13 +1,12 @@
 ghost use Rattle.std.specs.Prelude.{◌≡◌, IfOk, map};
 ghost use Rattle.keep_docs.specs.Doc.{Answers};
 ghost use Rattle.keep_catalog.specs.declared.reach_error.ReachError.TheVariants.{Memory};
-ghost use Rattle.keep_differences.specs.Lent.{difference_view};
+ghost use Rattle.keep_nodes.specs.Lent.{difference_view};
 ghost use Rattle.keep_read.specs.declared.restore_error.RestoreError.TheVariants.{Reach};
 ghost use Rattle.keep_looks.specs.Nodes.{difference_due, difference_rows_due, difference_shown};
 
-use keep_differences::{Difference, differences};
 use keep_names::Id;
-use keep_nodes::nodes_of;
+use keep_nodes::{Difference, differences, nodes_of};
 use keep_read::RestoreError;
 use keep_rows::DifferenceRow;
 use keep_view::View;

@@ -1,4 +1,6 @@
+pub mod Alike
 pub mod Found
+pub mod Paths
 pub mod Read
 pub mod Roots
 pub mod Sums

@@ -2,8 +2,12 @@
 //! of its files one by one.
 #![tactic(auto)]
 
+mod by_path;
 mod choosing;
+mod comparing;
+mod difference;
 mod entry;
+mod laws;
 mod lengths;
 mod listing;
 mod pieces;
@@ -12,7 +16,10 @@ mod tally;
 mod walk;
 
 pub use choosing::{matched, node_at, nodes_below};
+pub use comparing::differences;
+pub use difference::Difference;
 pub use entry::Entry;
+pub use laws::nodes_that_are_written_alike_are_one;
 pub use lengths::Lengths;
 pub use listing::{nodes_of, whole_nodes_of};
 pub use pieces::piece;

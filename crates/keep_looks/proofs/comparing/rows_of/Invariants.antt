@@ -1,5 +1,5 @@
 use Rattle.std.proofs.Common.{◌≡◌, map, take}
-use Rattle.keep_differences.specs.Lent.{difference_view}
+use Rattle.keep_nodes.specs.Lent.{difference_view}
 use Rattle.keep_looks.specs.Nodes.{difference_due, difference_shown}
 use Rattle.keep_looks.proofs.comparing.rows_of.Given as goal
 

@@ -1,8 +1,8 @@
 use Rattle.std.proofs.Common.{◌≡◌, drop, map}
 use Rattle.keep_nodes.specs.Entries.{entry_view}
-use Rattle.keep_differences.specs.Differences as spec
-use Rattle.keep_differences.specs.Lent.{paths_of}
-use Rattle.keep_differences.proofs.by_path.put_all.Given as goal
+use Rattle.keep_nodes.specs.Differences as spec
+use Rattle.keep_nodes.specs.Lent.{paths_of}
+use Rattle.keep_nodes.proofs.by_path.put_all.Given as goal
 
 abbrev pub invariant-loop-entry : goal.invariant-loop-entry
 invariant-loop-entry l =

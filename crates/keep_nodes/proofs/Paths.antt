@@ -21,8 +21,8 @@ use Rattle.keep_read.specs.Restored.{path_cmp}
 use Rattle.keep_nodes.specs.Choosing.{lent_view}
 use Rattle.keep_nodes.specs.Entries.{EntryData}
 use Rattle.keep_nodes.specs.declared.entry.Entry.{Entry}
-use Rattle.keep_differences.specs.Differences.{by_path, difference_at, differences, put_all}
-use Rattle.keep_differences.specs.Lent.{Lent, key_view, paths_of}
+use Rattle.keep_nodes.specs.Differences.{by_path, difference_at, differences, put_all}
+use Rattle.keep_nodes.specs.Lent.{Lent, key_view, paths_of}
 
 lookup_view : (es : List (String Global × Bor Entry)) (q : List ℕ) → lookup (is_at (path_cmp q)) (map key_view es) ≡ option_map lent_view (lookup (is_at (λ k. slice_cmp nat_cmp q (string_bytes k))) es)
 lookup_view [] q = refl

@@ -1,10 +1,10 @@
 use Rattle.std.proofs.Common.{map, ap, ◌∙◌}
 use Rattle.std.proofs.lemmas.Result.{IfOk-weaker}
 use Rattle.keep_nodes.specs.Entries.{entry_view}
-use Rattle.keep_differences.specs.Differences as spec
-use Rattle.keep_differences.specs.Lent.{paths_of}
-use Rattle.keep_differences.proofs.Paths.{told}
-use Rattle.keep_differences.proofs.comparing.differences.Goals as goal
+use Rattle.keep_nodes.specs.Differences as spec
+use Rattle.keep_nodes.specs.Lent.{paths_of}
+use Rattle.keep_nodes.proofs.Paths.{told}
+use Rattle.keep_nodes.proofs.comparing.differences.Goals as goal
 
 pub returns : goal.returns
 returns c =

@@ -1,9 +1,9 @@
 use Rattle.std.proofs.Common.{◌≡◌, ◌++◌, map}
 use Rattle.std.specs.List.{filter_map}
-use Rattle.keep_differences.specs.Differences.{difference_at}
-use Rattle.keep_differences.specs.Lent.{difference_view, paths_of}
-use Rattle.keep_differences.proofs.Paths.{path_in}
-use Rattle.keep_differences.proofs.comparing.found_at.Given as goal
+use Rattle.keep_nodes.specs.Differences.{difference_at}
+use Rattle.keep_nodes.specs.Lent.{difference_view, paths_of}
+use Rattle.keep_nodes.proofs.Paths.{path_in}
+use Rattle.keep_nodes.proofs.comparing.found_at.Given as goal
 
 abbrev pub invariant-loop-path : goal.invariant-loop-path
 invariant-loop-path l =

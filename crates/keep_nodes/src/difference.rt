@@ -1,4 +1,4 @@
-use keep_nodes::Entry;
+use crate::Entry;
 
 /// How a path of two snapshots differs.
 #[derive(Clone, Copy)]

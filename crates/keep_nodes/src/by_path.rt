@@ -2,10 +2,10 @@ ghost use Rattle.std.specs.Prelude.{◌≡◌, IfOk, OnOk, map, option_map};
 ghost use Rattle.std.specs.FinMap as finite;
 ghost use Rattle.keep_nodes.specs.Choosing.{lent_view};
 ghost use Rattle.keep_nodes.specs.Entries.{entry_view};
-ghost use Rattle.keep_differences.specs.Differences as spec;
-ghost use Rattle.keep_differences.specs.Lent.{paths_of};
+ghost use Rattle.keep_nodes.specs.Differences as spec;
+ghost use Rattle.keep_nodes.specs.Lent.{paths_of};
 
-use keep_nodes::Entry;
+use crate::Entry;
 use std::alloc::{AllocError, Global};
 use std::collections::BTreeMap;
 

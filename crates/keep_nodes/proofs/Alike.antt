@@ -5,7 +5,7 @@ use Rattle.std.proofs.lemmas.Slice.Eq.{bytes_eq-Decides}
 use Rattle.keep_tree.proofs.ReadBack.{tree_of-compact_text}
 use Rattle.keep_tree.specs.Shape.{IsNode, IsTree}
 use Rattle.keep_tree.specs.Tree.{NodeData, tree_of}
-use Rattle.keep_differences.specs.Differences.{is_same, node_text}
+use Rattle.keep_nodes.specs.Differences.{is_same, node_text}
 
 alone : (node : NodeData) → IsNode node → IsTree (node ∷ [])
 alone node is = record { each = All-from_recursion IsNode (node ∷ []) (is, tt); distinct = refl }

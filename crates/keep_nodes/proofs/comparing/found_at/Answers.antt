@@ -1,10 +1,10 @@
 use Rattle.std.proofs.Common.{◌≡◌, ℕ, List, [], ◌++◌, map, sym, ap, ◌∙◌, rules}
 use Rattle.std.proofs.lemmas.List.{append-nil}
 use Rattle.std.specs.List.{filter_map}
-use Rattle.keep_differences.specs.Differences.{difference_at}
-use Rattle.keep_differences.specs.Lent.{difference_view, paths_of}
-use Rattle.keep_differences.proofs.Paths.{path_in, paths_listed}
-use Rattle.keep_differences.proofs.comparing.found_at.Goals as goal
+use Rattle.keep_nodes.specs.Differences.{difference_at}
+use Rattle.keep_nodes.specs.Lent.{difference_view, paths_of}
+use Rattle.keep_nodes.proofs.Paths.{path_in, paths_listed}
+use Rattle.keep_nodes.proofs.comparing.found_at.Goals as goal
 
 pub returns : goal.returns
 returns c =

@@ -4,13 +4,13 @@ ghost use Rattle.std.specs.List.{filter_map};
 ghost use Rattle.keep_tree.specs.Tree.{node_view};
 ghost use Rattle.keep_nodes.specs.Choosing.{lent_view};
 ghost use Rattle.keep_nodes.specs.Entries.{entry_view};
-ghost use Rattle.keep_differences.specs.Differences as spec;
-ghost use Rattle.keep_differences.specs.Differences.{difference_at, node_text};
-ghost use Rattle.keep_differences.specs.Lent.{difference_view, paths_of};
+ghost use Rattle.keep_nodes.specs.Differences as spec;
+ghost use Rattle.keep_nodes.specs.Differences.{difference_at, node_text};
+ghost use Rattle.keep_nodes.specs.Lent.{difference_view, paths_of};
 
+use crate::Entry;
 use crate::by_path::{ByPath, by_path, node_at, put_all};
 use crate::difference::Difference;
-use keep_nodes::Entry;
 use keep_tree::{Tree, without, write_tree};
 use std::alloc::{AllocError, Global};
 use std::slice;

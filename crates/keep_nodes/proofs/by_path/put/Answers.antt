@@ -1,9 +1,9 @@
 use Rattle.std.proofs.Common.{◌∙◌, ap}
 use Rattle.std.specs.FinMap as finite
 use Rattle.keep_nodes.specs.Choosing.{lent_view}
-use Rattle.keep_differences.specs.Lent.{paths_of}
-use Rattle.keep_differences.proofs.Paths.{one_more}
-use Rattle.keep_differences.proofs.by_path.put.Goals as goal
+use Rattle.keep_nodes.specs.Lent.{paths_of}
+use Rattle.keep_nodes.proofs.Paths.{one_more}
+use Rattle.keep_nodes.proofs.by_path.put.Goals as goal
 
 pub returns : goal.returns
 returns c =
