@@ -1,4 +1,5 @@
 pub mod Alike
+pub mod Files
 pub mod Found
 pub mod Paths
 pub mod Read

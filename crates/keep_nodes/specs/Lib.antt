@@ -1,3 +1,4 @@
+pub mod Agreed
 pub mod Choosing
 pub mod Differences
 pub mod Entries

@@ -1,7 +1,8 @@
-//! What a snapshot has by path: its nodes with their members, found and compared without their bytes, and the pieces
-//! of its files one by one.
+//! What a snapshot has by path: its nodes with their members, found and compared without their bytes, counted and
+//! measured, how they differ from another's, and the pieces of its files one by one. A restore gives just their files.
 #![tactic(auto)]
 
+mod agreement;
 mod by_path;
 mod choosing;
 mod comparing;
@@ -15,6 +16,7 @@ mod root;
 mod tally;
 mod walk;
 
+pub use agreement::{a_restore_gives_the_files_of_the_nodes, what_is_whole_is_listed_alike};
 pub use choosing::{matched, node_at, nodes_below};
 pub use comparing::differences;
 pub use difference::Difference;

@@ -1,4 +1,4 @@
-ghost use Rattle.keep_agreed.specs.Agreed.{ContentsAreListed, RestoresWhatIsListed, WholeIsListed};
+ghost use Rattle.keep_nodes.specs.Agreed.{ContentsAreListed, RestoresWhatIsListed, WholeIsListed};
 
 /// What a restore gives of a snapshot is what its listed nodes say: the bytes of the files at their paths, and how many
 /// nodes are skipped. It is refused where the list is that asks for all pieces, by the same refusal.

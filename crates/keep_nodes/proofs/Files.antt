@@ -21,7 +21,7 @@ use Rattle.keep_read.specs.declared.restore_error.RestoreError.{RestoreError}
 use Rattle.keep_nodes.proofs.Whole.{whole_had}
 use Rattle.keep_nodes.specs.Entries.{EntryData, at, entries_at, entries_in, entries_of, under}
 use Rattle.keep_nodes.specs.Listed.{listed_by, listed_from, nodes_due, reached, root_by, root_due, tree_refusal, whole_nodes_due, whole_refusal}
-use Rattle.keep_agreed.specs.Agreed.{content_at, content_of, restored_by}
+use Rattle.keep_nodes.specs.Agreed.{content_at, content_of, restored_by}
 
 flat_map-flat_map : {A B C : Type 0} (g : B → List C) (f : A → List B) (xs : List A) → flat_map g (flat_map f xs) ≡ flat_map (λ x. flat_map g (f x)) xs
 flat_map-flat_map g f [] = refl

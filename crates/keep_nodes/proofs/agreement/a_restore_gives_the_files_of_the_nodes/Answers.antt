@@ -1,5 +1,5 @@
-use Rattle.keep_agreed.proofs.Files.{contents_listed, restored_listed}
-use Rattle.keep_agreed.proofs.laws.a_restore_gives_the_files_of_the_nodes.Goals as goal
+use Rattle.keep_nodes.proofs.Files.{contents_listed, restored_listed}
+use Rattle.keep_nodes.proofs.agreement.a_restore_gives_the_files_of_the_nodes.Goals as goal
 
 pub returns-clause-contents : goal.returns-clause-contents
 returns-clause-contents c = contents_listed
