@@ -4,8 +4,8 @@ use crate::begun::Begun;
 use crate::intake::{Intake, name_of, others_of};
 use crate::keeps::Keeps;
 use crate::not_backed_up::NotBackedUp;
+use crate::type_name::type_name_of;
 use keep_names::Id;
-use keep_sighted::type_name_of;
 use keep_sources::{Receives, Sight, Stop};
 
 impl<B: Begun, K: Keeps> Receives for Intake<'_, '_, B, K> {

@@ -2,18 +2,18 @@ ghost use Rattle.std.specs.Prelude.{◌≡◌, IfOk, string_bytes};
 ghost use Rattle.keep_archive.specs.Archive.{carried_view};
 ghost use Rattle.keep_members.specs.Carried.{IsCarried};
 ghost use Rattle.keep_quoted.specs.Quote as spec;
-ghost use Rattle.keep_sighted.specs.Sighted.{sighted};
+ghost use Rattle.keep_backups.specs.Sighted.{sighted};
 
 use crate::begun::Begun;
 use crate::keeps::Keeps;
 use crate::lent::Lent;
+use crate::members::members_of;
 use crate::not_backed_up::NotBackedUp;
 use keep_archive::{Archive, Carried};
 use keep_backup::Cut;
 use keep_members::carried;
 use keep_plan::PlanError;
 use keep_quoted::quote;
-use keep_sighted::members_of;
 use keep_sources::{Sight, Skipped, Stop};
 use std::alloc::{AllocError, Global};
 

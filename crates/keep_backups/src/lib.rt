@@ -8,7 +8,9 @@ mod giving;
 mod intake;
 mod keeps;
 mod lent;
+mod members;
 mod not_backed_up;
+mod type_name;
 
 pub use backed_up::BackedUp;
 pub use backing_up::{Wish, back_up};

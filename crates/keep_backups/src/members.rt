@@ -1,6 +1,6 @@
 ghost use Rattle.std.specs.Prelude.{◌≡◌, IfOk, option_map, string_bytes};
 ghost use Rattle.keep_members.specs.Members.{members_data, stamp_view, text_view};
-ghost use Rattle.keep_sighted.specs.Sighted as spec;
+ghost use Rattle.keep_backups.specs.Sighted as spec;
 
 use keep_members::{Members, Stamp, go_mode};
 use keep_sources::{Kind, Moment, Sight};

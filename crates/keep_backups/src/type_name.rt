@@ -1,5 +1,5 @@
 ghost use Rattle.std.specs.Prelude.{◌≡◌};
-ghost use Rattle.keep_sighted.specs.Sighted as spec;
+ghost use Rattle.keep_backups.specs.Sighted as spec;
 
 use keep_sources::Kind;
 
