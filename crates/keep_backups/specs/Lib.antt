@@ -1,3 +1,4 @@
 pub mod Holding
+pub mod Known
 pub mod Parts
 pub mod Sighted

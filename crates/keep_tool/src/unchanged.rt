@@ -1,9 +1,9 @@
 use crate::failure::Failure;
 use crate::run::Run;
 use keep_backup::BackupFacts;
+use keep_backups::known_of;
 use keep_book::Book;
 use keep_catalog::ReachError;
-use keep_known::known_of;
 use keep_named::{SnapshotRow, snapshots_of};
 use keep_names::Id;
 use keep_read::RestoreError;

@@ -1,7 +1,7 @@
 ghost use Rattle.std.specs.Prelude.{◌≡◌, IfOk, option_map};
 ghost use Rattle.keep_members.specs.Members.{stamp_view};
 ghost use Rattle.keep_tree.specs.Tree.{node_view};
-ghost use Rattle.keep_known.specs.Known.{known_due, known_view};
+ghost use Rattle.keep_backups.specs.Known.{known_due, known_view};
 
 use keep_members::{Stamp, members_in};
 use keep_names::Id;
