@@ -10,7 +10,7 @@ use Rattle.keep_words.specs.Read.{has_flag, number_of, text_of}
 use Rattle.keep_words.specs.Said.{IsSaid, name_of}
 use Rattle.keep_words.specs.declared.command.Command.{Command}
 use Rattle.keep_words.specs.declared.words.Words.{Words}
-use Rattle.keep_asking.specs.Names.{is_changing, is_reading}
+use Rattle.keep_typed.specs.Names.{is_changing, is_reading}
 
 -- the first that is there
 abbrev pub or_other : {T : Type 0} → Option T → Option T → Option T

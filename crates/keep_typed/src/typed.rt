@@ -3,9 +3,10 @@ ghost use Rattle.clap.specs.Words.{subcommand_rows_of};
 ghost use Rattle.keep_words.specs.Read.{rows_in};
 ghost use Rattle.keep_typed.specs.Typed.{IsAsked, IsWords, ReadsCommand, ReadsMatches, ReadsWords};
 
+use crate::changes::changing;
+use crate::reads::reading;
 use clap::error::ErrorKind;
 use clap::{ArgMatches, Error};
-use keep_asking::{changing, reading};
 use keep_forms::keep_command;
 use keep_words::{Command, Words, flag, number, refusal, text};
 use std::alloc::Global;

@@ -1,7 +1,7 @@
 ghost use Rattle.std.specs.Prelude.{◌≡◌, IfOk};
 ghost use Rattle.keep_words.specs.Read.{place_of, rows_in};
 ghost use Rattle.keep_words.specs.Said.{Asks, IsChosen, IsRestore, change_of};
-ghost use Rattle.keep_asking.specs.Names.{is_reading, is_telling};
+ghost use Rattle.keep_typed.specs.Names.{is_reading, is_telling};
 
 use clap::ArgMatches;
 use keep_words::{Chosen, Command, Restore, count, flag, number, text, texts};

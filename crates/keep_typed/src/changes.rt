@@ -2,7 +2,7 @@ ghost use Rattle.std.specs.Prelude.{IfOk};
 ghost use Rattle.keep_words.specs.Faults.{fault_in};
 ghost use Rattle.keep_words.specs.Read.{Reads, rows_in};
 ghost use Rattle.keep_words.specs.Said.{Asks, IsBackup, IsRewrite};
-ghost use Rattle.keep_asking.specs.Names.{is_changing, is_taking};
+ghost use Rattle.keep_typed.specs.Names.{is_changing, is_taking};
 
 use crate::forgetting::forget;
 use crate::reads::{change, place};
