@@ -12,6 +12,7 @@ mod naming;
 mod nodes;
 mod showing;
 mod unlisted;
+mod zone;
 
 pub use advice::NamedAdvice;
 pub use choosing::chosen_of;
@@ -22,3 +23,4 @@ pub use naming::snapshot_named;
 pub use nodes::node_rows;
 pub use showing::{Shown, snapshot_rows};
 pub use unlisted::Unlisted;
+pub use zone::MachineZone;

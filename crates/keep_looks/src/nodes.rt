@@ -9,6 +9,7 @@ ghost use Rattle.keep_tree.specs.Tree.{kind_view};
 ghost use Rattle.keep_words.specs.Read.{text_of};
 ghost use Rattle.keep_looks.specs.Nodes.{mode_due, moment_at, node_due, node_rows_due, node_shown, nodes_shown, owner_due, second_of, size_due};
 
+use crate::MachineZone;
 use keep_members::{Found, Stamp, members_in};
 use keep_names::Id;
 use keep_nodes::{Entry, Lengths, nodes_below, nodes_of};
@@ -16,7 +17,6 @@ use keep_read::RestoreError;
 use keep_rows::{NodeRow, When};
 use keep_tree::NodeKind;
 use keep_view::View;
-use keep_zone::MachineZone;
 use std::alloc::{AllocError, Global};
 use std::slice;
 

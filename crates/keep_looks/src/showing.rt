@@ -2,6 +2,7 @@ ghost use Rattle.std.specs.Prelude.{◌≡◌, IfOk, [], map, option_map, string
 ghost use Rattle.keep_named.specs.Rows.{row_view};
 ghost use Rattle.keep_looks.specs.Shown.{AreRowsShown, AreShown, moment_due, row_data, row_with};
 
+use crate::MachineZone;
 use crate::choosing::chosen_of;
 use crate::listing::nodes_or_none;
 use crate::unlisted::Unlisted;
@@ -12,7 +13,6 @@ use keep_rows::{SnapshotRow, When};
 use keep_snap::parse_moment;
 use keep_view::View;
 use keep_words::Chosen;
-use keep_zone::MachineZone;
 use std::alloc::{AllocError, Global};
 
 /// The snapshots that are shown, and those of them that can't be listed: their rows have no files and no bytes.

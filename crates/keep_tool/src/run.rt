@@ -1,7 +1,7 @@
 use crate::failure::Failure;
 use keep_docs::write_doc;
 use keep_jobs::{Cut, Settings};
-use keep_zone::MachineZone;
+use keep_looks::MachineZone;
 use serde_json::Value;
 use std::alloc::Global;
 use std::io::Write;

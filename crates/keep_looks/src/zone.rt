@@ -1,5 +1,4 @@
 //! The time zone of the machine.
-#![tactic(auto)]
 
 use jiff::Timestamp;
 use jiff::tz::{SystemTimeZone, TimeZoneDatabase};
