@@ -7,7 +7,7 @@ use crate::outcome::refused;
 use crate::places::place_of;
 use crate::run::Run;
 use crate::unchanged::unchanged;
-use keep_advice::PlanAdvice;
+use keep_acts::PlanAdvice;
 use keep_backup::BackupFacts;
 use keep_backups::{BackedUp, NotBackedUp, Wish, back_up};
 use keep_book::Book;

@@ -1,7 +1,6 @@
 use crate::failure::Failure;
 use crate::run::Run;
-use keep_acts::{Made, NotDone, Outcome};
-use keep_advice::{Advice, PlanAdvice};
+use keep_acts::{Advice, Made, NotDone, Outcome, PlanAdvice};
 use keep_book::TakenBack;
 use keep_change::Change;
 use keep_events::parts_of;

@@ -7,7 +7,7 @@ pub struct PlanAdvice<'a>(pub &'a PlanError);
 
 impl fmt::Display for PlanAdvice<'_> {
     ghost use Rattle.std.specs.Prelude.{Some};
-    ghost use Rattle.keep_advice.specs.PlanAdvice.{plan_advice_text};
+    ghost use Rattle.keep_acts.specs.PlanAdvice.{plan_advice_text};
 
     ghost output = { λ advice. Some (plan_advice_text advice.0.now) };
 

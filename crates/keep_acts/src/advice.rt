@@ -11,7 +11,7 @@ pub struct Advice<'a> {
 
 impl fmt::Display for Advice<'_> {
     ghost use Rattle.std.specs.Prelude.{Some};
-    ghost use Rattle.keep_advice.specs.Advice.{advice_text};
+    ghost use Rattle.keep_acts.specs.Advice.{advice_text};
 
     ghost output = { λ advice. Some (advice_text advice.about advice.refusal.now) };
 

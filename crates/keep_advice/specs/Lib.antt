@@ -1,2 +1,0 @@
-pub mod Advice
-pub mod PlanAdvice
