@@ -10,6 +10,7 @@ mod not_done;
 mod outcome;
 mod plan_advice;
 mod pruning;
+mod relied;
 
 pub use advice::Advice;
 pub use asking::ask;
@@ -20,3 +21,4 @@ pub use not_done::NotDone;
 pub use outcome::Outcome;
 pub use plan_advice::PlanAdvice;
 pub use pruning::{Pruned, prune};
+pub use relied::misnamed_present;
