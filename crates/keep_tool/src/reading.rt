@@ -2,7 +2,7 @@ use crate::failure::Failure;
 use crate::opening::over_folder;
 use crate::run::Run;
 use crate::script::script;
-use keep_beginnings::{BeginError, begin};
+use keep_folder::{BeginError, begin};
 use keep_looks::MachineZone;
 use keep_openings::Unopened;
 use keep_typed::read_words;

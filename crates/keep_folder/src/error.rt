@@ -16,7 +16,7 @@ pub enum BeginError {
 impl From<io::Error> for BeginError {
     ghost use Rattle.std.specs.Prelude.{◌≡◌};
     ghost use Rattle.keep_disk.specs.Ends.{end_of};
-    ghost use Rattle.keep_beginnings.specs.declared.error.BeginError.TheVariants.{Folder};
+    ghost use Rattle.keep_folder.specs.declared.error.BeginError.TheVariants.{Folder};
 
     ghost from_gives = { λ error why. why ≡ Folder (end_of error) };
 
@@ -27,8 +27,8 @@ impl From<io::Error> for BeginError {
 
 impl From<ConfigError> for BeginError {
     ghost use Rattle.std.specs.Prelude.{◌≡◌};
-    ghost use Rattle.keep_beginnings.specs.Config.{end_of_config};
-    ghost use Rattle.keep_beginnings.specs.declared.error.BeginError.TheVariants.{Folder};
+    ghost use Rattle.keep_folder.specs.Config.{end_of_config};
+    ghost use Rattle.keep_folder.specs.declared.error.BeginError.TheVariants.{Folder};
 
     ghost from_gives = { λ error why. why ≡ Folder (end_of_config error) };
 
@@ -42,7 +42,7 @@ impl From<ConfigError> for BeginError {
 
 impl From<AllocError> for BeginError {
     ghost use Rattle.std.specs.Prelude.{◌≡◌};
-    ghost use Rattle.keep_beginnings.specs.declared.error.BeginError.TheVariants.{Folder};
+    ghost use Rattle.keep_folder.specs.declared.error.BeginError.TheVariants.{Folder};
     ghost use Rattle.keep_disk.specs.declared.error.FolderError.TheVariants.{Memory};
 
     ghost from_gives = { λ _ error. error ≡ Folder Memory };

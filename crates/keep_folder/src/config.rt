@@ -1,5 +1,5 @@
 ghost use Rattle.std.specs.Prelude.{IfOk, string_bytes};
-ghost use Rattle.keep_beginnings.specs.Config.{IsConfigOf};
+ghost use Rattle.keep_folder.specs.Config.{IsConfigOf};
 
 use keep_docs::{ConfigError, read_config};
 use keep_names::Id;
