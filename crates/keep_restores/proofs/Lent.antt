@@ -6,7 +6,7 @@ use Rattle.keep_nodes.specs.Choosing.{lent_view}
 use Rattle.keep_nodes.specs.Entries.{EntryData, entry_view}
 use Rattle.keep_nodes.specs.declared.entry.Entry.{Entry}
 use Rattle.keep_putting.specs.declared.wanted.Wanted.{Wanted}
-use Rattle.keep_wanted.specs.Wanted.{IsWantedOf}
+use Rattle.keep_restores.specs.Wanted.{IsWantedOf}
 
 -- what is lent
 abbrev pub lent : List (Bor Entry) → List Entry

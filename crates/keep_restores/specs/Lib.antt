@@ -1,4 +1,6 @@
+pub mod Attributes
 pub mod Choosing
 pub mod Dumping
 pub mod Restoring
+pub mod Wanted
 pub mod Words

@@ -16,7 +16,7 @@ use Rattle.keep_restores.specs.Choosing.{included}
 use Rattle.keep_targets.specs.Call.{Call}
 use Rattle.keep_targets.specs.declared.attributes.Owner.{Owner}
 use Rattle.keep_tree.specs.Parsing.{PatternData}
-use Rattle.keep_wanted.specs.Wanted.{IsWantedOf}
+use Rattle.keep_restores.specs.Wanted.{IsWantedOf}
 
 -- the bytes of each piece at its chosen place
 abbrev pub pieces_in : Repository → Source

@@ -1,6 +1,7 @@
 //! A snapshot put back into a new folder, and a file of it written out.
 #![tactic(auto)]
 
+mod attributes;
 mod choosing;
 mod dumping;
 mod laws;
@@ -8,6 +9,7 @@ mod not_dumped;
 mod not_restored;
 mod restoring;
 mod stored;
+mod wanted;
 mod wanting;
 
 pub use dumping::dump;

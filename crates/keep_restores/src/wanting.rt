@@ -1,10 +1,10 @@
 ghost use Rattle.std.specs.Prelude.{IfOk, map};
 ghost use Rattle.std.specs.List.{AllZip};
-ghost use Rattle.keep_wanted.specs.Wanted.{IsWantedOf};
+ghost use Rattle.keep_restores.specs.Wanted.{IsWantedOf};
 
+use crate::wanted::wanted_of;
 use keep_nodes::Entry;
 use keep_putting::Wanted;
-use keep_wanted::wanted_of;
 use std::alloc::{AllocError, Global};
 
 /// What is to be put back of each of these nodes.

@@ -9,7 +9,7 @@ use Rattle.keep_restores.proofs.Lent.{lent, lent_views}
 use Rattle.keep_restores.specs.Choosing.{included}
 use Rattle.keep_restores.specs.Restoring.{pieces_in}
 use Rattle.keep_tree.specs.Parsing.{pattern_view}
-use Rattle.keep_wanted.specs.Wanted.{IsWantedOf}
+use Rattle.keep_restores.specs.Wanted.{IsWantedOf}
 use Rattle.keep_restores.proofs.restoring.restore.Goals as goal
 
 pub returns-clause-restored : goal.returns-clause-restored

@@ -14,7 +14,7 @@ use Rattle.keep_putting.specs.declared.wanted.What.TheVariants.{File, Folder, Li
 use Rattle.keep_quoted.specs.Unquote.{unquoted}
 use Rattle.keep_tree.specs.declared.node.NodeKind.{NodeKind}
 use Rattle.keep_tree.specs.declared.node.NodeKind.TheVariants as kind
-use Rattle.keep_wanted.specs.Attributes.{owner_in, times_in}
+use Rattle.keep_restores.specs.Attributes.{owner_in, times_in}
 
 -- a link that says where to; one that doesn't is no link
 abbrev pub IsLink : Option (String Global) → What → Type 0

@@ -1,6 +1,6 @@
 ghost use Rattle.std.specs.Prelude.{◌≡◌, ◌%◌, option_map};
 ghost use Rattle.keep_members.specs.Mode.{unix_mode};
-ghost use Rattle.keep_wanted.specs.Attributes.{instant_in, owner_in, times_in};
+ghost use Rattle.keep_restores.specs.Attributes.{instant_in, owner_in, times_in};
 
 use keep_members::{Found, Stamp, unix_mode};
 use keep_targets::{Instant, Owner, Times};

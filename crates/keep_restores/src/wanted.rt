@@ -1,6 +1,6 @@
 ghost use Rattle.std.specs.Prelude.{IfOk, codes, string_bytes};
 ghost use Rattle.std.specs.Str.{bytes_eq};
-ghost use Rattle.keep_wanted.specs.Wanted.{IsLink, IsName, IsOther, IsWantedOf, IsWhat};
+ghost use Rattle.keep_restores.specs.Wanted.{IsLink, IsName, IsOther, IsWantedOf, IsWhat};
 
 use crate::attributes::{mode_of, owner_of, times_of};
 use keep_members::members_in;
