@@ -9,11 +9,13 @@ pub mod Given
 pub mod GoodNames
 pub mod KeptBlobs
 pub mod Known
+pub mod Last
 pub mod ListedPlaces
 pub mod MarkKeeps
 pub mod Named
 pub mod NewIndex
 pub mod Packed
+pub mod Parts
 pub mod Positions
 pub mod Renewed
 pub mod RepairKeeps
@@ -21,6 +23,7 @@ pub mod RepairSafe
 pub mod Retreeing
 pub mod RewriteSafe
 pub mod Rooted
+pub mod Said
 pub mod SweepKeeps
 pub mod Texts
 pub mod WalkTrees

@@ -1,6 +1,7 @@
 pub mod Cut
 pub mod Kept
 pub mod Met
+pub mod Safe
 pub mod SafeBackup
 pub mod SafeLabels
 pub mod SafeMark

@@ -6,7 +6,7 @@ use Rattle.keep_safety.proofs.Texts.{all_strings}
 use Rattle.keep_archive.specs.Archive.{ArchiveData, going_view, held_view}
 use Rattle.keep_archive.specs.declared.going.Going.{Going}
 use Rattle.keep_archive.specs.declared.held.HeldBlob.{HeldBlob}
-use Rattle.keep_safe_archive.specs.Safe.{ArchivesAreShort, TagsAreTexts}
+use Rattle.keep_safety.specs.Safe.{ArchivesAreShort, TagsAreTexts}
 
 each_short : (hs : List HeldBlob) → list_any is_full (map held_view hs) ≡ false
 each_short [] = refl

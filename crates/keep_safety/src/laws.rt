@@ -1,8 +1,8 @@
-ghost use Rattle.keep_safe_archive.specs.Safe.{ArchivesAreShort, LastIsSafe, PartIsSafe, TagsAreTexts};
+ghost use Rattle.keep_safety.specs.Safe.{ArchivesAreShort, LastIsSafe, PartIsSafe, TagsAreTexts};
 
+use crate::what_is_stored_is_given;
 use keep_names::{digests_are_ids, orders_tell_apart};
 use keep_plan::each_use_is_recorded;
-use keep_safety::what_is_stored_is_given;
 use keep_snap::snapshots_read_back;
 use keep_sound::{
     backing_up_is_safe, careful_changes_are_safe, covering_changes_are_careful,

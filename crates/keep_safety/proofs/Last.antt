@@ -60,7 +60,7 @@ use Rattle.keep_archive.specs.Archive.{ArchiveData}
 use Rattle.keep_archive.specs.Plans.{has_no_place, last_blobs, last_change, missing_first}
 use Rattle.keep_archive.specs.Steps.{full_refusal}
 use Rattle.keep_archive.proofs.Made.{IsLast, is_last, last_well_formed}
-use Rattle.keep_safe_archive.specs.Safe.{AreWhole, LastIsSafe, MeetsLast, is_given, root_of}
+use Rattle.keep_safety.specs.Safe.{AreWhole, LastIsSafe, MeetsLast, is_given, root_of}
 
 -- the laws on which it rests
 pub record Known : Type 0 where

@@ -1,5 +1,5 @@
-use Rattle.keep_safe_archive.proofs.Last.{last_safe}
-use Rattle.keep_safe_archive.proofs.laws.the_last_change_is_safe.Goals as goal
+use Rattle.keep_safety.proofs.Last.{last_safe}
+use Rattle.keep_safety.proofs.laws.the_last_change_is_safe.Goals as goal
 
 pub returns : goal.returns
 returns c = last_safe (record {

@@ -25,7 +25,7 @@ use Rattle.keep_safety.proofs.Entries.{index_name, pack_name}
 use Rattle.keep_archive.specs.Archive.{ArchiveData}
 use Rattle.keep_archive.specs.Plans.{is_idle, part_change, part_of}
 use Rattle.keep_archive.proofs.Made.{is_part, part_well_formed}
-use Rattle.keep_safe_archive.specs.Safe.{PartIsSafe}
+use Rattle.keep_safety.specs.Safe.{PartIsSafe}
 
 -- the file is no snapshot
 abbrev IsBuilt : NamedBytes → Type 0
