@@ -2,6 +2,7 @@
 //! it tells of each line of the script the answer, and the calls that it made.
 #![tactic(auto)]
 
+mod act;
 mod answering;
 mod call;
 mod case;
@@ -9,6 +10,8 @@ mod damages;
 mod kit;
 mod logged;
 mod plan;
+mod reading;
+mod recording;
 mod running;
 mod showing;
 mod stop;

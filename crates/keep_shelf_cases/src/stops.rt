@@ -1,8 +1,8 @@
+use crate::recording::RecordingShelf;
 use crate::running::{NO_FAILURE, shelf_over};
 use crate::showing::behind_word;
 use crate::stop::Stop;
 use keep_book::Book;
-use keep_recording::RecordingShelf;
 use keep_shelf::MemoryShelf;
 use std::alloc::Global;
 use std::fmt::Write;

@@ -1,7 +1,7 @@
 use Rattle.std.proofs.Common.{length, sym, ap, ◌∙◌}
-use Rattle.keep_recording.proofs.Acting.{length-contents_after}
+use Rattle.keep_shelf_cases.proofs.Acting.{length-contents_after}
 use Rattle.keep_shelf.specs.Shelved.{Shelved}
-use Rattle.keep_recording.proofs.recording.RecordingShelf.calls.Goals as goal
+use Rattle.keep_shelf_cases.proofs.recording.RecordingShelf.calls.Goals as goal
 
 pub returns : goal.returns
 returns g c =

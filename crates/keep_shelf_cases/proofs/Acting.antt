@@ -1,9 +1,9 @@
 -- One more act: what all leave, and what each does.
 use Rattle.std.proofs.Common.{◌≡◌, ℕ, zero, suc, ◌≤◌, List, [], ◌∷◌, ◌++◌, length, take, refl, ap, arith}
 use Rattle.std.specs.Prelude.{Some, slice_get}
-use Rattle.keep_recording.specs.Acts.{content_after, contents_after, done}
+use Rattle.keep_shelf_cases.specs.Acts.{content_after, contents_after, done}
 use Rattle.keep_shelf.specs.Shelved.{Content}
-use Rattle.keep_recording.specs.declared.act.Act.{Act}
+use Rattle.keep_shelf_cases.specs.declared.act.Act.{Act}
 
 pub content_after-push : (made : Content) (acts : List Act) (act : Act) → content_after made (acts ++ act ∷ []) ≡ done (content_after made acts) act
 content_after-push made [] act = refl

@@ -3,8 +3,8 @@ use Rattle.std.specs.Prelude.{List, fold}
 use Rattle.std.specs.FinMap as map
 use Rattle.std.specs.List.{scan}
 use Rattle.keep_shelf.specs.Shelved.{Content, shifted}
-use Rattle.keep_recording.specs.declared.act.Act.{Act}
-use Rattle.keep_recording.specs.declared.act.Act.TheVariants.{Looked, Wrote, Shifted, Erased}
+use Rattle.keep_shelf_cases.specs.declared.act.Act.{Act}
+use Rattle.keep_shelf_cases.specs.declared.act.Act.TheVariants.{Looked, Wrote, Shifted, Erased}
 
 -- what the act leaves
 abbrev pub done : Content → Act → Content

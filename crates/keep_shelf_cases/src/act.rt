@@ -1,6 +1,6 @@
 ghost use Rattle.std.specs.Prelude.{◌≡◌, IfOk, OnOk, OnErr};
 ghost use Rattle.keep_shelf.specs.Shelved.{shifted};
-ghost use Rattle.keep_recording.specs.Acts.{content_after, done};
+ghost use Rattle.keep_shelf_cases.specs.Acts.{content_after, done};
 
 use keep_repo::Bytes;
 use keep_shelf::{Fault, Key, MemoryShelf, Shelf};

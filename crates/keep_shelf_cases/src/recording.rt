@@ -24,7 +24,7 @@ pub struct RecordingShelf<S: Shelf> {
 
 impl<S: Shelf> Model for RecordingShelf<S> {
     ghost use Rattle.std.specs.Prelude.{◌≡◌};
-    ghost use Rattle.keep_recording.specs.Acts.{content_after, contents_after};
+    ghost use Rattle.keep_shelf_cases.specs.Acts.{content_after, contents_after};
     ghost use Rattle.keep_shelf.specs.Shelved.{Shelved, coded_shelved};
 
     ghost Value = { Shelved };

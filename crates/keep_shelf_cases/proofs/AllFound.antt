@@ -6,7 +6,7 @@ use Rattle.std.specs.Option.{option_map_or, option_or}
 use Rattle.std.specs.Ordering.{eq_by_cmp}
 use Rattle.keep_names.proofs.TellsApart.{apart_from}
 use Rattle.keep_shelf.proofs.Orders.{key_exact, key_total}
-use Rattle.keep_recording.specs.Found.{found_under}
+use Rattle.keep_shelf_cases.specs.Found.{found_under}
 use Rattle.keep_shelf.specs.Key.{key_cmp}
 use Rattle.keep_shelf.specs.Shelved.{Content}
 use Rattle.keep_shelf.specs.declared.key.Key.{Key}

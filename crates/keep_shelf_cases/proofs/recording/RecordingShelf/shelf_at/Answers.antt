@@ -2,11 +2,11 @@ use Rattle.std.proofs.Common.{◌≡◌, ◌∷◌, ◌≤◌, List, length, tak
 use Rattle.std.specs.Prelude.{Some, slice_get}
 use Rattle.std.proofs.lemmas.List.{length-take-le}
 use Rattle.std.proofs.lemmas.Result.{IfOk-weaker}
-use Rattle.keep_recording.proofs.Acting.{contents_after-at, length-contents_after}
-use Rattle.keep_recording.specs.Acts.{content_after}
+use Rattle.keep_shelf_cases.proofs.Acting.{contents_after-at, length-contents_after}
+use Rattle.keep_shelf_cases.specs.Acts.{content_after}
 use Rattle.keep_shelf.specs.Shelved.{Content, Shelved}
-use Rattle.keep_recording.specs.declared.act.Act.{Act}
-use Rattle.keep_recording.proofs.recording.RecordingShelf.shelf_at.Goals as goal
+use Rattle.keep_shelf_cases.specs.declared.act.Act.{Act}
+use Rattle.keep_shelf_cases.proofs.recording.RecordingShelf.shelf_at.Goals as goal
 
 pub slice_bounds-perform_all-end : goal.slice_bounds-perform_all-end
 slice_bounds-perform_all-end g c =

@@ -2,10 +2,10 @@
 use Rattle.std.proofs.Common.{◌≡◌, ◌∙◌, ap, subst}
 use Rattle.std.specs.Prelude.{IfOk}
 use Rattle.std.specs.FinMap as map
-use Rattle.keep_recording.proofs.AllFound.{all_found}
-use Rattle.keep_recording.specs.Found.{found_under}
+use Rattle.keep_shelf_cases.proofs.AllFound.{all_found}
+use Rattle.keep_shelf_cases.specs.Found.{found_under}
 use Rattle.keep_shelf.specs.Shelved.{Content, Shelved}
-use Rattle.keep_recording.proofs.reading.read_all.Goals as goal
+use Rattle.keep_shelf_cases.proofs.reading.read_all.Goals as goal
 
 pub returns-clause-copy : goal.returns-clause-copy
 returns-clause-copy g c =

@@ -1,6 +1,6 @@
 ghost use Rattle.std.specs.Prelude.{◌≡◌, IfOk};
 ghost use Rattle.std.specs.FinMap as map;
-ghost use Rattle.keep_recording.specs.Found.{found_under};
+ghost use Rattle.keep_shelf_cases.specs.Found.{found_under};
 
 use keep_shelf::{Fault, Key, MemoryShelf, Shelf};
 use std::alloc::Global;

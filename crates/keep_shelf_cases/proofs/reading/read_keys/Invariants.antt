@@ -1,7 +1,7 @@
 use Rattle.std.proofs.Common.{◌≡◌, drop}
 use Rattle.std.specs.FinMap as map
-use Rattle.keep_recording.specs.Found.{found_under}
-use Rattle.keep_recording.proofs.reading.read_keys.Given as goal
+use Rattle.keep_shelf_cases.specs.Found.{found_under}
+use Rattle.keep_shelf_cases.proofs.reading.read_keys.Given as goal
 
 -- what was found with what the other keys have is all that the keys have
 abbrev pub invariant-loop-key : goal.invariant-loop-key
