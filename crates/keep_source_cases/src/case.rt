@@ -1,8 +1,9 @@
+use crate::entry::Entry;
 use crate::events::Events;
 use crate::no::No;
+use crate::source::MemorySource;
 use crate::tree::{bare, entry_of};
 use crate::words::{number_in, text_of, words_in};
-use keep_memory_source::{Entry, MemorySource};
 use keep_names::parse_id;
 use keep_sources::{Job, Kind, Known, Moment, Taking};
 use keep_tree::parse_pattern;

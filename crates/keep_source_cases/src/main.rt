@@ -2,8 +2,11 @@
 #![tactic(auto)]
 
 mod case;
+mod copy;
+mod entry;
 mod events;
 mod no;
+mod source;
 mod tree;
 mod words;
 

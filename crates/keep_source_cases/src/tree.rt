@@ -1,6 +1,6 @@
 use crate::no::No;
 use crate::words::{number_in, text_of};
-use keep_memory_source::{Entry, Failure};
+use crate::{Entry, Failure};
 use keep_sources::{Kind, Moment, Sight, Why};
 use std::alloc::Global;
 
