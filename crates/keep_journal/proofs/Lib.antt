@@ -1,7 +1,13 @@
 pub mod Chosen
 pub mod Commits
+pub mod Filters
 pub mod Kept
+pub mod KeptTold
 pub mod Later
+pub mod Legal
+pub mod Long
 pub mod Numbers
 pub mod Standings
+pub mod Told
 pub mod Unfinal
+pub mod Within

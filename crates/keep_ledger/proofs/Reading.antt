@@ -12,8 +12,8 @@ use Rattle.keep_journal.specs.Journal.{Journal}
 use Rattle.keep_journal.specs.Kept.{above}
 use Rattle.keep_journal.specs.Opening.{IsOpen, opening_under}
 use Rattle.keep_journal.specs.declared.event.Entry as the_entry
-use Rattle.keep_told.specs.Told.{entry_at, is_told, told_at, told_of}
-use Rattle.keep_told.proofs.Kept.{told_is_told}
+use Rattle.keep_journal.specs.Told.{entry_at, is_told, told_at, told_of}
+use Rattle.keep_journal.proofs.KeptTold.{told_is_told}
 use Rattle.keep_shelf.specs.Shelved.{Content, Shelved, called}
 use Rattle.keep_shelf.specs.declared.key.Key.TheVariants.{Live, Trash, Entry}
 use Rattle.keep_moves.specs.Behind.{IsBehind}

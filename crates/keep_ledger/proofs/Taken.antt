@@ -14,7 +14,7 @@ use Rattle.keep_change.specs.Limits.{facet_limit}
 use Rattle.keep_change.specs.Marks.{pack_mark}
 use Rattle.keep_change.specs.Touch.{facets}
 use Rattle.keep_journal.specs.Kept.{kept}
-use Rattle.keep_told.proofs.Legal.{none_numbered}
+use Rattle.keep_journal.proofs.Legal.{none_numbered}
 use Rattle.keep_shelf.specs.Key.{key_cmp}
 use Rattle.keep_shelf.specs.Shelved.{Content}
 use Rattle.keep_shelf.specs.declared.key.Key.{Key}

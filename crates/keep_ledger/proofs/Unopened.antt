@@ -4,7 +4,7 @@ use Rattle.std.specs.Prelude.{◌≢◌}
 use Rattle.std.specs.FinMap as finite
 use Rattle.keep_repo.specs.Repository.{Repository}
 use Rattle.keep_journal.specs.Journal.{Journal}
-use Rattle.keep_told.specs.Told.{told_of}
+use Rattle.keep_journal.specs.Told.{told_of}
 use Rattle.keep_shelf.specs.Shelved.{Content, Shelved, failed, risen}
 use Rattle.keep_moves.specs.Calls.{Make, looks, played}
 use Rattle.keep_moves.specs.declared.moves.Move.{Move}

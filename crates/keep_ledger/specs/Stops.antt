@@ -2,7 +2,7 @@
 use Rattle.std.specs.Prelude.{drop, length, ◌⊎◌}
 use Rattle.std.specs.FinMap as finite
 use Rattle.std.specs.List.{AllByRecursion}
-use Rattle.keep_told.specs.Told.{told_of}
+use Rattle.keep_journal.specs.Told.{told_of}
 use Rattle.keep_shelf.specs.Shelved.{Content}
 use Rattle.keep_moves.specs.Move.{CanMake}
 use Rattle.keep_reading.specs.Reads.{Reads}

@@ -18,9 +18,9 @@ use Rattle.keep_journal.specs.History.{change_of, committed, final_number, is_in
 use Rattle.keep_journal.specs.Journal.{Journal, posted}
 use Rattle.keep_journal.specs.declared.event.Entry as the_entry
 use Rattle.keep_journal.proofs.Commits.{committed-Empty, final_number-push, is_in_force-push}
-use Rattle.keep_told.specs.Told.{is_told, told_at}
-use Rattle.keep_told.proofs.Filters.{filter-filter}
-use Rattle.keep_told.proofs.Legal.{legal_numbered}
+use Rattle.keep_journal.specs.Told.{is_told, told_at}
+use Rattle.keep_journal.proofs.Filters.{filter-filter}
+use Rattle.keep_journal.proofs.Legal.{legal_numbered}
 use Rattle.keep_shelf.specs.declared.key.Key.{Key}
 use Rattle.keep_shelf.specs.declared.key.Key.TheVariants.{Live, Trash, Entry}
 use Rattle.keep_entries.specs.Spelling.{entry_text}

@@ -7,7 +7,7 @@ use Rattle.keep_journal.specs.declared.event.EventKind.TheVariants.{Commit, Undo
 use Rattle.keep_shelf.specs.declared.key.Key.TheVariants.{Entry}
 use Rattle.keep_moves.specs.Lists.{entry_keys, is_silenced}
 use Rattle.keep_moves.specs.Notices.{silenced_keys, tells, tells_by}
-use Rattle.keep_told.specs.Told.{is_told_by}
+use Rattle.keep_journal.specs.Told.{is_told_by}
 use Rattle.std.specs.List.{filter}
 
 tells_alike : (f n : ℕ) (kind : EventKind) → tells_by f n (what_by kind) ≡ is_told_by f n kind

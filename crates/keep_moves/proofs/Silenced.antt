@@ -6,9 +6,9 @@ use Rattle.std.proofs.lemmas.Bool.{cases_eq, eq-eqb, ne_eqb}
 use Rattle.keep_change.proofs.Records.{or_neither}
 use Rattle.keep_journal.specs.History.{AscendFrom}
 use Rattle.keep_journal.specs.declared.event.Entry as the_entry
-use Rattle.keep_told.specs.Told.{entry_at, is_told, told_at}
-use Rattle.keep_told.proofs.Filters.{either}
-use Rattle.keep_told.proofs.Within.{IsWithin, told_before}
+use Rattle.keep_journal.specs.Told.{entry_at, is_told, told_at}
+use Rattle.keep_journal.proofs.Filters.{either}
+use Rattle.keep_journal.proofs.Within.{IsWithin, told_before}
 use Rattle.keep_shelf.specs.declared.key.Key.{Key}
 use Rattle.keep_shelf.specs.declared.key.Key.TheVariants.{Entry}
 use Rattle.keep_entries.specs.Spelling.{entry_text}

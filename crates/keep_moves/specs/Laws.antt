@@ -14,7 +14,7 @@ use Rattle.keep_journal.specs.History.{change_of, committed, final_number, Comes
 use Rattle.keep_journal.specs.Journal.{Journal, posted}
 use Rattle.keep_journal.specs.declared.event.Event.{Event}
 use Rattle.keep_shelf.specs.Shelved.{Content, Shelved}
-use Rattle.keep_told.specs.Told.{told_of}
+use Rattle.keep_journal.specs.Told.{told_of}
 use Rattle.keep_shelf.specs.declared.key.Key.TheVariants.{Entry}
 use Rattle.keep_moves.specs.Behind.{IsBehind}
 use Rattle.keep_moves.specs.Calls.{Call, Make, looks, made_in, played}

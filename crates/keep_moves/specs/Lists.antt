@@ -14,7 +14,7 @@ use Rattle.keep_journal.specs.declared.event.Entry as the_entry
 use Rattle.keep_journal.specs.declared.event.Event.{Event}
 use Rattle.keep_journal.specs.declared.event.EventKind.{EventKind}
 use Rattle.keep_journal.specs.declared.event.EventKind.TheVariants.{Commit, Undo, Redo, Empty}
-use Rattle.keep_told.specs.Told.{is_told}
+use Rattle.keep_journal.specs.Told.{is_told}
 use Rattle.keep_shelf.specs.declared.key.Key.{Key}
 use Rattle.keep_shelf.specs.declared.key.Key.TheVariants.{Live, Trash, Entry}
 use Rattle.keep_moves.specs.declared.moves.Move.{Move}

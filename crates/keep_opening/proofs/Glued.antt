@@ -15,7 +15,7 @@ use Rattle.keep_journal.specs.Journal.{Journal}
 use Rattle.keep_journal.specs.Kept.{kept}
 use Rattle.keep_journal.specs.Opening.{AreWellFormed, IsOpen, unfold_of}
 use Rattle.keep_journal.specs.declared.event.Entry as the_entry
-use Rattle.keep_told.proofs.Long.{as_long}
+use Rattle.keep_journal.proofs.Long.{as_long}
 use Rattle.keep_moves.specs.Move.{Stand, key_eq}
 use Rattle.keep_moves.proofs.Keys.{key_eq_same}
 use Rattle.keep_opening.specs.Filing.{live_into, with_live}

@@ -17,7 +17,7 @@ use Rattle.keep_journal.specs.declared.event.EventKind.{EventKind}
 use Rattle.keep_journal.specs.declared.event.EventKind.TheVariants.{Commit, Undo, Redo, Empty}
 use Rattle.keep_journal.specs.declared.event.Notice.{Notice}
 use Rattle.keep_journal.proofs.Commits.{change_of-Commit, final_number-push, IsNumbered-push}
-use Rattle.keep_told.proofs.Legal.{none_numbered}
+use Rattle.keep_journal.proofs.Legal.{none_numbered}
 use Rattle.keep_shelf.proofs.Orders.{key_total}
 use Rattle.keep_shelf.specs.Shelved.{Content}
 use Rattle.keep_shelf.specs.declared.key.Key.{Key}

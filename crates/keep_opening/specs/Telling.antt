@@ -2,7 +2,7 @@
 use Rattle.std.specs.Prelude.{◌≡◌, ℕ, ◌<◌, false, [], ◌∷◌, ◌++◌, fold, None, IfSome}
 use Rattle.keep_journal.specs.History.{final_after, final_number, last_marks, length_of}
 use Rattle.keep_journal.specs.Journal.{Journal}
-use Rattle.keep_told.specs.Told.{told_at}
+use Rattle.keep_journal.specs.Told.{told_at}
 use Rattle.keep_reading.specs.Bad.{is_wrong}
 use Rattle.keep_reading.specs.Leaves.{entries_of}
 use Rattle.keep_reading.specs.declared.leaf.Leaf.{Leaf}

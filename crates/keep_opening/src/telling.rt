@@ -6,7 +6,7 @@ ghost use Rattle.keep_opening.specs.declared.open_error.OpenError.TheVariants as
 ghost use Rattle.keep_reading.specs.Bad.{first_bad, fits_by, is_misfit as is_misfit_after, is_wrong};
 ghost use Rattle.keep_reading.specs.Leaves.{AreLeaves, entries_of};
 ghost use Rattle.keep_reading.specs.Reads.{all_of, told};
-ghost use Rattle.keep_told.specs.Told.{is_told as is_told_at};
+ghost use Rattle.keep_journal.specs.Told.{is_told as is_told_at};
 
 use crate::open_error::OpenError;
 use keep_journal::{Entry, Event, EventKind, History, Posting, Status};

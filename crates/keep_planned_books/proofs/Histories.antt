@@ -3,7 +3,7 @@ use Rattle.std.proofs.Common.{◌≡◌, ℕ, List, [], ◌∷◌, sym, subst}
 use Rattle.keep_repo.specs.Repository.{Repository}
 use Rattle.keep_sound.specs.Met.{HasOneText}
 use Rattle.keep_sound.specs.Selection.{IsSoundState}
-use Rattle.keep_told.specs.Laws.{ToldIsOpen}
+use Rattle.keep_journal.specs.Laws.{ToldIsOpen}
 use Rattle.keep_reading.specs.Reads.{OneReading}
 use Rattle.keep_ledger.specs.LedgerState.{LedgerState}
 use Rattle.keep_ledger.specs.Made.{with_event}

@@ -5,11 +5,11 @@ use Rattle.keep_change.specs.Fold.{Numbered, fold_of}
 use Rattle.keep_journal.specs.History.{committed, final_number}
 use Rattle.keep_journal.specs.Journal.{Journal}
 use Rattle.keep_journal.specs.Kept.{kept, unfinal}
-use Rattle.keep_told.proofs.Filters.{filter-filter}
-use Rattle.keep_told.proofs.Kept.{final_is, kept_is}
-use Rattle.keep_told.proofs.Told.{committed_told}
-use Rattle.keep_told.specs.Laws.{ToldIsOpen}
-use Rattle.keep_told.specs.Told.{told_of}
+use Rattle.keep_journal.proofs.Filters.{filter-filter}
+use Rattle.keep_journal.proofs.KeptTold.{final_is, kept_is}
+use Rattle.keep_journal.proofs.Told.{committed_told}
+use Rattle.keep_journal.specs.Laws.{ToldIsOpen}
+use Rattle.keep_journal.specs.Told.{told_of}
 use Rattle.keep_shelf.specs.Shelved.{Shelved}
 use Rattle.keep_reading.specs.Reads.{OneReading}
 use Rattle.keep_sound.specs.Selection.{IsSoundHistory}

@@ -2,7 +2,7 @@
 use Rattle.std.specs.Prelude.{◌≡◌, ◌⊎◌, List, [], ◌∷◌, Ok}
 use Rattle.keep_repo.specs.Repository.{Repository}
 use Rattle.keep_hooks.specs.Guards.{Rule}
-use Rattle.keep_told.specs.Told.{told_of}
+use Rattle.keep_journal.specs.Told.{told_of}
 use Rattle.keep_view.specs.Shown.{shown_of}
 use Rattle.keep_ledger.specs.LedgerState.{LedgerState, new_ledger}
 use Rattle.keep_ledger.specs.Made.{with_event}

@@ -6,6 +6,7 @@ ghost use Rattle.keep_planned_books.specs.Jobs.{IsText, PlannedChangesKeep};
 ghost use Rattle.keep_planned_books.specs.Losing.{AnswersLoseNothing, BooksLoseNothing, CascadesLoseNothing, OpeningsLoseNothing, SelectionsLoseNothing};
 
 use keep_jobs::{HoldsFilter, Job};
+use keep_journal::what_is_told_is_kept;
 use keep_names::orders_tell_apart;
 use keep_read::sound_repositories_lose_no_blob;
 use keep_reading::one_reading;
@@ -18,7 +19,6 @@ use keep_sound_books::{
     books_are_sound, books_begin_sound, books_stay_sound, selections_of_books_are_sound,
     views_know_what_books_know,
 };
-use keep_told::what_is_told_is_kept;
 use keep_whole::{safe_changes_keep_whole, sound_repositories_are_whole};
 
 /// What a job is asked for in texts is such.

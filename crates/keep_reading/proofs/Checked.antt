@@ -22,9 +22,9 @@ use Rattle.keep_journal.specs.Opening.{IsOpen, unfold_of}
 use Rattle.keep_journal.specs.declared.event.Entry as the_entry
 use Rattle.keep_journal.specs.declared.event.EventKind.{EventKind}
 use Rattle.keep_journal.specs.declared.event.EventKind.TheVariants.{Commit, Undo, Redo, Empty}
-use Rattle.keep_told.specs.Told.{Follow, is_told}
-use Rattle.keep_told.proofs.Kept.{marks_is}
-use Rattle.keep_told.proofs.Legal.{legal_numbered}
+use Rattle.keep_journal.specs.Told.{Follow, is_told}
+use Rattle.keep_journal.proofs.KeptTold.{marks_is}
+use Rattle.keep_journal.proofs.Legal.{legal_numbered}
 use Rattle.keep_shelf.specs.declared.key.Key.TheVariants.{Live}
 use Rattle.keep_entries.specs.Entry.{IsEntry, IsProper}
 use Rattle.keep_moves.specs.Move.{Stand}

@@ -9,8 +9,8 @@ use Rattle.keep_journal.specs.declared.event.Entry.{Entry}
 use Rattle.keep_journal.specs.declared.event.Event.{Event}
 use Rattle.keep_journal.specs.declared.event.EventKind.{EventKind}
 use Rattle.keep_journal.specs.declared.event.EventKind.TheVariants.{Commit, Undo, Redo, Empty}
-use Rattle.keep_told.specs.Told.{Follow, is_told, is_told_by, told_at}
-use Rattle.keep_told.proofs.Within.{follow_rises}
+use Rattle.keep_journal.specs.Told.{Follow, is_told, is_told_by, told_at}
+use Rattle.keep_journal.proofs.Within.{follow_rises}
 use Rattle.keep_reading.specs.Bad.{fits_by}
 
 -- ---- entries that follow their emptyings

@@ -8,7 +8,7 @@ use Rattle.keep_journal.specs.declared.event.Entry as the_entry
 use Rattle.keep_journal.specs.declared.event.Event.{Event}
 use Rattle.keep_journal.specs.declared.event.EventKind.{EventKind}
 use Rattle.keep_journal.specs.declared.event.EventKind.TheVariants.{Commit, Undo, Redo, Empty}
-use Rattle.keep_told.specs.Told.{is_told, told_at}
+use Rattle.keep_journal.specs.Told.{is_told, told_at}
 use Rattle.keep_moves.specs.Move.{Stand}
 use Rattle.keep_reading.specs.Checks.{TellAJournal}
 use Rattle.keep_reading.specs.Leaves.{AreLeaves, entries_of}

@@ -17,7 +17,7 @@ use Rattle.keep_journal.specs.Journal.{Journal, posted}
 use Rattle.keep_journal.specs.Kept.{above, chosen, kept, unfinal, up_to}
 use Rattle.keep_journal.proofs.Chosen.{chosen-Commit, chosen-Empty, chosen-Redo, chosen-Undo, chosen_agree, chosen_split}
 use Rattle.keep_journal.proofs.Commits.{final_number-push}
-use Rattle.keep_told.proofs.Filters.{filter-filter}
+use Rattle.keep_journal.proofs.Filters.{filter-filter}
 
 -- ---- one more event
 

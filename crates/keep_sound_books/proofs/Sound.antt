@@ -9,7 +9,7 @@ use Rattle.keep_change.specs.Touch.{facets}
 use Rattle.keep_journal.specs.History.{is_in_force, last_change, length_of}
 use Rattle.keep_journal.specs.Kept.{above, kept, later, unfinal, up_to}
 use Rattle.keep_journal.proofs.Kept.{kept_split}
-use Rattle.keep_told.proofs.Legal.{none_numbered}
+use Rattle.keep_journal.proofs.Legal.{none_numbered}
 use Rattle.keep_ledger.specs.LedgerState.{LedgerState, new_ledger}
 use Rattle.keep_ledger.specs.Made.{with_event}
 use Rattle.keep_ledger.specs.Request.{CanBeMade}

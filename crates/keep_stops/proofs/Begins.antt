@@ -16,10 +16,10 @@ use Rattle.keep_journal.specs.Opening.{IsOpen}
 use Rattle.keep_journal.specs.declared.event.Entry as the_entry
 use Rattle.keep_journal.specs.declared.event.Event.{Event}
 use Rattle.keep_journal.proofs.Commits.{final_number-push, last_marks-push}
-use Rattle.keep_told.specs.Told.{Follow, is_told, told_of}
-use Rattle.keep_told.proofs.Kept.{change_is, final_is, force_is, is_kept_by, is_open, told_grows}
-use Rattle.keep_told.proofs.Legal.{legal_numbered}
-use Rattle.keep_told.proofs.Long.{as_long}
+use Rattle.keep_journal.specs.Told.{Follow, is_told, told_of}
+use Rattle.keep_journal.proofs.KeptTold.{change_is, final_is, force_is, is_kept_by, is_open, told_grows}
+use Rattle.keep_journal.proofs.Legal.{legal_numbered}
+use Rattle.keep_journal.proofs.Long.{as_long}
 use Rattle.keep_entries.specs.Entry.{Fits, IsEntry, Spells}
 use Rattle.keep_entries.specs.Laws.{HasMarksInOrder}
 use Rattle.keep_entries.specs.Spelling.{entry_text}

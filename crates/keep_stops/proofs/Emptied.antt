@@ -22,10 +22,10 @@ use Rattle.keep_journal.specs.Opening.{AreWellFormed, IsOpen}
 use Rattle.keep_journal.specs.declared.event.Entry as the_entry
 use Rattle.keep_journal.specs.declared.event.Event.{Event}
 use Rattle.keep_journal.proofs.Commits.{committed-Empty, final_number-push, is_in_force-push, last_marks-push}
-use Rattle.keep_told.specs.Told.{entry_at, told_at, told_of}
-use Rattle.keep_told.proofs.Kept.{is_open, told_shrinks}
-use Rattle.keep_told.proofs.Legal.{legal_numbered}
-use Rattle.keep_told.proofs.Within.{IsWithin, follow_within, told_deep, turns_within}
+use Rattle.keep_journal.specs.Told.{entry_at, told_at, told_of}
+use Rattle.keep_journal.proofs.KeptTold.{is_open, told_shrinks}
+use Rattle.keep_journal.proofs.Legal.{legal_numbered}
+use Rattle.keep_journal.proofs.Within.{IsWithin, follow_within, told_deep, turns_within}
 use Rattle.keep_entries.specs.Entry.{Fits}
 use Rattle.keep_entries.specs.Spelling.{entry_text}
 use Rattle.keep_shelf.specs.declared.key.Key.{Key}

@@ -11,8 +11,8 @@ use Rattle.keep_journal.specs.declared.event.Entry as the_entry
 use Rattle.keep_journal.specs.declared.event.Event.{Event}
 use Rattle.keep_journal.specs.declared.event.EventKind.{EventKind}
 use Rattle.keep_journal.specs.declared.event.EventKind.TheVariants.{Commit, Undo, Redo, Empty}
-use Rattle.keep_told.specs.Told.{Follow, entry_at, told_at, told_of}
-use Rattle.keep_told.proofs.Kept.{marks_is}
+use Rattle.keep_journal.specs.Told.{Follow, entry_at, told_at, told_of}
+use Rattle.keep_journal.proofs.KeptTold.{marks_is}
 use Rattle.keep_shelf.specs.Shelved.{called}
 use Rattle.keep_shelf.specs.declared.key.Key.{Key}
 use Rattle.keep_shelf.specs.declared.key.Key.TheVariants.{Live, Trash, Entry}

@@ -11,7 +11,7 @@ use Rattle.keep_journal.specs.Journal.{Journal, posted}
 use Rattle.keep_journal.specs.declared.event.EventKind.{EventKind}
 use Rattle.keep_journal.specs.declared.event.EventKind.TheVariants.{Commit, Undo, Redo, Empty}
 use Rattle.keep_journal.proofs.Commits.{committed-Redo, committed-Undo}
-use Rattle.keep_told.specs.Told.{is_told_by}
+use Rattle.keep_journal.specs.Told.{is_told_by}
 use Rattle.keep_entries.specs.Laws.{HasMarksInOrder}
 use Rattle.keep_shelf.specs.declared.key.Key.TheVariants.{Entry}
 use Rattle.keep_moves.specs.Lists.{back_of, moves_by, out_of, put_of, redo_moves, undo_moves}

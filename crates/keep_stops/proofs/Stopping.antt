@@ -5,7 +5,7 @@ use Rattle.std.specs.List.{AllByRecursion}
 use Rattle.std.proofs.Math.Seq.{drop-length, take-length}
 use Rattle.keep_repo.specs.Repository.{Repository}
 use Rattle.keep_journal.specs.Journal.{Journal}
-use Rattle.keep_told.specs.Told.{told_of}
+use Rattle.keep_journal.specs.Told.{told_of}
 use Rattle.keep_shelf.specs.Shelved.{Content, Shelved, called}
 use Rattle.keep_moves.specs.Calls.{Make, left_by, looks, played}
 use Rattle.keep_moves.specs.Move.{CanMake}

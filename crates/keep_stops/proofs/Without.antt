@@ -7,8 +7,8 @@ use Rattle.keep_journal.specs.History.{final_after, final_by, AscendFrom}
 use Rattle.keep_journal.specs.declared.event.Entry as the_entry
 use Rattle.keep_journal.specs.declared.event.EventKind.{EventKind}
 use Rattle.keep_journal.specs.declared.event.EventKind.TheVariants.{Commit, Undo, Redo, Empty}
-use Rattle.keep_told.specs.Told.{Follow, entry_at, is_told, is_told_by, told_at}
-use Rattle.keep_told.proofs.Filters.{filter-filter, find-filter, find_agree}
+use Rattle.keep_journal.specs.Told.{Follow, entry_at, is_told, is_told_by, told_at}
+use Rattle.keep_journal.proofs.Filters.{filter-filter, find-filter, find_agree}
 use Rattle.keep_entries.specs.Entry.{IsEntry}
 use Rattle.keep_shelf.specs.declared.key.Key.TheVariants.{Entry}
 use Rattle.keep_moves.specs.Move.{Stand, moved}

@@ -6,7 +6,7 @@ use Rattle.keep_journal.specs.Journal.{Journal}
 use Rattle.keep_journal.specs.declared.event.Event.{Event}
 use Rattle.keep_journal.specs.declared.event.EventKind.{EventKind}
 use Rattle.keep_journal.specs.declared.event.EventKind.TheVariants.{Commit, Undo, Redo, Empty}
-use Rattle.keep_told.specs.Told.{entry_at, told_of}
+use Rattle.keep_journal.specs.Told.{entry_at, told_of}
 use Rattle.keep_shelf.specs.declared.key.Key.{Key}
 use Rattle.keep_shelf.specs.declared.key.Key.TheVariants.{Live, Trash, Entry}
 use Rattle.keep_moves.specs.Lists.{moves_by}

@@ -12,7 +12,7 @@ use Rattle.keep_journal.specs.Opening.{IsOpen}
 use Rattle.keep_journal.specs.declared.event.Event.{Event}
 use Rattle.keep_journal.specs.declared.event.EventKind.{EventKind}
 use Rattle.keep_journal.specs.declared.event.EventKind.TheVariants.{Empty}
-use Rattle.keep_told.specs.Told.{told_of}
+use Rattle.keep_journal.specs.Told.{told_of}
 use Rattle.keep_entries.specs.Entry.{Fits}
 use Rattle.keep_shelf.specs.Shelved.{Content, Shelved}
 use Rattle.keep_moves.specs.Calls.{Call, Make, left_by, played}

@@ -9,7 +9,7 @@ use Rattle.keep_journal.specs.Kept.{kept}
 use Rattle.keep_journal.specs.Opening.{IsOpen}
 use Rattle.keep_journal.specs.declared.event.Entry.{Entry}
 use Rattle.keep_journal.specs.declared.event.Event.{Event}
-use Rattle.keep_told.specs.Told.{Follow, is_told, told_at, told_of}
+use Rattle.keep_journal.specs.Told.{Follow, is_told, told_at, told_of}
 
 -- what a journal says of the changes that aren't final, it still tells
 pub record IsKeptBy (j : Journal) : Type 0 where

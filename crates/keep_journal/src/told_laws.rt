@@ -1,4 +1,4 @@
-ghost use Rattle.keep_told.specs.Laws.{ToldGrows, ToldHasTheMarks, ToldIsAsLong, ToldIsOpen, ToldIsTold, ToldShrinks, WhatIsToldIsKept};
+ghost use Rattle.keep_journal.specs.Laws.{ToldGrows, ToldHasTheMarks, ToldIsAsLong, ToldIsOpen, ToldIsTold, ToldShrinks, WhatIsToldIsKept};
 
 /// What a history still tells says all of the changes that aren't final that the history says.
 pub fn what_is_told_is_kept()

@@ -9,9 +9,9 @@ use Rattle.keep_journal.specs.declared.event.Entry.{Entry}
 use Rattle.keep_journal.specs.declared.event.EventKind.{EventKind}
 use Rattle.keep_journal.specs.declared.event.EventKind.TheVariants.{Commit, Undo, Redo, Empty}
 use Rattle.keep_journal.proofs.Commits.{final_number-push}
-use Rattle.keep_told.specs.Told.{Follow, is_told, is_told_by, told_at}
-use Rattle.keep_told.proofs.Filters.{filter-filter}
-use Rattle.keep_told.proofs.Legal.{final_rises}
+use Rattle.keep_journal.specs.Told.{Follow, is_told, is_told_by, told_at}
+use Rattle.keep_journal.proofs.Filters.{filter-filter}
+use Rattle.keep_journal.proofs.Legal.{final_rises}
 
 -- the entry's event makes no change above f final
 abbrev pub IsWithin : ℕ → Entry → Type 0

@@ -8,8 +8,8 @@ use Rattle.keep_journal.specs.declared.event.Entry.{Entry}
 use Rattle.keep_journal.specs.declared.event.EventKind.{EventKind}
 use Rattle.keep_journal.specs.declared.event.EventKind.TheVariants.{Commit, Undo, Redo, Empty}
 use Rattle.keep_journal.proofs.Commits.{final_number-push, IsNumbered-push}
-use Rattle.keep_told.specs.Laws.{ToldIsAsLong}
-use Rattle.keep_told.specs.Told.{Follow, is_told, is_told_by, told_at}
+use Rattle.keep_journal.specs.Laws.{ToldIsAsLong}
+use Rattle.keep_journal.specs.Told.{Follow, is_told, is_told_by, told_at}
 
 -- each entry tells something when it comes, where changes up to top were final before them
 abbrev pub Tell : ℕ → List Entry → Type 0

@@ -11,8 +11,8 @@ use Rattle.keep_journal.specs.declared.event.Entry.{Entry}
 use Rattle.keep_journal.specs.declared.event.Event.{Event}
 use Rattle.keep_journal.specs.declared.event.EventKind.{EventKind}
 use Rattle.keep_journal.specs.declared.event.EventKind.TheVariants.{Commit, Undo, Redo, Empty}
-use Rattle.keep_told.specs.Told.{is_told, is_told_by, told_at}
-use Rattle.keep_told.proofs.Filters.{either, fold-filter}
+use Rattle.keep_journal.specs.Told.{is_told, is_told_by, told_at}
+use Rattle.keep_journal.proofs.Filters.{either, fold-filter}
 
 -- the entry of an event of this kind, beside another one
 abbrev of_kind : Entry → EventKind → Entry

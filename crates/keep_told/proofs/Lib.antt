@@ -1,6 +1,0 @@
-pub mod Filters
-pub mod Kept
-pub mod Legal
-pub mod Long
-pub mod Told
-pub mod Within

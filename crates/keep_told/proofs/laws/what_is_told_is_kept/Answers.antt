@@ -1,6 +1,0 @@
-use Rattle.keep_told.proofs.Kept.{is_kept_by, is_open, marks_is}
-use Rattle.keep_told.proofs.Long.{as_long}
-use Rattle.keep_told.proofs.laws.what_is_told_is_kept.Goals as goal
-
-pub returns : goal.returns
-returns c = record { kept = is_kept_by; stays = is_open; long = as_long; marks = marks_is }
