@@ -12,8 +12,8 @@ use Rattle.keep_shelf.specs.Shelved.{Content, Shelved, risen}
 use Rattle.keep_moves.specs.Calls.{Call, Make, looks, played}
 use Rattle.keep_moves.specs.Course.{entry_put}
 use Rattle.keep_moves.proofs.Erased.{all_append, all_weaker}
-use Rattle.keep_stops.specs.Laws.{contents_along}
-use Rattle.keep_stops.proofs.Stopping.{calls_added}
+use Rattle.keep_reading.specs.Laws.{contents_along}
+use Rattle.keep_reading.proofs.Stopping.{calls_added}
 use Rattle.keep_touch.specs.Taken.{AreTaken}
 use Rattle.keep_touch.specs.Undone.{kept_without, undone_in}
 use Rattle.keep_ledger.specs.Ends.{Ends, FaultsAtEntry, FaultsAtMoves, FaultsLast, failures_after, heard}

@@ -27,9 +27,9 @@ use Rattle.keep_moves.specs.declared.moves.Move.{Move}
 use Rattle.keep_moves.proofs.Begun.{commit_begun, redo_begun, undo_begun}
 use Rattle.keep_moves.proofs.Emptied.{empty_begun}
 use Rattle.keep_moves.proofs.Played.{calls_more, put_stands, reads_leave}
-use Rattle.keep_stops.specs.Due.{IsRead}
-use Rattle.keep_stops.proofs.Begins.{event_begins}
-use Rattle.keep_stops.proofs.Emptied.{emptying_begins}
+use Rattle.keep_reading.specs.Due.{IsRead}
+use Rattle.keep_reading.proofs.Begins.{event_begins}
+use Rattle.keep_reading.proofs.Emptied.{emptying_begins}
 use Rattle.keep_touch.specs.Mentions.{AreNoted}
 use Rattle.keep_touch.specs.declared.touch.Touch.{Touch}
 use Rattle.keep_ledger.specs.Entering.{CanTurnFor, live_after, written_on}

@@ -12,8 +12,8 @@ use Rattle.keep_moves.specs.Behind.{IsBehind}
 use Rattle.keep_moves.specs.Calls.{Make, played}
 use Rattle.keep_moves.specs.declared.moves.Move.{Move}
 use Rattle.keep_moves.proofs.Played.{stops_behind}
-use Rattle.keep_stops.specs.Due.{IsRead}
-use Rattle.keep_stops.proofs.Moving.{moves_read}
+use Rattle.keep_reading.specs.Due.{IsRead}
+use Rattle.keep_reading.proofs.Moving.{moves_read}
 use Rattle.keep_touch.specs.declared.touch.Touch.{Touch}
 use Rattle.keep_ledger.specs.Ends.{FaultsAtMoves}
 use Rattle.keep_ledger.specs.OnShelf.{IsKept, OnShelf, ledger_on}

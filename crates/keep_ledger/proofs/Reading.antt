@@ -24,7 +24,7 @@ use Rattle.keep_moves.specs.declared.moves.Move.{Move}
 use Rattle.keep_moves.proofs.Erased.{all_filtered, all_weaker}
 use Rattle.keep_reading.specs.Lists.{IsListed}
 use Rattle.keep_reading.specs.Reads.{Reads, all_of}
-use Rattle.keep_stops.specs.Due.{IsMoveOf, IsRead}
+use Rattle.keep_reading.specs.Due.{IsMoveOf, IsRead}
 use Rattle.keep_opening.specs.Remaining.{IsDue, due_in}
 use Rattle.keep_opening.proofs.Resting.{due_leads}
 use Rattle.keep_touch.specs.Mentions.{AreNoted}

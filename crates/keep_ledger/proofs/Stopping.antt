@@ -9,10 +9,10 @@ use Rattle.keep_moves.specs.Calls.{Call, Make, left_by, looks, played}
 use Rattle.keep_moves.specs.Course.{entry_put}
 use Rattle.keep_moves.proofs.Erased.{all_append, all_weaker}
 use Rattle.keep_moves.proofs.Played.{calls_more}
-use Rattle.keep_stops.specs.Due.{IsRead}
-use Rattle.keep_stops.specs.Laws.{contents_along}
-use Rattle.keep_stops.proofs.Moving.{moves_read}
-use Rattle.keep_stops.proofs.Stopping.{all_looks, all_moves, calls_added}
+use Rattle.keep_reading.specs.Due.{IsRead}
+use Rattle.keep_reading.specs.Laws.{contents_along}
+use Rattle.keep_reading.proofs.Moving.{moves_read}
+use Rattle.keep_reading.proofs.Stopping.{all_looks, all_moves, calls_added}
 use Rattle.keep_ledger.specs.Ends.{FaultsAtMoves}
 use Rattle.keep_ledger.specs.Entering.{Enters}
 use Rattle.keep_ledger.specs.Made.{event_of}

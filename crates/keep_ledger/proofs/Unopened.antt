@@ -15,9 +15,9 @@ use Rattle.keep_reading.proofs.Checked.{one_reading_lem}
 use Rattle.keep_opening.specs.Intake.{StopsShort}
 use Rattle.keep_opening.specs.declared.open_error.OpenError.{OpenError}
 use Rattle.keep_opening.specs.declared.open_error.OpenError.TheVariants.{BadEntry, Fault, Memory}
-use Rattle.keep_stops.specs.Laws.{contents_along}
-use Rattle.keep_stops.proofs.Moving.{moves_read}
-use Rattle.keep_stops.proofs.Stopping.{all_looks}
+use Rattle.keep_reading.specs.Laws.{contents_along}
+use Rattle.keep_reading.proofs.Moving.{moves_read}
+use Rattle.keep_reading.proofs.Stopping.{all_looks}
 use Rattle.keep_opening.specs.Remaining.{due_in}
 use Rattle.keep_ledger.specs.Ends.{FaultsAtMoves}
 use Rattle.keep_ledger.specs.OnShelf.{OnShelf}

@@ -12,7 +12,7 @@ use Rattle.keep_moves.specs.Calls.{Make, looks, played}
 use Rattle.keep_moves.specs.Course.{entry_put, looks_of}
 use Rattle.keep_moves.specs.Lists.{moves_of}
 use Rattle.keep_moves.specs.declared.moves.Move.{Move}
-use Rattle.keep_stops.specs.Due.{IsRead}
+use Rattle.keep_reading.specs.Due.{IsRead}
 use Rattle.keep_ledger.specs.LedgerState.{IsConsistent, LedgerState, ledger_of_live}
 use Rattle.keep_ledger.specs.Made.{event_of, with_event}
 use Rattle.keep_journal.specs.declared.request.Request.{Request}

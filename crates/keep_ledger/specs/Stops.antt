@@ -6,7 +6,7 @@ use Rattle.keep_journal.specs.Told.{told_of}
 use Rattle.keep_shelf.specs.Shelved.{Content}
 use Rattle.keep_moves.specs.Move.{CanMake}
 use Rattle.keep_reading.specs.Reads.{Reads}
-use Rattle.keep_stops.specs.Due.{IsRead}
+use Rattle.keep_reading.specs.Due.{IsRead}
 use Rattle.keep_ledger.specs.LedgerState.{LedgerState}
 use Rattle.keep_ledger.specs.Made.{with_event}
 use Rattle.keep_ledger.specs.OnShelf.{OnShelf}

@@ -33,9 +33,9 @@ use Rattle.keep_moves.specs.declared.moves.Move.TheVariants.{Erase}
 use Rattle.keep_moves.proofs.Erased.{AllFilled, Distinct, all_filtered, all_mapped, all_weaker, can_erase, erased, is_in}
 use Rattle.keep_moves.proofs.Keys.{key_eq_refl, key_eq_same}
 use Rattle.keep_reading.specs.Settled.{cleared, last_event, settled, settled_by}
-use Rattle.keep_stops.specs.Due.{BelongsTo, IsAmong, IsErasure, IsMoveOf, IsOver}
-use Rattle.keep_stops.specs.Laws.{is_emptying}
-use Rattle.keep_stops.proofs.Plain.{all_among, plain}
+use Rattle.keep_reading.specs.Due.{BelongsTo, IsAmong, IsErasure, IsMoveOf, IsOver}
+use Rattle.keep_reading.specs.Laws.{is_emptying}
+use Rattle.keep_reading.proofs.Plain.{all_among, plain}
 use Rattle.keep_opening.proofs.Along.{KeysRise, keys_rise}
 use Rattle.keep_opening.proofs.Lasting.{LastTold, commit_told, settled_moves}
 use Rattle.keep_opening.proofs.Whole.{found_there}

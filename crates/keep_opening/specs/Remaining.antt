@@ -17,7 +17,7 @@ use Rattle.keep_moves.specs.declared.moves.Move.{Move}
 use Rattle.keep_moves.specs.declared.moves.Move.TheVariants.{Erase}
 use Rattle.keep_reading.specs.Reads.{Reads}
 use Rattle.keep_reading.specs.Settled.{last_event, settled}
-use Rattle.keep_stops.specs.Due.{IsMoveOf}
+use Rattle.keep_reading.specs.Due.{IsMoveOf}
 use Rattle.keep_opening.specs.Wanted.{is_files}
 
 -- whether what is under the key says nothing any more, where changes up to n are final and entries of these numbers

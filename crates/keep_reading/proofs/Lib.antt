@@ -1,7 +1,14 @@
 pub mod Ascending
 pub mod Bad
+pub mod Begins
 pub mod Checked
+pub mod Emptied
+pub mod Entering
 pub mod Listed
 pub mod Marks
+pub mod Moving
 pub mod Openings
+pub mod Plain
 pub mod Scan
+pub mod Stopping
+pub mod Without

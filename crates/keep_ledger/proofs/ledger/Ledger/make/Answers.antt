@@ -5,7 +5,7 @@ use Rattle.std.proofs.lemmas.Result.{err_from_is_err_and}
 use Rattle.keep_journal.specs.Opening.{opening_under}
 use Rattle.keep_moves.specs.Behind.{IsBehind}
 use Rattle.keep_moves.specs.Course.{looks_of}
-use Rattle.keep_stops.specs.Due.{IsRead}
+use Rattle.keep_reading.specs.Due.{IsRead}
 use Rattle.keep_ledger.specs.Entering.{CanTurnFor, Enters}
 use Rattle.keep_ledger.specs.LedgerState.{ledger_of_live}
 use Rattle.keep_ledger.specs.Made.{event_of}

@@ -27,9 +27,9 @@ use Rattle.keep_moves.proofs.Played.{made_stands}
 use Rattle.keep_reading.specs.Lists.{IsListed, Lists}
 use Rattle.keep_reading.specs.Reads.{Reads, all_of, marks_in, told}
 use Rattle.keep_reading.specs.Settled.{cleared, last_event, settled_by}
-use Rattle.keep_stops.specs.Due.{BelongsBy, BelongsTo, IsAmong, IsErasure, IsOver}
-use Rattle.keep_stops.specs.Laws.{AMoveReads, MovesRead}
-use Rattle.keep_stops.proofs.Without.{final_without, follow_without, idle, lists_without, told_without, without}
+use Rattle.keep_reading.specs.Due.{BelongsBy, BelongsTo, IsAmong, IsErasure, IsOver}
+use Rattle.keep_reading.specs.Laws.{AMoveReads, MovesRead}
+use Rattle.keep_reading.proofs.Without.{final_without, follow_without, idle, lists_without, told_without, without}
 
 -- ---- at the keys of files
 

@@ -43,10 +43,10 @@ use Rattle.keep_moves.proofs.Silenced.{in_no_entries, in_past, left_standing}
 use Rattle.keep_moves.proofs.Trash.{in_no_trash, kept_trash}
 use Rattle.keep_reading.specs.Reads.{Reads, all_of, marks_in, told}
 use Rattle.keep_reading.specs.Settled.{last_event, settled, settled_by}
-use Rattle.keep_stops.specs.Due.{BelongsTo, IsMoveOf, IsOver, IsRead}
-use Rattle.keep_stops.specs.Laws.{EmptyingBegins}
-use Rattle.keep_stops.proofs.Begins.{follow_more, lists_more, same_final, trash_told}
-use Rattle.keep_stops.proofs.Entering.{entry_old, last_event-push, the_new}
+use Rattle.keep_reading.specs.Due.{BelongsTo, IsMoveOf, IsOver, IsRead}
+use Rattle.keep_reading.specs.Laws.{EmptyingBegins}
+use Rattle.keep_reading.proofs.Begins.{follow_more, lists_more, same_final, trash_told}
+use Rattle.keep_reading.proofs.Entering.{entry_old, last_event-push, the_new}
 
 -- each of some keys is among them
 all_in : (keys : List Key) → AllByRecursion (λ q. is_in q keys ≡ true) keys

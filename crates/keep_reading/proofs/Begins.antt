@@ -38,10 +38,10 @@ use Rattle.keep_reading.specs.Lists.{Lists}
 use Rattle.keep_reading.specs.Reads.{Reads, all_of, marks_in, told}
 use Rattle.keep_reading.specs.Settled.{last_event, settled, settled_by}
 use Rattle.keep_reading.proofs.Scan.{follow_push}
-use Rattle.keep_stops.specs.Due.{BelongsTo, IsAmong, IsMoveOf, IsRead}
-use Rattle.keep_stops.specs.Laws.{EventBegins}
-use Rattle.keep_stops.proofs.Entering.{last_event-push, lists_push, the_new}
-use Rattle.keep_stops.proofs.Plain.{IsPlain, all_among, plain}
+use Rattle.keep_reading.specs.Due.{BelongsTo, IsAmong, IsMoveOf, IsRead}
+use Rattle.keep_reading.specs.Laws.{EventBegins}
+use Rattle.keep_reading.proofs.Entering.{last_event-push, lists_push, the_new}
+use Rattle.keep_reading.proofs.Plain.{IsPlain, all_among, plain}
 
 -- the trash is told by what is still told
 pub trash_told : (j : Journal) (n : ℕ) (name : FileName) → trashed (told_of j) n name ≡ trashed j n name

@@ -19,8 +19,8 @@ use Rattle.keep_moves.specs.Move.{AllApart, Stand, finished_all, uses}
 use Rattle.keep_moves.specs.declared.moves.Move.{Move}
 use Rattle.keep_moves.proofs.Erased.{all_append}
 use Rattle.keep_reading.specs.Settled.{settled_by}
-use Rattle.keep_stops.specs.Due.{BelongsBy, IsAmong}
-use Rattle.keep_stops.specs.Laws.{is_emptying}
+use Rattle.keep_reading.specs.Due.{BelongsBy, IsAmong}
+use Rattle.keep_reading.specs.Laws.{is_emptying}
 
 -- the move uses no entry's key
 abbrev pub IsOff : Move → Type 0

@@ -22,7 +22,7 @@ use Rattle.keep_moves.specs.Lists.{moves_of}
 use Rattle.keep_moves.specs.Move.{CanMake, Stand, moved, remains}
 use Rattle.keep_moves.specs.declared.moves.Move.{Move}
 use Rattle.keep_reading.specs.Reads.{Reads}
-use Rattle.keep_stops.specs.Due.{IsMoveOf, IsRead}
+use Rattle.keep_reading.specs.Due.{IsMoveOf, IsRead}
 
 -- a move of the last event that remains changes nothing of what the shelf says, whichever it is
 abbrev pub AMoveReads : Type 0

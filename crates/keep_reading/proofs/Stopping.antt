@@ -11,9 +11,9 @@ use Rattle.keep_moves.specs.Calls.{Make, left_by, looks, played}
 use Rattle.keep_moves.specs.Move.{CanMake}
 use Rattle.keep_moves.specs.declared.moves.Move.{Move}
 use Rattle.keep_reading.specs.Reads.{Reads}
-use Rattle.keep_stops.specs.Due.{IsRead}
-use Rattle.keep_stops.specs.Laws.{CallsAreAdded, contents_along}
-use Rattle.keep_stops.proofs.Moving.{moves_read}
+use Rattle.keep_reading.specs.Due.{IsRead}
+use Rattle.keep_reading.specs.Laws.{CallsAreAdded, contents_along}
+use Rattle.keep_reading.proofs.Moving.{moves_read}
 
 -- ---- what calls leave
 

@@ -1,4 +1,4 @@
-ghost use Rattle.keep_stops.specs.Laws.{AMoveReads, CallsAreAdded, EmptyingBegins, EventBegins, MovesRead};
+ghost use Rattle.keep_reading.specs.Laws.{AMoveReads, CallsAreAdded, EmptyingBegins, EventBegins, MovesRead};
 
 /// A shelf says the same all the while the moves of its last event are made, in any order.
 pub fn a_shelf_says_what_is_in()

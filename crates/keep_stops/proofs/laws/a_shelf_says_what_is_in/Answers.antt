@@ -1,5 +1,0 @@
-use Rattle.keep_stops.proofs.Moving.{a_move_reads, moves_read}
-use Rattle.keep_stops.proofs.laws.a_shelf_says_what_is_in.Goals as goal
-
-pub returns : goal.returns
-returns c = record { one = a_move_reads; all = moves_read }
