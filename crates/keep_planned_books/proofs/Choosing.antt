@@ -9,9 +9,9 @@ use Rattle.keep_sound.specs.Careful.{Keeps}
 use Rattle.keep_sound.specs.Selection.{AllKeep, has_snapshot, known_by, known_in, with_added}
 use Rattle.keep_view.specs.Shown.{known_of}
 use Rattle.keep_sound_books.specs.SoundBooks.{ViewsKnow}
-use Rattle.keep_whole.specs.Restic.{restic}
-use Rattle.keep_whole.specs.Selected.{SelectionsAreWhole}
-use Rattle.keep_whole.specs.Whole.{IsWhole}
+use Rattle.keep_sound.specs.Restic.{restic}
+use Rattle.keep_sound.specs.Selected.{SelectionsAreWhole}
+use Rattle.keep_sound.specs.Whole.{IsWhole}
 use Rattle.keep_planned_books.specs.History.{BeginsWhole}
 use Rattle.keep_planned_books.specs.Jobs.{KeepsFor, PlannedChangesKeep}
 use Rattle.keep_planned_books.specs.Selected.{ArePlanned, IsPlannedWhere, PlannedSelectionsAreWhole}

@@ -34,8 +34,8 @@ use Rattle.keep_safety.specs.SafeLabels.{ForgetIsSafe, TaggingIsSafe}
 use Rattle.keep_safety.specs.SafeMark.{MarkIsSafe, MarkIsStrict}
 use Rattle.keep_safety.specs.SafeReindexing.{RepairIsSafe, SweepIsSafe}
 use Rattle.keep_safety.specs.SafeRewrite.{IsOneText, MeetsRewrite, RewriteIsSafe}
-use Rattle.keep_whole.specs.Restic.{SafeKeepsWhole, restic}
-use Rattle.keep_whole.specs.Whole.{IsWhole}
+use Rattle.keep_sound.specs.Restic.{SafeKeepsWhole, restic}
+use Rattle.keep_sound.specs.Whole.{IsWhole}
 use Rattle.keep_planned_books.specs.Jobs.{KeepsFor, PlannedChangesKeep, IsText, Meets, TaskIsText, blobs_built, others_built}
 
 -- the laws on which that rests

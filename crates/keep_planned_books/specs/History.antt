@@ -10,8 +10,8 @@ use Rattle.keep_ledger.specs.Reply.{Replies}
 use Rattle.keep_journal.specs.declared.request.Told.{Told}
 use Rattle.keep_journal.specs.declared.request.Request.{Request}
 use Rattle.keep_journal.specs.declared.request.Request.TheVariants.{Commit, Undo, Redo, Empty}
-use Rattle.keep_whole.specs.Restic.{restic}
-use Rattle.keep_whole.specs.Whole.{IsWhole}
+use Rattle.keep_sound.specs.Restic.{restic}
+use Rattle.keep_sound.specs.Whole.{IsWhole}
 use Rattle.keep_safety.specs.Met.{AreFiles, IsMet}
 use Rattle.keep_planned_books.specs.Jobs.{IsOfJob}
 

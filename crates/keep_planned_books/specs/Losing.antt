@@ -19,8 +19,8 @@ use Rattle.keep_journal.specs.declared.request.Request.{Request}
 use Rattle.keep_book.specs.Cascade.{AreUndone, with_undos}
 use Rattle.keep_read.specs.Findings.{findings_in}
 use Rattle.keep_read.specs.Losses.{LosesNoBlob}
-use Rattle.keep_whole.specs.Restic.{restic}
-use Rattle.keep_whole.specs.Whole.{IsWhole}
+use Rattle.keep_sound.specs.Restic.{restic}
+use Rattle.keep_sound.specs.Whole.{IsWhole}
 use Rattle.keep_planned_books.specs.History.{BeginsWhole, IsPlanned, IsPlannedHistory}
 
 -- each blob that a snapshot reaches is there, so an audit finds no snapshot broken for a blob that is missing, or whose

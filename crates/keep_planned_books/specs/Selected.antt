@@ -9,8 +9,8 @@ use Rattle.keep_change.specs.declared.change.Change.{Change}
 use Rattle.keep_sound.specs.Met.{IsPartOf}
 use Rattle.keep_sound.specs.Selection.{IsSelection}
 use Rattle.keep_view.specs.Shown.{Shown, known_of}
-use Rattle.keep_whole.specs.Restic.{restic}
-use Rattle.keep_whole.specs.Whole.{IsWhole}
+use Rattle.keep_sound.specs.Restic.{restic}
+use Rattle.keep_sound.specs.Whole.{IsWhole}
 use Rattle.keep_planned_books.specs.History.{BeginsWhole}
 use Rattle.keep_planned_books.specs.Jobs.{IsOfJob}
 

@@ -1,7 +1,7 @@
 ghost use Rattle.keep_jobs.specs.Job.{job_view};
 ghost use Rattle.keep_reach.specs.Sound.{IsSound};
-ghost use Rattle.keep_whole.specs.Restic.{restic};
-ghost use Rattle.keep_whole.specs.Whole.{IsWhole};
+ghost use Rattle.keep_sound.specs.Restic.{restic};
+ghost use Rattle.keep_sound.specs.Whole.{IsWhole};
 ghost use Rattle.keep_planned_books.specs.Jobs.{IsText, PlannedChangesKeep};
 ghost use Rattle.keep_planned_books.specs.Losing.{AnswersLoseNothing, BooksLoseNothing, CascadesLoseNothing, OpeningsLoseNothing, SelectionsLoseNothing};
 
@@ -15,11 +15,11 @@ use keep_safety::{
     a_planned_repair_is_safe, a_planned_sweep_is_safe, a_planned_tagging_is_safe,
     plan_rewrite_is_safe,
 };
+use keep_sound::{safe_changes_keep_whole, sound_repositories_are_whole};
 use keep_sound_books::{
     books_are_sound, books_begin_sound, books_stay_sound, selections_of_books_are_sound,
     views_know_what_books_know,
 };
-use keep_whole::{safe_changes_keep_whole, sound_repositories_are_whole};
 
 /// What a job is asked for in texts is such.
 pub fn jobs_are_said_in_texts<F: HoldsFilter>(job: &Job<F>)

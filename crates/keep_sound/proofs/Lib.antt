@@ -3,9 +3,12 @@ pub mod Covering
 pub mod Empty
 pub mod Giving
 pub mod Keeping
+pub mod KeepingWhole
+pub mod Open
 pub mod Owing
 pub mod Parts
 pub mod Places
 pub mod Planning
+pub mod Reached
 pub mod Retreed
 pub mod Selected

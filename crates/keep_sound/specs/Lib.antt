@@ -2,6 +2,9 @@ pub mod Careful
 pub mod Forms
 pub mod Met
 pub mod Plans
+pub mod Restic
 pub mod Retreeing
+pub mod Selected
 pub mod Selection
 pub mod Standing
+pub mod Whole

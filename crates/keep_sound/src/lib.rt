@@ -1,4 +1,5 @@
-//! The laws on which changes keep a repository's snapshots whole.
+//! The laws on which changes keep a repository's snapshots whole, the last of them in words that ask nothing of the
+//! formats of files.
 #![tactic(auto)]
 
 mod careful;
@@ -6,6 +7,7 @@ mod forms;
 mod plans;
 mod selections;
 mod trees;
+mod whole;
 
 pub use careful::{careful_changes_are_safe, soundness_is_by_names, the_empty_repository_is_sound};
 pub use forms::{
@@ -19,3 +21,7 @@ pub use selections::{
     commits_stay_sound, emptyings_stay_sound, filters_are_selections, selections_are_sound,
 };
 pub use trees::{built_trees_retree, kept_trees_retree_themselves, rewriting_is_safe};
+pub use whole::{
+    all_safe_changes_keep_whole, safe_changes_keep_whole, selections_are_whole,
+    sound_repositories_are_whole,
+};

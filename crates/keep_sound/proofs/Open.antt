@@ -20,8 +20,8 @@ use Rattle.keep_catalog.specs.Places.{at, bytes_at, has_id, slice_of}
 use Rattle.keep_catalog.specs.declared.spot.Spot.{Spot}
 use Rattle.keep_catalog.proofs.Ids.{id_refl}
 use Rattle.keep_sound.proofs.Parts.{bytes_by, has_blob_at, honest_by, listed_by, lists_at, slice_at, stored_by, stores_at}
-use Rattle.keep_whole.specs.Restic.{restic}
-use Rattle.keep_whole.specs.Whole.{HasText}
+use Rattle.keep_sound.specs.Restic.{restic}
+use Rattle.keep_sound.specs.Whole.{HasText}
 
 pub file_is : (r : Repository) (kind : Kind) (id : Id) → file_in r kind id ≡ finite.get r.files (named kind id)
 unfolding file_in

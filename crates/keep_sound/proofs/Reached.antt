@@ -28,9 +28,9 @@ use Rattle.keep_sound.specs.Met.{HasOneText, IsPartOf}
 use Rattle.keep_sound.proofs.Owing.{chosen_of_names, named_where, names_by_bytes, names_of_bytes}
 use Rattle.keep_sound.proofs.Parts.{bytes_by, filled_from, has_blob_at, honest_by, same_file, slice_at, snap_by}
 use Rattle.keep_sound.proofs.Places.{LeastIsChosen, chosen_listed, chosen_of_open, open_of_chosen, supports_from}
-use Rattle.keep_whole.specs.Restic.{SoundIsWhole, restic}
-use Rattle.keep_whole.specs.Whole.{HasFile, HasText, IsWhole, Names, Reaches}
-use Rattle.keep_whole.proofs.Open.{file_is, open_of_text, something, text_of_open}
+use Rattle.keep_sound.specs.Restic.{SoundIsWhole, restic}
+use Rattle.keep_sound.specs.Whole.{HasFile, HasText, IsWhole, Names, Reaches}
+use Rattle.keep_sound.proofs.Open.{file_is, open_of_text, something, text_of_open}
 
 -- ---- types of blobs
 

@@ -14,7 +14,7 @@ use Rattle.keep_reach.specs.Sound.{IsSound}
 use Rattle.keep_sound.specs.Careful.{IsSafe, Keeps}
 use Rattle.keep_sound.specs.Met.{AddsPart, HasOneText, IsPartOf}
 use Rattle.keep_sound.specs.Selection.{AllKeep, AreSafe}
-use Rattle.keep_whole.specs.Whole.{IsWhole, Says}
+use Rattle.keep_sound.specs.Whole.{IsWhole, Says}
 
 -- the tree of a snapshot; what the nodes of a tree name; whether the blob is one of an index, and one of a header
 abbrev pub restic : Says

@@ -1,5 +1,5 @@
-ghost use Rattle.keep_whole.specs.Restic.{AllSafeKeepWhole, SafeKeepsWhole, SoundIsWhole};
-ghost use Rattle.keep_whole.specs.Selected.{SelectionsAreWhole};
+ghost use Rattle.keep_sound.specs.Restic.{AllSafeKeepWhole, SafeKeepsWhole, SoundIsWhole};
+ghost use Rattle.keep_sound.specs.Selected.{SelectionsAreWhole};
 
 use keep_catalog::the_chosen_place_is_least;
 use keep_change::results_follow_the_lists;

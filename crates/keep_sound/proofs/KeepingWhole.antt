@@ -9,9 +9,9 @@ use Rattle.keep_sound.specs.Met.{HasOneText}
 use Rattle.keep_sound.specs.Selection.{AllKeep, AreSafe, with_added}
 use Rattle.keep_sound.proofs.Keeping.{part_after}
 use Rattle.keep_sound.proofs.Selected.{from_opening}
-use Rattle.keep_whole.specs.Restic.{AllSafeKeepWhole, SafeKeepsWhole, SoundIsWhole, restic}
-use Rattle.keep_whole.specs.Selected.{SelectionsAreWhole}
-use Rattle.keep_whole.specs.Whole.{IsWhole}
+use Rattle.keep_sound.specs.Restic.{AllSafeKeepWhole, SafeKeepsWhole, SoundIsWhole, restic}
+use Rattle.keep_sound.specs.Selected.{SelectionsAreWhole}
+use Rattle.keep_sound.specs.Whole.{IsWhole}
 
 pub selections_are_whole : FacetsFollow → FilesComeFrom → SelectionsAreWhole
 selections_are_whole follow come says all opening changes chosen part whole keep selection none =

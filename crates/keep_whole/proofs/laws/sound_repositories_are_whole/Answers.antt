@@ -1,5 +1,0 @@
-use Rattle.keep_whole.proofs.Reached.{sound_is_whole}
-use Rattle.keep_whole.proofs.laws.sound_repositories_are_whole.Goals as goal
-
-pub returns : goal.returns
-returns c = sound_is_whole c.the_chosen_place_is_least.ensures

@@ -1,3 +1,0 @@
-pub mod Restic
-pub mod Selected
-pub mod Whole
