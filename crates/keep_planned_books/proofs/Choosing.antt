@@ -8,7 +8,7 @@ use Rattle.keep_change.specs.declared.change.Change.{Change}
 use Rattle.keep_sound.specs.Careful.{Keeps}
 use Rattle.keep_sound.specs.Selection.{AllKeep, has_snapshot, known_by, known_in, with_added}
 use Rattle.keep_view.specs.Shown.{known_of}
-use Rattle.keep_sound_books.specs.SoundBooks.{ViewsKnow}
+use Rattle.keep_planned_books.specs.SoundBooks.{ViewsKnow}
 use Rattle.keep_sound.specs.Restic.{restic}
 use Rattle.keep_sound.specs.Selected.{SelectionsAreWhole}
 use Rattle.keep_sound.specs.Whole.{IsWhole}

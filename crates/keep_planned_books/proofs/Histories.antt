@@ -11,7 +11,7 @@ use Rattle.keep_ledger.specs.Reply.{told_of}
 use Rattle.keep_journal.specs.declared.request.Request.TheVariants.{Undo}
 use Rattle.keep_book.specs.Cascade.{AreUndone, with_undos}
 use Rattle.keep_read.specs.Losses.{SoundLosesNoBlob}
-use Rattle.keep_sound_books.specs.SoundBooks.{SelectionsOfBooksAreSound}
+use Rattle.keep_planned_books.specs.SoundBooks.{SelectionsOfBooksAreSound}
 use Rattle.keep_planned_books.specs.History.{BeginsWhole, IsPlannedHistory, accepted, begun, opened, read_again}
 use Rattle.keep_planned_books.specs.Losing.{AnswersLoseNothing, BooksLoseNothing, CascadesLoseNothing, LosesNothing, OpeningsLoseNothing, SelectionsLoseNothing}
 use Rattle.keep_planned_books.proofs.Heard.{by_reply}

@@ -26,7 +26,7 @@ use Rattle.keep_ledger.specs.declared.reply.Refusal.TheVariants.{Full, Malformed
 use Rattle.keep_journal.specs.declared.request.Told.{Told}
 use Rattle.keep_journal.specs.declared.request.Request.{Request}
 use Rattle.keep_journal.specs.declared.request.Request.TheVariants.{Commit, Undo, Redo, Empty}
-use Rattle.keep_sound_books.specs.SoundBooks.{BooksAreSound, BooksBeginSound, BooksStaySound, IsSoundBook, KeepsSound, ViewsKnow, known_to}
+use Rattle.keep_planned_books.specs.SoundBooks.{BooksAreSound, BooksBeginSound, BooksStaySound, IsSoundBook, KeepsSound, ViewsKnow, known_to}
 use Rattle.keep_sound.specs.Restic.{SoundIsWhole}
 use Rattle.keep_planned_books.specs.History.{BeginsWhole, IsOneOf, IsPlanned}
 use Rattle.keep_planned_books.specs.Jobs.{IsOfJob, KeepsFor, PlannedChangesKeep}

@@ -1,7 +1,10 @@
 pub mod Choosing
+pub mod Growing
 pub mod Heard
 pub mod Histories
 pub mod JobSafe
 pub mod Keeping
+pub mod Knowing
 pub mod Opening
 pub mod Said
+pub mod Sound

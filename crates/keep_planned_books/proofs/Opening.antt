@@ -17,7 +17,7 @@ use Rattle.keep_ledger.specs.LedgerState.{LedgerState}
 use Rattle.keep_ledger.specs.OnShelf.{OnShelf}
 use Rattle.keep_ledger.specs.Opened.{IsOpened}
 use Rattle.keep_ledger.specs.Stops.{Says}
-use Rattle.keep_sound_books.specs.SoundBooks.{IsSoundBook}
+use Rattle.keep_planned_books.specs.SoundBooks.{IsSoundBook}
 use Rattle.keep_planned_books.specs.History.{read_again}
 
 and_same : (b : Bool) → (b && b) ≡ b

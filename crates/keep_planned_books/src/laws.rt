@@ -5,6 +5,10 @@ ghost use Rattle.keep_sound.specs.Whole.{IsWhole};
 ghost use Rattle.keep_planned_books.specs.Jobs.{IsText, PlannedChangesKeep};
 ghost use Rattle.keep_planned_books.specs.Losing.{AnswersLoseNothing, BooksLoseNothing, CascadesLoseNothing, OpeningsLoseNothing, SelectionsLoseNothing};
 
+use crate::{
+    books_are_sound, books_begin_sound, books_stay_sound, selections_of_books_are_sound,
+    views_know_what_books_know,
+};
 use keep_jobs::{HoldsFilter, Job};
 use keep_journal::what_is_told_is_kept;
 use keep_names::orders_tell_apart;
@@ -16,10 +20,6 @@ use keep_safety::{
     plan_rewrite_is_safe,
 };
 use keep_sound::{safe_changes_keep_whole, sound_repositories_are_whole};
-use keep_sound_books::{
-    books_are_sound, books_begin_sound, books_stay_sound, selections_of_books_are_sound,
-    views_know_what_books_know,
-};
 
 /// What a job is asked for in texts is such.
 pub fn jobs_are_said_in_texts<F: HoldsFilter>(job: &Job<F>)

@@ -3,8 +3,13 @@
 
 mod laws;
 mod selected;
+mod sound_books;
 
 pub use laws::{
     jobs_are_said_in_texts, planned_changes_keep_whole, planned_histories_lose_nothing,
 };
 pub use selected::planned_selections_are_whole;
+pub use sound_books::{
+    books_are_sound, books_begin_sound, books_stay_sound, selections_of_books_are_sound,
+    views_know_what_books_know,
+};

@@ -1,8 +1,8 @@
 ghost use Rattle.keep_planned_books.specs.Selected.{PlannedSelectionsAreWhole};
 
 use crate::laws::planned_changes_keep_whole;
+use crate::views_know_what_books_know;
 use keep_sound::selections_are_whole;
-use keep_sound_books::views_know_what_books_know;
 
 /// No selection of planned changes loses a blob: whichever of them are made of a whole opening, in their order, what
 /// they make is whole.

@@ -1,4 +1,4 @@
-ghost use Rattle.keep_sound_books.specs.SoundBooks.{BooksAreSound, BooksBeginSound, BooksStaySound, SelectionsOfBooksAreSound, ViewsKnow};
+ghost use Rattle.keep_planned_books.specs.SoundBooks.{BooksAreSound, BooksBeginSound, BooksStaySound, SelectionsOfBooksAreSound, ViewsKnow};
 
 use keep_pages::accepted_requests_leave_open_ledgers;
 use keep_sound::{

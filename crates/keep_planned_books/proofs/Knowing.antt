@@ -9,7 +9,7 @@ use Rattle.keep_change.specs.Fold.{Numbered}
 use Rattle.keep_view.specs.Laws.{KnownAreThereOrAdded}
 use Rattle.keep_sound.specs.Selection.{has_snapshot, known_by, with_added}
 use Rattle.keep_sound.specs.Standing.{file_facet}
-use Rattle.keep_sound_books.specs.SoundBooks.{ViewsKnow}
+use Rattle.keep_planned_books.specs.SoundBooks.{ViewsKnow}
 
 -- whether one of the changes adds the snapshot
 abbrev one_adds : Id → List Numbered → Bool

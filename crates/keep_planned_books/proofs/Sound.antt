@@ -20,8 +20,8 @@ use Rattle.keep_sound.specs.Selection.{CommitsStaySound, EmptyingsStaySound, Fil
 use Rattle.keep_pages.specs.Histories.{IsOpenLedger}
 use Rattle.keep_pages.specs.Laws.{AcceptedStayOpen}
 use Rattle.keep_pages.proofs.Accepting.{accepts}
-use Rattle.keep_sound_books.specs.SoundBooks.{BooksAreSound, BooksBeginSound, BooksStaySound, IsSoundBook, KeepsSound, SelectionsOfBooksAreSound}
-use Rattle.keep_sound_books.proofs.Growing.{becoming_final, break_front, kept_selected, unfinal-Commit, unfinal-Empty, unfinal-Redo, unfinal-Undo, unfinal_split, up_to_selected}
+use Rattle.keep_planned_books.specs.SoundBooks.{BooksAreSound, BooksBeginSound, BooksStaySound, IsSoundBook, KeepsSound, SelectionsOfBooksAreSound}
+use Rattle.keep_planned_books.proofs.Growing.{becoming_final, break_front, kept_selected, unfinal-Commit, unfinal-Empty, unfinal-Redo, unfinal-Undo, unfinal_split, up_to_selected}
 
 -- ---- how a book begins
 

@@ -1,5 +1,5 @@
-use Rattle.keep_sound_books.proofs.Sound as lemmas
-use Rattle.keep_sound_books.proofs.laws.books_stay_sound.Goals as goal
+use Rattle.keep_planned_books.proofs.Sound as lemmas
+use Rattle.keep_planned_books.proofs.sound_books.books_stay_sound.Goals as goal
 
 pub returns : goal.returns
 returns c =

@@ -1,5 +1,0 @@
-use Rattle.keep_sound_books.proofs.Knowing.{views_know}
-use Rattle.keep_sound_books.proofs.laws.views_know_what_books_know.Goals as goal
-
-pub returns : goal.returns
-returns c = views_know c.the_known_are_there_or_added.ensures
