@@ -1,4 +1,5 @@
 pub mod Choosing
+pub mod Going
 pub mod Growing
 pub mod Heard
 pub mod Histories

@@ -1,5 +1,5 @@
-use Rattle.keep_planned_lines.proofs.Going.{jobs_lose_nothing, revisions_lose_nothing, taken_lose_nothing}
-use Rattle.keep_planned_lines.proofs.laws.planned_lines_lose_nothing.Goals as goal
+use Rattle.keep_planned_books.proofs.Going.{jobs_lose_nothing, revisions_lose_nothing, taken_lose_nothing}
+use Rattle.keep_planned_books.proofs.lines.planned_lines_lose_nothing.Goals as goal
 
 pub returns : goal.returns
 returns c =

@@ -1,6 +1,6 @@
-ghost use Rattle.keep_planned_lines.specs.Lines.{JobsLoseNothing, RevisionsLoseNothing, TakenLoseNothing};
+ghost use Rattle.keep_planned_books.specs.Lines.{JobsLoseNothing, RevisionsLoseNothing, TakenLoseNothing};
 
-use keep_planned_books::planned_histories_lose_nothing;
+use crate::planned_histories_lose_nothing;
 
 /// The answers to lines go on with a planned history, as long as no file is added or dropped by hand: so no snapshot
 /// loses a blob by them. Lines that ask for no job and take nothing back leave the book as it is.

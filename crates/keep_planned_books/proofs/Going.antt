@@ -16,7 +16,7 @@ use Rattle.keep_answers.specs.State.{State}
 use Rattle.keep_planned_books.proofs.Heard.{by_reply}
 use Rattle.keep_planned_books.specs.History.{BeginsWhole, IsPlanned, IsPlannedHistory, accepted}
 use Rattle.keep_planned_books.specs.Losing.{BooksLoseNothing, CascadesLoseNothing}
-use Rattle.keep_planned_lines.specs.Lines.{GoesOn, JobsLoseNothing, MeetsJob, RevisionsLoseNothing, TakenLoseNothing}
+use Rattle.keep_planned_books.specs.Lines.{GoesOn, JobsLoseNothing, MeetsJob, RevisionsLoseNothing, TakenLoseNothing}
 
 -- the planned history goes on with this book
 abbrev Goes : Repository → Repository → LedgerState → Type 0
