@@ -4,8 +4,8 @@ use Rattle.std.specs.Global.{Global}
 use Rattle.keep_acts.specs.Shown.{shown_by}
 use Rattle.keep_book.specs.Armed.{ledger_of}
 use Rattle.keep_book.specs.declared.book.Book.{Book}
-use Rattle.keep_filters.specs.declared.pick.Pick.{Pick}
-use Rattle.keep_filters.specs.declared.pick.Pick.TheVariants as pick
+use Rattle.keep_plan.specs.declared.pick.Pick.{Pick}
+use Rattle.keep_plan.specs.declared.pick.Pick.TheVariants as pick
 use Rattle.keep_jobs.specs.Job as job
 use Rattle.keep_jobs.specs.Job.{SettingsData, TaskData, job_change}
 use Rattle.keep_plan.specs.declared.plan_error.PlanError.TheVariants.{Memory}

@@ -7,9 +7,8 @@ use crate::changing::change;
 use crate::not_done::NotDone;
 use crate::outcome::Outcome;
 use keep_book::Book;
-use keep_filters::Filter;
 use keep_jobs::{Job, Settings};
-use keep_plan::PlanError;
+use keep_plan::{Filter, PlanError};
 use keep_shelf::Shelf;
 use std::alloc::Global;
 

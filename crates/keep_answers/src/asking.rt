@@ -13,11 +13,10 @@ use crate::reply::{Outcome, is_fault, is_stopped_by_fault};
 use crate::session::Session;
 use keep_book::{Book, TakenBack};
 use keep_change::{Change, Planned};
-use keep_filters::Filter;
 use keep_jobs::{Job, plan};
 use keep_ledger::{Refusal, Request, Told};
 use keep_lines::Sizes;
-use keep_plan::PlanError;
+use keep_plan::{Filter, PlanError};
 use keep_shelf::Shelf;
 
 impl Session {

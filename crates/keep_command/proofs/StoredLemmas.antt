@@ -5,8 +5,8 @@ use Rattle.keep_hooks.specs.declared.limit.Limit.{Limit}
 use Rattle.keep_hooks.specs.declared.limit.Limit.TheVariants.{NoEmpty, SnapshotDropsAtMost}
 use Rattle.keep_hooks.specs.declared.measure.Measure.{Measure}
 use Rattle.keep_hooks.specs.declared.measure.Measure.TheVariants.{Events, FilesWritten}
-use Rattle.keep_filters.specs.declared.pick.Pick.{Pick}
-use Rattle.keep_filters.specs.declared.pick.Pick.TheVariants.{Any, Host, Tagged}
+use Rattle.keep_plan.specs.declared.pick.Pick.{Pick}
+use Rattle.keep_plan.specs.declared.pick.Pick.TheVariants.{Any, Host, Tagged}
 use Rattle.keep_jobs.specs.Kits.{NamedRule}
 use Rattle.keep_command.specs.Option.{OptionsData}
 use Rattle.keep_command.specs.Following.{EndsBy, EndsWith}

@@ -7,7 +7,7 @@ use Rattle.keep_jobs.specs.Job.{SettingsData}
 use Rattle.keep_jobs.specs.Kits.{KitData, NamedRule}
 use Rattle.keep_hooks.specs.declared.limit.Limit.TheVariants.{NoEmpty, SnapshotDropsAtMost}
 use Rattle.keep_hooks.specs.declared.measure.Measure.TheVariants.{Events, FilesWritten}
-use Rattle.keep_filters.specs.declared.pick.Pick.TheVariants.{Any, Host, Tagged}
+use Rattle.keep_plan.specs.declared.pick.Pick.TheVariants.{Any, Host, Tagged}
 use Rattle.keep_shelf.specs.Shelved.{Shelved}
 use Rattle.keep_ledger.specs.Opened.{IsNotOpened}
 use Rattle.keep_opening.specs.declared.open_error.OpenError.TheVariants.{Memory}

@@ -15,11 +15,11 @@ use crate::options::{BadOptions, Options, find_bad_word, read_options};
 use crate::serving::serve;
 use crate::terms::Terms;
 use keep_change::{Outline, What};
-use keep_filters::{AskFacts, Filter, Pick, has_tag};
 use keep_hooks::{
     AskOutline, CountOutline, Limit, Measure, Veto, Watch, files_written, snapshots_dropped,
 };
 use keep_jobs::Kit;
+use keep_plan::{AskFacts, Filter, Pick, has_tag};
 use keep_script::Status;
 use keep_snap::SnapFacts;
 use std::alloc::{AllocError, Global};

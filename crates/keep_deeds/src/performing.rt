@@ -7,9 +7,9 @@ ghost use Rattle.keep_deeds.specs.Performing.{DoesJob, Performs};
 use crate::deed::Deed;
 use keep_acts::{Made, NotDone, Outcome, Pruned, ask, change, change_chosen, prune};
 use keep_book::{Book, TakenBack};
-use keep_filters::Filter;
 use keep_jobs::{Job, Settings};
 use keep_ledger::Refusal;
+use keep_plan::Filter;
 use keep_shelf::Shelf;
 use std::alloc::Global;
 

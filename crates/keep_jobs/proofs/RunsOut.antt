@@ -2,7 +2,7 @@
 use Rattle.std.proofs.Common.{◌≡◌, Bool, true, false, not, Option, Some, Result, refl}
 use Rattle.std.proofs.lemmas.Result.{err_from_is_err_and}
 use Rattle.std.specs.Result.{IsErrAnd}
-use Rattle.keep_filters.specs.declared.pick.Pick.{Pick}
+use Rattle.keep_plan.specs.declared.pick.Pick.{Pick}
 use Rattle.keep_jobs.specs.Job.{JobData}
 use Rattle.keep_jobs.specs.Resolving.{Resolves, takes_memory}
 use Rattle.keep_jobs.specs.declared.job.Job.{Job}

@@ -3,7 +3,7 @@ use Rattle.std.specs.Prelude.{ℕ, ℤ, Bool, false, List, map, string_bytes, Op
 use Rattle.keep_backup.specs.Backup.{FactsData, backup_change, facts_view}
 use Rattle.keep_backup.specs.Files.{given_view}
 use Rattle.keep_change.specs.declared.change.Change.{Change}
-use Rattle.keep_filters.specs.declared.pick.Pick.{Pick}
+use Rattle.keep_plan.specs.declared.pick.Pick.{Pick}
 use Rattle.keep_jobs.specs.Patterns.{patterns_in}
 use Rattle.keep_jobs.specs.declared.job.Job as the_job_type
 use Rattle.keep_jobs.specs.declared.job.Job.TheVariants as the_job

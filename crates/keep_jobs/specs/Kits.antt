@@ -4,9 +4,9 @@ use Rattle.std.specs.List.{find}
 use Rattle.std.specs.Str.{bytes_eq}
 use Rattle.keep_hooks.specs.Guards.{Rule, WatchData}
 use Rattle.keep_hooks.specs.Rules.{rules_of, watches_of}
-use Rattle.keep_filters.specs.declared.filter.Filter.{Filter}
+use Rattle.keep_plan.specs.declared.filter.Filter.{Filter}
 use Rattle.keep_jobs.specs.declared.kit.Kit.{Kit}
-use Rattle.keep_filters.specs.declared.pick.Pick.{Pick}
+use Rattle.keep_plan.specs.declared.pick.Pick.{Pick}
 
 -- the name of a filter, and the rule that it answers by
 abbrev pub NamedRule : Type 0

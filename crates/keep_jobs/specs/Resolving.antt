@@ -2,7 +2,7 @@
 use Rattle.std.specs.Prelude.{◌≡◌, ℕ, Bool, true, false, not, List, [], ◌∷◌, codes, map, option_map, string_bytes, Option, Some, None, Result, Ok, Err, unwrap_or}
 use Rattle.keep_backup.specs.Backup.{FactsData}
 use Rattle.keep_backup.specs.Files.{given_view}
-use Rattle.keep_filters.specs.declared.pick.Pick.{Pick}
+use Rattle.keep_plan.specs.declared.pick.Pick.{Pick}
 use Rattle.keep_jobs.specs.Job as job
 use Rattle.keep_jobs.specs.Job.{JobData, TaskData, job_view}
 use Rattle.keep_jobs.specs.Kits.{NamedRule, rule_named}

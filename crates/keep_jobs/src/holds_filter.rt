@@ -1,8 +1,7 @@
 use crate::job::Task;
 use crate::task::plan_task;
 use keep_change::Planned;
-use keep_filters::Filter;
-use keep_plan::PlanError;
+use keep_plan::{Filter, PlanError};
 use keep_view::View;
 use std::alloc::Global;
 
@@ -12,7 +11,7 @@ pub trait HoldsFilter {
     ghost use Rattle.keep_change.specs.Change.{is_met};
     ghost use Rattle.keep_change.specs.Form.{IsWellFormed};
     ghost use Rattle.keep_docs.specs.Doc.{Answers};
-    ghost use Rattle.keep_filters.specs.declared.pick.Pick.{Pick};
+    ghost use Rattle.keep_plan.specs.declared.pick.Pick.{Pick};
     ghost use Rattle.keep_jobs.specs.Job.{is_bad_task, task_change, task_view};
     ghost use Rattle.keep_plan.specs.declared.plan_error.PlanError.TheVariants as the_error;
     ghost use Rattle.keep_repo.specs.Repository.{held};

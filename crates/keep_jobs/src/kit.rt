@@ -1,5 +1,5 @@
-use keep_filters::Filter;
 use keep_hooks::{Veto, Watch};
+use keep_plan::Filter;
 
 /// What a run has stored: its filters, vetoes and watches, each list in the order in which they were put there.
 #[derive(Drop)]

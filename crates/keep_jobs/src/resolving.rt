@@ -10,10 +10,10 @@ ghost use Rattle.keep_lines.specs.declared.mistake.Mistake.TheVariants.{NoFilter
 use crate::job::{Job, Task};
 use crate::kit::Kit;
 use keep_backup::BackupFacts;
-use keep_filters::Filter;
 use keep_lines::{
     BackupLine, ForgetLine, JobLine, LineError, Mistake, RewriteLine, TagLine, edit_of, policy_of,
 };
+use keep_plan::Filter;
 use std::alloc::{AllocError, Global};
 
 /// The job that the line asks for, with the kit's filter in the place of its name.

@@ -13,8 +13,8 @@ use Rattle.keep_change.specs.NamedBytes.{NamedBytes}
 use Rattle.keep_change.specs.declared.change.Change.{Change}
 use Rattle.keep_change.specs.declared.change.Planned.{Planned}
 use Rattle.keep_docs.specs.Doc.{Answers}
-use Rattle.keep_filters.specs.Taking.{taken_in}
-use Rattle.keep_filters.specs.declared.pick.Pick.{Pick}
+use Rattle.keep_plan.specs.Taking.{taken_in}
+use Rattle.keep_plan.specs.declared.pick.Pick.{Pick}
 use Rattle.keep_plan.specs.Refusal.{unless, unread_first}
 use Rattle.keep_plan.specs.declared.plan_error.PlanError.{PlanError}
 use Rattle.keep_plan.specs.declared.plan_error.PlanError.TheVariants.{Memory, NothingToDo}

@@ -17,8 +17,8 @@ use Rattle.keep_change.specs.declared.change.Change.{Change}
 use Rattle.keep_change.specs.declared.change.Planned.{Planned}
 use Rattle.keep_docs.specs.Doc.{Answers}
 use Rattle.keep_catalog.specs.Files.{snap_in}
-use Rattle.keep_filters.specs.Taking.{taken_in}
-use Rattle.keep_filters.specs.declared.pick.Pick.{Pick}
+use Rattle.keep_plan.specs.Taking.{taken_in}
+use Rattle.keep_plan.specs.declared.pick.Pick.{Pick}
 use Rattle.keep_plan.specs.Refusal.{unless, unread_first}
 use Rattle.keep_plan.specs.Settling.{CanBeMade, absent_files, is_any_taken, settled}
 use Rattle.keep_plan.specs.declared.plan_error.PlanError.{PlanError}

@@ -20,9 +20,9 @@ use Rattle.keep_snap.specs.declared.snap.SnapError.TheVariants.{BadTime}
 use Rattle.keep_snap.specs.declared.time.Time.{Time}
 use Rattle.keep_repo.proofs.Rising.{keys_in_order}
 use Rattle.keep_catalog.specs.Files.{snaps_in}
-use Rattle.keep_filters.specs.Picks.{picks}
-use Rattle.keep_filters.specs.Taking.{named_facts, taken_in}
-use Rattle.keep_filters.specs.declared.pick.Pick.{Pick}
+use Rattle.keep_plan.specs.Picks.{picks}
+use Rattle.keep_plan.specs.Taking.{named_facts, taken_in}
+use Rattle.keep_plan.specs.declared.pick.Pick.{Pick}
 use Rattle.keep_labels.specs.Swapping.{snapshot_file, snapshot_files}
 use Rattle.keep_plan.proofs.Rising.{rise_kept, rise_made}
 

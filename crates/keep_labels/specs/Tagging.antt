@@ -12,8 +12,8 @@ use Rattle.keep_snap.specs.Written.{snap_data}
 use Rattle.keep_change.specs.NamedBytes.{NamedBytes, file_of}
 use Rattle.keep_change.specs.declared.change.Change.{Change}
 use Rattle.keep_catalog.specs.Files.{snap_in}
-use Rattle.keep_filters.specs.Taking.{taken_in}
-use Rattle.keep_filters.specs.declared.pick.Pick.{Pick}
+use Rattle.keep_plan.specs.Taking.{taken_in}
+use Rattle.keep_plan.specs.declared.pick.Pick.{Pick}
 use Rattle.keep_plan.specs.Refusal.{unless, unread_first}
 use Rattle.keep_plan.specs.Settling.{absent_files, is_any_taken}
 use Rattle.keep_plan.specs.declared.plan_error.PlanError.{PlanError}

@@ -1,12 +1,11 @@
 ghost use Rattle.std.specs.Prelude.{◌≡◌, ◌≢◌, IfErr, IfOk, None, Some, map};
 ghost use Rattle.keep_snap.specs.Facts.{facts_view};
-ghost use Rattle.keep_filters.specs.Taking.{taken_in};
+ghost use Rattle.keep_plan.specs.Taking.{taken_in};
 ghost use Rattle.keep_plan.specs.Refusal.{unread_first};
 ghost use Rattle.keep_plan.specs.declared.plan_error.PlanError.TheVariants as the_error;
 
 use keep_catalog::Catalog;
-use keep_filters::Filter;
-use keep_plan::PlanError;
+use keep_plan::{Filter, PlanError};
 use keep_snap::SnapFacts;
 use keep_view::View;
 use std::alloc::Global;

@@ -3,7 +3,7 @@ use Rattle.std.specs.Prelude.{◌≡◌, ℕ, ◌<◌, List, length}
 use Rattle.std.specs.List.{slice_index_or}
 use Rattle.keep_crew.specs.declared.work.Work.{Work}
 use Rattle.keep_crew.specs.declared.work.Work.TheVariants.{Plan, Undo, Redo, Empty}
-use Rattle.keep_filters.specs.declared.pick.Pick.TheVariants.{Any}
+use Rattle.keep_plan.specs.declared.pick.Pick.TheVariants.{Any}
 use Rattle.keep_jobs.specs.Job.{JobData, SettingsData, job_view, settings_view}
 use Rattle.keep_jobs.specs.declared.job.Job.{Job}
 use Rattle.keep_operators.specs.declared.each_snapshot.EachSnapshot.{EachSnapshot}

@@ -1,7 +1,6 @@
 use keep_change::Planned;
-use keep_filters::{AskFacts, Filter, Pick};
 use keep_jobs::{HoldsFilter, Task};
-use keep_plan::PlanError;
+use keep_plan::{AskFacts, Filter, Pick, PlanError};
 use keep_snap::SnapFacts;
 use keep_view::View;
 use std::alloc::Global;
@@ -12,7 +11,7 @@ use std::alloc::Global;
 pub struct EachSnapshot;
 
 impl HoldsFilter for EachSnapshot {
-    ghost use Rattle.keep_filters.specs.declared.pick.Pick.TheVariants.{Any};
+    ghost use Rattle.keep_plan.specs.declared.pick.Pick.TheVariants.{Any};
 
     ghost rule = { λ _. Any };
 

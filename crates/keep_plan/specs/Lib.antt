@@ -1,5 +1,7 @@
 pub mod Files
 pub mod Marks
+pub mod Picks
 pub mod Refusal
 pub mod Reuse
 pub mod Settling
+pub mod Taking

@@ -1,18 +1,22 @@
 //! What all planners share: why they refuse, and what becomes of files that they build and of blobs that they use
-//! where they are.
+//! where they are; and filters, questions about snapshots that operators store under names, each with its rule.
 #![tactic(auto)]
 
+mod filter;
 mod laws;
+mod pick;
 mod plan_error;
 mod reuses;
 mod settling;
 mod stored;
 mod unreached;
 
+pub use filter::{AskFacts, Filter};
 pub use laws::{
     each_built_file_is_settled, each_use_is_recorded, refusals_keep_their_words,
     what_is_settled_can_be_made,
 };
+pub use pick::{Pick, has_path, has_tag};
 pub use plan_error::PlanError;
 pub use reuses::Reuses;
 pub use settling::{settle_files, settle_new};

@@ -1,5 +1,5 @@
 -- What a job is asked for in texts is such.
-use Rattle.keep_filters.specs.declared.pick.Pick.{Pick}
+use Rattle.keep_plan.specs.declared.pick.Pick.{Pick}
 use Rattle.keep_jobs.specs.Job.{job_view, task_view}
 use Rattle.keep_jobs.specs.declared.job.Job as the_job_type
 use Rattle.keep_jobs.specs.declared.job.Job.TheVariants as the_job

@@ -8,8 +8,8 @@ use Rattle.keep_change.specs.Lists.{marked_packs}
 use Rattle.keep_change.specs.NamedBytes.{NamedBytes}
 use Rattle.keep_change.specs.declared.change.Change.{Change}
 use Rattle.keep_change.specs.declared.change.Planned.{Planned}
-use Rattle.keep_filters.specs.Taking.{taken_in}
-use Rattle.keep_filters.specs.declared.pick.Pick.{Pick}
+use Rattle.keep_plan.specs.Taking.{taken_in}
+use Rattle.keep_plan.specs.declared.pick.Pick.{Pick}
 use Rattle.keep_sound.specs.Careful.{Keeps}
 use Rattle.keep_sound.specs.Met.{AddsPart, IsIn}
 use Rattle.keep_view.specs.Shown.{Shown}

@@ -20,9 +20,9 @@ use Rattle.keep_repo.proofs.Rising.{keys_in_order}
 use Rattle.keep_catalog.specs.Files.{ids_in, named_snap, snap_in, snaps_in}
 use Rattle.keep_reach.specs.Snapshots.{refusal_from, refusal_of, refusals_of, root_of}
 use Rattle.keep_catalog.specs.declared.reach_error.ReachError.{ReachError}
-use Rattle.keep_filters.specs.Picks.{picks}
-use Rattle.keep_filters.specs.Taking.{named_facts, taken_in}
-use Rattle.keep_filters.specs.declared.pick.Pick.{Pick}
+use Rattle.keep_plan.specs.Picks.{picks}
+use Rattle.keep_plan.specs.Taking.{named_facts, taken_in}
+use Rattle.keep_plan.specs.declared.pick.Pick.{Pick}
 use Rattle.keep_plan.proofs.Ordered.{All-entries}
 use Rattle.keep_rewrite.specs.Walking.{AreReached}
 use Rattle.keep_rewrite.proofs.Kept.{passed}

@@ -20,8 +20,8 @@ use Rattle.keep_catalog.specs.Files.{snap_in}
 use Rattle.keep_reach.specs.Reach.{most_levels}
 use Rattle.keep_reach.specs.Snapshots.{refusals_of}
 use Rattle.keep_catalog.specs.declared.reach_error.ReachError.{ReachError}
-use Rattle.keep_filters.specs.Taking.{taken_in}
-use Rattle.keep_filters.specs.declared.pick.Pick.{Pick}
+use Rattle.keep_plan.specs.Taking.{taken_in}
+use Rattle.keep_plan.specs.declared.pick.Pick.{Pick}
 use Rattle.keep_plan.specs.Refusal.{of_reach, unless, unread_first}
 use Rattle.keep_plan.proofs.Taken.{fewer_so}
 use Rattle.keep_plan.specs.Settling.{absent_files, is_any_taken}

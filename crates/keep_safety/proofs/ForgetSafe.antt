@@ -6,8 +6,8 @@ use Rattle.keep_names.specs.declared.id.Id.{Id}
 use Rattle.keep_repo.specs.Repository.{Repository}
 use Rattle.keep_change.specs.Lists.{SortedListsAreWellFormed}
 use Rattle.keep_change.specs.declared.change.Change.{Change}
-use Rattle.keep_filters.specs.Taking.{taken_in}
-use Rattle.keep_filters.specs.declared.pick.Pick.{Pick}
+use Rattle.keep_plan.specs.Taking.{taken_in}
+use Rattle.keep_plan.specs.declared.pick.Pick.{Pick}
 use Rattle.keep_sound.specs.Careful.{IsSafe}
 use Rattle.keep_sound.specs.Met.{HasOneText}
 use Rattle.keep_sound.specs.Plans.{ForgettingIsSafe}

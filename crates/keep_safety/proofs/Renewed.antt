@@ -28,9 +28,9 @@ use Rattle.keep_snap.specs.declared.snap.SnapError.TheVariants.{BadTime}
 use Rattle.keep_snap.specs.declared.time.Time.{Time}
 use Rattle.keep_catalog.specs.Files.{ids_in, named_snap, snap_in, snaps_in}
 use Rattle.keep_reach.specs.Snapshots.{root_of}
-use Rattle.keep_filters.specs.Picks.{picks}
-use Rattle.keep_filters.specs.Taking.{named_facts, taken_in}
-use Rattle.keep_filters.specs.declared.pick.Pick.{Pick}
+use Rattle.keep_plan.specs.Picks.{picks}
+use Rattle.keep_plan.specs.Taking.{named_facts, taken_in}
+use Rattle.keep_plan.specs.declared.pick.Pick.{Pick}
 use Rattle.keep_plan.proofs.Made.{added_so}
 use Rattle.keep_plan.proofs.Ordered.{All-entries}
 use Rattle.keep_plan.specs.Settling.{absent_files}

@@ -35,8 +35,8 @@ use Rattle.keep_catalog.specs.Files.{file_in, snap_in, snap_of, snap_read}
 use Rattle.keep_catalog.specs.Orders.{blob_eq}
 use Rattle.keep_reach.specs.Reach.{most_levels}
 use Rattle.keep_reach.specs.Snapshots.{refusal_from, root_of}
-use Rattle.keep_filters.specs.Taking.{taken_in}
-use Rattle.keep_filters.specs.declared.pick.Pick.{Pick}
+use Rattle.keep_plan.specs.Taking.{taken_in}
+use Rattle.keep_plan.specs.declared.pick.Pick.{Pick}
 use Rattle.keep_plan.proofs.Made.{added_so}
 use Rattle.keep_sound.proofs.Covering.{file_of_name}
 use Rattle.keep_sound.specs.Careful.{IsSafe}

@@ -3,7 +3,7 @@ use Rattle.std.specs.Prelude.{◌≡◌, Bool, All, IsUtf8, IfSome, Ok}
 use Rattle.keep_names.specs.declared.id.Id.{Id}
 use Rattle.keep_repo.specs.Repository.{Repository}
 use Rattle.keep_change.specs.declared.change.Change.{Change}
-use Rattle.keep_filters.specs.declared.pick.Pick.{Pick}
+use Rattle.keep_plan.specs.declared.pick.Pick.{Pick}
 use Rattle.keep_sound.specs.Careful.{IsSafe}
 use Rattle.keep_sound.specs.Met.{AddsPart, HasOneText}
 use Rattle.keep_labels.specs.Edits.{EditData, edit_view}

@@ -6,8 +6,8 @@ use Rattle.keep_tree.specs.Parsing.{PatternData}
 use Rattle.keep_change.specs.declared.change.Change.{Change}
 use Rattle.keep_catalog.specs.Places.{bytes_at, is_honest}
 use Rattle.keep_catalog.specs.declared.spot.Spot.{Spot}
-use Rattle.keep_filters.specs.Taking.{taken_in}
-use Rattle.keep_filters.specs.declared.pick.Pick.{Pick}
+use Rattle.keep_plan.specs.Taking.{taken_in}
+use Rattle.keep_plan.specs.declared.pick.Pick.{Pick}
 use Rattle.keep_sound.specs.Careful.{IsSafe}
 use Rattle.keep_sound.specs.Met.{AddsPart, IsIn}
 use Rattle.keep_backup.specs.Blobs.{BlobData, blob_id_of}

@@ -1,11 +1,11 @@
 use crate::running::{Counts, Trial, run_lines, run_script};
 use crate::stop::Stop;
 use keep_change::{Outline, What};
-use keep_filters::{AskFacts, Filter, Pick};
 use keep_hooks::{
     AskOutline, CountOutline, Limit, Measure, Veto, Watch, files_written, snapshots_dropped,
 };
 use keep_jobs::Kit;
+use keep_plan::{AskFacts, Filter, Pick};
 use keep_snap::SnapFacts;
 
 /// Makes the trial, whose lines can name the filter `all`. Those of one script can arm the vetoes `few-drops` and

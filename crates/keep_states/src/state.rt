@@ -1,8 +1,8 @@
 use crate::ground::Ground;
 use keep_change::{Change, Planned};
-use keep_filters::Filter;
 use keep_jobs::Kit;
 use keep_names::{FileName, Id};
+use keep_plan::Filter;
 use keep_repo::{Bytes, Mark, Repo};
 use std::alloc::{AllocError, Global};
 use std::mem;

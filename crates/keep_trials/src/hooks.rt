@@ -2,9 +2,9 @@ ghost use Rattle.std.specs.Prelude.{◌≡◌, IfOk};
 ghost use Rattle.keep_hooks.specs.Written.{name_count};
 
 use keep_change::{Listed, Outline, What};
-use keep_filters::{AskFacts, Filter, Pick, has_path};
 use keep_hooks::{ArmedWatch, CountOutline, Measure, Watch, snapshots_dropped};
 use keep_names::{FileName, id_of};
+use keep_plan::{AskFacts, Filter, Pick, has_path};
 use keep_snap::{Month, SnapFacts};
 use std::alloc::{AllocError, Global};
 use std::test::Fail;

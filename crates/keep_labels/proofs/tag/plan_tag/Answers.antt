@@ -3,7 +3,7 @@ use Rattle.std.proofs.lemmas.Result.{err_from_is_err_and}
 use Rattle.keep_repo.specs.Repository.{held}
 use Rattle.keep_change.specs.Change.{is_met}
 use Rattle.keep_change.specs.Form.{IsWellFormed}
-use Rattle.keep_filters.specs.Taking.{taken_in}
+use Rattle.keep_plan.specs.Taking.{taken_in}
 use Rattle.keep_plan.specs.declared.plan_error.PlanError.TheVariants.{BadEdit}
 use Rattle.keep_snap.specs.Facts.{facts_view}
 use Rattle.keep_labels.specs.Edits.{edit_view}

@@ -6,7 +6,7 @@ use Rattle.keep_snap.specs.Facts.{FactsData, facts_view}
 use Rattle.keep_change.specs.Change.{is_met}
 use Rattle.keep_change.specs.Form.{IsWellFormed}
 use Rattle.keep_reach.specs.Snapshots.{refusals_of}
-use Rattle.keep_filters.specs.Taking.{taken_in}
+use Rattle.keep_plan.specs.Taking.{taken_in}
 use Rattle.keep_rewrite.specs.Rewriting.{unreached_first}
 use Rattle.keep_rewrite.specs.Walking.{AreReached}
 use Rattle.keep_rewrite.proofs.Picked.{all_picked, all_reached}

@@ -1,7 +1,7 @@
 use Rattle.std.proofs.Common.{◌≡◌, ◌∙◌, Bool, true, Some, None, Err, ap, if◌then◌else◌, sym}
-use Rattle.keep_filters.specs.declared.pick.Pick.{Pick}
-use Rattle.keep_filters.specs.declared.pick.Pick.TheVariants.{Any}
-use Rattle.keep_filters.specs.Taking.{taken_in}
+use Rattle.keep_plan.specs.declared.pick.Pick.{Pick}
+use Rattle.keep_plan.specs.declared.pick.Pick.TheVariants.{Any}
+use Rattle.keep_plan.specs.Taking.{taken_in}
 use Rattle.keep_jobs.specs.Job.{task_change, task_view}
 use Rattle.keep_jobs.specs.declared.job.Task.{Task}
 use Rattle.keep_labels.specs.Edits.{EditData, edit_view, is_bad_edit}

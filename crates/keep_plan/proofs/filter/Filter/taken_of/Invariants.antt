@@ -1,7 +1,7 @@
 use Rattle.std.proofs.Common.{◌≡◌, ◌++◌, map}
 use Rattle.keep_snap.specs.Facts.{facts_view}
-use Rattle.keep_filters.specs.Taking.{named_view, taken_of}
-use Rattle.keep_filters.proofs.filter.Filter.taken_of.Given as goal
+use Rattle.keep_plan.specs.Taking.{named_view, taken_of}
+use Rattle.keep_plan.proofs.filter.Filter.taken_of.Given as goal
 
 abbrev pub invariant-loop-name : goal.invariant-loop-name
 invariant-loop-name g l =

@@ -1,7 +1,7 @@
 ghost use Rattle.std.specs.Prelude.{◌≡◌, [], ◌∷◌, ◌++◌, Bool, IfOk, OnOk, map};
-ghost use Rattle.keep_filters.specs.Picks.{picks};
-ghost use Rattle.keep_filters.specs.Taking.{named_view, taken_in};
-ghost use Rattle.keep_filters.specs.Taking as spec;
+ghost use Rattle.keep_plan.specs.Picks.{picks};
+ghost use Rattle.keep_plan.specs.Taking.{named_view, taken_in};
+ghost use Rattle.keep_plan.specs.Taking as spec;
 ghost use Rattle.keep_snap.specs.Facts.{facts_view};
 ghost use Rattle.keep_snap.specs.Snap.{snap_view};
 ghost use Rattle.keep_snap.specs.declared.fact.SnapFacts.{SnapFacts};

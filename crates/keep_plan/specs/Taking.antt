@@ -9,8 +9,8 @@ use Rattle.keep_snap.specs.Facts.{FactsData, facts_of}
 use Rattle.keep_snap.specs.Snap.{SnapData, snap_view}
 use Rattle.keep_snap.specs.declared.snap.Snap.{Snap}
 use Rattle.keep_catalog.specs.Files.{snaps_in}
-use Rattle.keep_filters.specs.Picks.{picks}
-use Rattle.keep_filters.specs.declared.pick.Pick.{Pick}
+use Rattle.keep_plan.specs.Picks.{picks}
+use Rattle.keep_plan.specs.declared.pick.Pick.{Pick}
 
 -- a snapshot with its name, without where it lies in memory
 abbrev pub named_view : Id × Snap → Id × SnapData
