@@ -9,12 +9,11 @@ ghost use Rattle.keep_shelf.specs.Shelved.{called, failed, shifted, stocked};
 use crate::content::put_back;
 use crate::not_opened::NotOpened;
 use keep_files::{FileTree, TreeError};
-use keep_keyed_folder::{KeyPath, KeyedFolder};
+use keep_keyed_folder::{KeyPath, KeyedFolder, read_keys};
 use keep_log::Log;
 use keep_paths::key_is_sized;
 use keep_repo::Bytes;
 use keep_shelf::{Fault, Key, Shelf, Stock};
-use keep_walk::read_keys;
 use std::alloc::Global;
 use std::marker::Model;
 

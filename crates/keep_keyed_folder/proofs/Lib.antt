@@ -1,7 +1,9 @@
 pub mod Acts
 pub mod Apart
+pub mod Awaited
 pub mod Cleared
 pub mod Content
 pub mod Course
 pub mod Left
 pub mod Stopping
+pub mod Way

@@ -3,3 +3,4 @@ pub mod Left
 pub mod Order
 pub mod Stops
 pub mod Tmp
+pub mod Walked

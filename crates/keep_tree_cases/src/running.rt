@@ -10,9 +10,8 @@ use crate::logged::Logged;
 use crate::plan::Plan;
 use crate::showing::{show_keys, show_tree, word_of};
 use crate::stop::Stop;
-use keep_keyed_folder::KeyedFolder;
+use keep_keyed_folder::{KeyedFolder, read_keys};
 use keep_memory_files::{FailingTree, MemoryTree};
-use keep_walk::read_keys;
 use std::alloc::Global;
 use std::fmt::Write;
 

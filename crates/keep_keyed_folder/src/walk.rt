@@ -1,7 +1,7 @@
 ghost use Rattle.std.specs.Prelude.{◌≡◌, ◌++◌, ◌∷◌, [], IfOk, OnOk, OnErr};
 ghost use Rattle.keep_files.specs.Content.{HoldsFiles};
 ghost use Rattle.keep_files.specs.Stands.{IsClosed};
-ghost use Rattle.keep_walk.specs.Walked.{IsOnTheWay, IsOpened, IsOrderly, IsRead};
+ghost use Rattle.keep_keyed_folder.specs.Walked.{IsOnTheWay, IsOpened, IsOrderly, IsRead};
 
 use keep_files::{FileTree, Node, TreeError};
 use keep_paths::{holds_keys, key_is_sized, key_of_path};

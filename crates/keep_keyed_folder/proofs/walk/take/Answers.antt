@@ -1,9 +1,9 @@
 use Rattle.std.proofs.Common.{◌≡◌, ◌∙◌, Some, None, ap, string_bytes, subst, sym}
 use Rattle.keep_files.specs.Act.{Seen}
 use Rattle.keep_files.specs.declared.node.Node.TheVariants.{Folder, File}
-use Rattle.keep_walk.proofs.Way.{file_taken, folder_taken, none_there, then_ok}
-use Rattle.keep_walk.specs.Walked.{IsOnTheWay, IsOpened, IsRead}
-use Rattle.keep_walk.proofs.walk.take.Goals as goal
+use Rattle.keep_keyed_folder.proofs.Way.{file_taken, folder_taken, none_there, then_ok}
+use Rattle.keep_keyed_folder.specs.Walked.{IsOnTheWay, IsOpened, IsRead}
+use Rattle.keep_keyed_folder.proofs.walk.take.Goals as goal
 
 pub returns-in-Some-Folder-clause-way : goal.returns-in-Some-Folder-clause-way
 returns-in-Some-Folder-clause-way g c =

@@ -4,9 +4,9 @@ use Rattle.keep_shelf.specs.Shelved.{Content}
 use Rattle.keep_files.specs.Act.{Seen}
 use Rattle.keep_files.specs.Content.{HoldsFiles}
 use Rattle.keep_files.specs.Stands.{IsClosed}
-use Rattle.keep_walk.proofs.Way.{begun, ended, none_left, of_err, orderly}
-use Rattle.keep_walk.specs.Walked.{IsOnTheWay, IsOrderly}
-use Rattle.keep_walk.proofs.walk.read_keys.Goals as goal
+use Rattle.keep_keyed_folder.proofs.Way.{begun, ended, none_left, of_err, orderly}
+use Rattle.keep_keyed_folder.specs.Walked.{IsOnTheWay, IsOrderly}
+use Rattle.keep_keyed_folder.proofs.walk.read_keys.Goals as goal
 
 pub loop-init : goal.loop-init
 loop-init g c =

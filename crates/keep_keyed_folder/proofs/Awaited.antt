@@ -8,7 +8,7 @@ use Rattle.keep_paths.specs.KeyPath.{key_path}
 use Rattle.keep_files.specs.Path.{IsListed}
 use Rattle.keep_files.specs.Stands.{IsClosed, Stands}
 use Rattle.keep_files.specs.declared.node.Node.TheVariants.{Folder}
-use Rattle.keep_walk.specs.Walked.{AreIn, IsAwaited, IsPlace, Leads}
+use Rattle.keep_keyed_folder.specs.Walked.{AreIn, IsAwaited, IsPlace, Leads}
 
 -- ---- lists of paths
 

@@ -18,8 +18,8 @@ use Rattle.keep_files.specs.Content.{HoldsFiles, file_in}
 use Rattle.keep_files.specs.Stands.{IsClosed, Stands, is_file, is_folder}
 use Rattle.keep_files.specs.declared.node.Node.{Node}
 use Rattle.keep_files.specs.declared.node.Node.TheVariants.{Folder, File}
-use Rattle.keep_walk.proofs.Awaited.{awaited_last, awaited_left, awaited_right, inner_awaited, place_above, root_awaited}
-use Rattle.keep_walk.specs.Walked.{AreIn, IsKeyPath, IsNoted, IsOnTheWay, IsOpened, IsOrderly, IsPlace, IsRead, Leads}
+use Rattle.keep_keyed_folder.proofs.Awaited.{awaited_last, awaited_left, awaited_right, inner_awaited, place_above, root_awaited}
+use Rattle.keep_keyed_folder.specs.Walked.{AreIn, IsKeyPath, IsNoted, IsOnTheWay, IsOpened, IsOrderly, IsPlace, IsRead, Leads}
 
 -- what follows from an answer that is no error
 pub then_ok : {A E : Type 0} (P Q : Type 0) (r : Result A E) → (P → Q) → OnOk r P → OnOk r Q

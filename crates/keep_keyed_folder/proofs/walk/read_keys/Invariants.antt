@@ -1,6 +1,6 @@
 use Rattle.std.proofs.Common.{◌≡◌}
-use Rattle.keep_walk.specs.Walked.{IsOnTheWay}
-use Rattle.keep_walk.proofs.walk.read_keys.Given as goal
+use Rattle.keep_keyed_folder.specs.Walked.{IsOnTheWay}
+use Rattle.keep_keyed_folder.proofs.walk.read_keys.Given as goal
 
 -- what is still to be looked at leads to all that isn't noted
 abbrev pub invariant-loop : goal.invariant-loop

@@ -1,2 +1,0 @@
-pub mod Awaited
-pub mod Way
