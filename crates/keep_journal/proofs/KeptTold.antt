@@ -23,7 +23,7 @@ use Rattle.keep_journal.specs.Told.{is_told, told_at, told_of}
 use Rattle.keep_journal.proofs.Filters.{filter-filter, find-filter, find_agree}
 use Rattle.keep_journal.proofs.Legal.{legal_numbered, legal_told, none_numbered}
 use Rattle.keep_journal.proofs.Long.{told_long, turn_tell}
-use Rattle.keep_journal.proofs.Told.{committed_told, count_told, final_told, force_told, marks_told, told_with}
+use Rattle.keep_journal.proofs.Telling.{committed_told, count_told, final_told, force_told, marks_told, told_with}
 
 pub final_is : (j : Journal) → final_number (told_of j) ≡ final_number j
 final_is j = final_told (final_number j) j.entries

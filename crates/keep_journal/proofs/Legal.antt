@@ -11,7 +11,7 @@ use Rattle.keep_journal.specs.declared.event.EventKind.{EventKind}
 use Rattle.keep_journal.specs.declared.event.EventKind.TheVariants.{Commit, Undo, Redo, Empty}
 use Rattle.keep_journal.proofs.Commits.{final_number-push, last_marks-push, IsNumbered-push}
 use Rattle.keep_journal.specs.Told.{is_told, is_told_by, told_at, told_of}
-use Rattle.keep_journal.proofs.Told.{committed_told, count_told, final_told, force_told, length_told, told_with, told_without}
+use Rattle.keep_journal.proofs.Telling.{committed_told, count_told, final_told, force_told, length_told, told_with, told_without}
 
 -- ---- a legal journal is numbered
 

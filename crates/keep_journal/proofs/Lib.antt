@@ -8,6 +8,6 @@ pub mod Legal
 pub mod Long
 pub mod Numbers
 pub mod Standings
-pub mod Told
+pub mod Telling
 pub mod Unfinal
 pub mod Within

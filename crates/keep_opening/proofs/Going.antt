@@ -8,7 +8,7 @@ use Rattle.keep_journal.specs.Journal.{Journal}
 use Rattle.keep_journal.specs.declared.event.Entry as the_entry
 use Rattle.keep_journal.specs.declared.event.Event.{Event}
 use Rattle.keep_journal.specs.Told.{is_told}
-use Rattle.keep_journal.proofs.Told.{final_told}
+use Rattle.keep_journal.proofs.Telling.{final_told}
 use Rattle.keep_moves.specs.Move.{Stand}
 use Rattle.keep_reading.specs.Bad.{first_bad_after, is_bad, is_wrong, told_by}
 use Rattle.keep_reading.specs.Leaves.{AreLeaves, entries_of, entry_of}

@@ -7,7 +7,7 @@ use Rattle.keep_journal.specs.Journal.{Journal}
 use Rattle.keep_journal.specs.Kept.{kept, unfinal}
 use Rattle.keep_journal.proofs.Filters.{filter-filter}
 use Rattle.keep_journal.proofs.KeptTold.{final_is, kept_is}
-use Rattle.keep_journal.proofs.Told.{committed_told}
+use Rattle.keep_journal.proofs.Telling.{committed_told}
 use Rattle.keep_journal.specs.Laws.{ToldIsOpen}
 use Rattle.keep_journal.specs.Told.{told_of}
 use Rattle.keep_shelf.specs.Shelved.{Shelved}

@@ -9,7 +9,7 @@ use Rattle.keep_journal.specs.declared.event.Event.{Event}
 use Rattle.keep_journal.proofs.Commits.{final_number-push, length_of-push, IsLegal-push}
 use Rattle.keep_journal.specs.Told.{Follow, is_told, told_at}
 use Rattle.keep_journal.proofs.Legal.{legal_numbered}
-use Rattle.keep_journal.proofs.Told.{final_told, told_with, told_without}
+use Rattle.keep_journal.proofs.Telling.{final_told, told_with, told_without}
 use Rattle.keep_shelf.specs.declared.key.Key.TheVariants.{Entry}
 use Rattle.keep_moves.specs.Move.{Stand}
 use Rattle.keep_reading.specs.Bad.{NoneIsBad, OneIsBad, first_bad, first_bad_after, fits_by, is_misfit, told_by}
