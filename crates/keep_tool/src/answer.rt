@@ -3,9 +3,9 @@ ghost use Rattle.keep_book.specs.Armed.{HasSums};
 use crate::asking::agrees;
 use crate::failure::Failure;
 use crate::looking::look;
-use crate::outcome::{numbers_text, refused, tell_made, tell_outcome, tell_taken};
+use crate::outcome::{Way, numbers_text, refused, tell_made, tell_outcome, tell_taken};
+use crate::pruned::tell_pruned;
 use crate::run::Run;
-use keep_acts::Pruned;
 use keep_book::Book;
 use keep_deeds::{Came, NoDeed, deed_of, perform};
 use keep_journal::History;
@@ -25,7 +25,7 @@ pub(crate) fn answer<S: Shelf>(
         Ok(Some(deed)) => {
             confirm(run, book, command)?;
             let came = perform(run.alloc, book, run.settings(), deed);
-            tell_came(run, book.ledger().history(), about(command), came)
+            tell_came(run, book.ledger().history(), command, came)
         }
         Err(NoDeed::ManyChosen) => Err(Failure::unmeant(
             run.alloc,
@@ -42,6 +42,13 @@ fn about(command: &Command<'_>) -> u64 {
         Command::Redo { change } => *change,
         Command::Empty { through, .. } => *through,
         _ => 0,
+    }
+}
+
+fn way_of(command: &Command<'_>) -> Way {
+    match command {
+        Command::Undo { .. } => Way::Back,
+        _ => Way::Forth,
     }
 }
 
@@ -77,25 +84,19 @@ fn confirm<S: Shelf>(run: &Run<'_>, book: &Book<S>, command: &Command<'_>) -> Re
     }
 }
 
-/// Prints what came of a deed about this change.
-fn tell_came(run: &Run<'_>, history: &History, about: u64, came: Came) -> Result<(), Failure> {
+/// Prints what came of what the command asked.
+fn tell_came(
+    run: &Run<'_>,
+    history: &History,
+    command: &Command<'_>,
+    came: Came,
+) -> Result<(), Failure> {
+    let about = about(command);
     match came {
-        Came::Asked(Ok(made)) => tell_made(run, history, made),
+        Came::Asked(Ok(made)) => tell_made(run, history, made, way_of(command)),
         Came::Asked(Err(refusal)) => Err(refused(run, about, &refusal)),
         Came::TakenBack(taken) => tell_taken(run, about, &taken),
         Came::Changed(outcome) => tell_outcome(run, history, outcome),
         Came::Pruned(pruned) => tell_pruned(run, history, pruned),
     }
-}
-
-/// Prints what came of a prune: of the mark where there was something to mark, and of the sweep where it followed.
-fn tell_pruned(run: &Run<'_>, history: &History, pruned: Pruned) -> Result<(), Failure> {
-    let Pruned { mark, sweep } = pruned;
-    let Some(sweep) = sweep else {
-        return tell_outcome(run, history, mark);
-    };
-    if let Ok(mark) = mark {
-        tell_outcome(run, history, Ok(mark))?;
-    }
-    tell_outcome(run, history, sweep)
 }

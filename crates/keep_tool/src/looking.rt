@@ -3,7 +3,7 @@ ghost use Rattle.keep_book.specs.Armed.{HasSums};
 use crate::backing::backup;
 use crate::dumping::dump_file;
 use crate::failure::Failure;
-use crate::outcome::{numbers_text, print_parts_of, print_rows, refused};
+use crate::outcome::{Way, numbers_text, print_parts_of, print_rows, refused};
 use crate::restoring::restore_snapshot;
 use crate::run::Run;
 use crate::viewing::{compare, find, list_nodes, list_snapshots};
@@ -51,12 +51,14 @@ fn check<S: Shelf>(run: &Run<'_>, book: &mut Book<S>) -> Result<(), Failure>
     for finding in &findings {
         rows.push(row_of(run, *finding)?)?;
     }
-    print_rows(run, rows.as_slice())?;
-    if rows.is_empty() {
-        Ok(())
-    } else {
-        Err(Failure::Told)
+    if !rows.is_empty() {
+        print_rows(run, rows.as_slice())?;
+        return Err(Failure::Told);
     }
+    if run.is_json {
+        return print_rows(run, rows.as_slice());
+    }
+    run.print(b"nothing is wrong\n")
 }
 
 /// The row of something that is wrong.
@@ -124,10 +126,10 @@ fn show<S: Shelf>(run: &Run<'_>, book: &Book<S>, number: u64) -> Result<(), Fail
             "{{\"change\":{number},\"undone_with\":[{list}],\"parts\":"
         )?;
         run.print(head.as_bytes())?;
-        print_parts_of(run, history, number)?;
+        print_parts_of(run, history, number, Way::Forth)?;
         return run.print(b"}\n");
     }
-    print_parts_of(run, history, number)?;
+    print_parts_of(run, history, number, Way::Forth)?;
     let text = format!(in run.alloc; "undo {number} --with-all takes back: {list}\n")?;
     run.print(text.as_bytes())
 }

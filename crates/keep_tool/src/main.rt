@@ -12,6 +12,7 @@ mod naming;
 mod opening;
 mod outcome;
 mod places;
+mod pruned;
 mod reading;
 mod restoring;
 mod run;

@@ -52,6 +52,7 @@ pub(crate) fn compare<S: Shelf>(
     let new_id = meant(run, book, new)?;
     let view = book.ledger().view();
     match difference_rows(run.alloc, &view, old_id, new_id) {
+        Ok(rows) if rows.is_empty() && !run.is_json => run.print(b"no difference\n"),
         Ok(rows) => print_rows(run, rows.as_slice()),
         Err(error) => {
             let cause = format!(in run.alloc;

@@ -1,0 +1,67 @@
+use crate::failure::Failure;
+use crate::outcome::{Way, print_made, settled, tell_outcome};
+use crate::run::Run;
+use keep_acts::{Made, NotDone, Outcome, Pruned};
+use keep_journal::History;
+
+/// Prints what came of a prune: of the mark where there was something to mark, and of the sweep where it followed. As JSON
+/// it is a list of what was made.
+pub(crate) fn tell_pruned(run: &Run<'_>, history: &History, pruned: Pruned) -> Result<(), Failure> {
+    if run.is_json {
+        return list_pruned(run, history, pruned);
+    }
+    let Pruned { mark, sweep } = pruned;
+    let Some(sweep) = sweep else {
+        return tell_outcome(run, history, mark);
+    };
+    if let Ok(mark) = mark {
+        tell_outcome(run, history, Ok(mark))?;
+    }
+    tell_outcome(run, history, sweep)
+}
+
+fn list_pruned(run: &Run<'_>, history: &History, pruned: Pruned) -> Result<(), Failure> {
+    let Pruned { mark, sweep } = pruned;
+    let marked = made_of(&mark);
+    let swept = match &sweep {
+        Some(sweep) => made_of(sweep),
+        None => None,
+    };
+    print_list(run, history, marked, swept)?;
+    let last = match sweep {
+        Some(sweep) => sweep,
+        None => mark,
+    };
+    match last {
+        Ok(Outcome::Made(made)) => settled(run, made),
+        last => tell_outcome(run, history, last),
+    }
+}
+
+fn made_of(came: &Result<Outcome, NotDone>) -> Option<Made> {
+    match came {
+        Ok(Outcome::Made(made)) => Some(*made),
+        _ => None,
+    }
+}
+
+/// Prints those that were made as one list. Where none was, nothing is printed.
+fn print_list(
+    run: &Run<'_>,
+    history: &History,
+    marked: Option<Made>,
+    swept: Option<Made>,
+) -> Result<(), Failure> {
+    let mut before: &[u8] = b"[";
+    for made in [marked, swept] {
+        if let Some(made) = made {
+            run.print(before)?;
+            print_made(run, history, made, Way::Forth)?;
+            before = b",";
+        }
+    }
+    if marked.is_some() || swept.is_some() {
+        run.print(b"]\n")?;
+    }
+    Ok(())
+}
