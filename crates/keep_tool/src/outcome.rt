@@ -120,7 +120,7 @@ fn print_parts(run: &Run<'_>, change: &Change, way: Way) -> Result<(), Failure> 
 
 /// Says of each part what its change's undo does.
 fn turn(rows: &mut [PartRow]) {
-    for row in rows {
+    for row in rows.iter_mut() {
         row.sign = match row.sign {
             Sign::Added => Sign::Dropped,
             Sign::Dropped => Sign::Added,

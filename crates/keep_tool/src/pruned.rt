@@ -52,16 +52,16 @@ fn print_list(
     marked: Option<Made>,
     swept: Option<Made>,
 ) -> Result<(), Failure> {
-    let mut before: &[u8] = b"[";
-    for made in [marked, swept] {
-        if let Some(made) = made {
-            run.print(before)?;
-            print_made(run, history, made, Way::Forth)?;
-            before = b",";
-        }
+    let (first, second) = match (marked, swept) {
+        (None, None) => return Ok(()),
+        (Some(marked), swept) => (marked, swept),
+        (None, Some(swept)) => (swept, None),
+    };
+    run.print(b"[")?;
+    print_made(run, history, first, Way::Forth)?;
+    if let Some(second) = second {
+        run.print(b",")?;
+        print_made(run, history, second, Way::Forth)?;
     }
-    if marked.is_some() || swept.is_some() {
-        run.print(b"]\n")?;
-    }
-    Ok(())
+    run.print(b"]\n")
 }
