@@ -3,8 +3,8 @@
 
 mod answers;
 mod crew;
-mod crossing;
 mod desk;
+mod handing;
 mod locked;
 mod opening;
 mod press;
@@ -12,8 +12,8 @@ mod taken_back;
 
 pub use answers::NotOpened;
 pub use crew::Operator;
-pub use crossing::books_cross_threads;
 pub use desk::Desk;
+pub use handing::books_cross_threads;
 pub use keep_crew::{DeskError, Gate, NotTold, OpenGate, Plans, Work};
 pub use keep_register::{NoPage, Pass, Shown};
 pub use locked::Locked;

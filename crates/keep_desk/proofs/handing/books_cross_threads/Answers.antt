@@ -1,9 +1,9 @@
 use denote.Exit.{yes}
 use denote.Param.Send.{arg_send, param_send}
 use Rattle.keep_desk.proofs.BookCrossing.{book_send}
-use Rattle.keep_desk.specs.contracts.books_cross_threads.dyn-1 as asked
-use Rattle.keep_desk.specs.contracts.books_cross_threads.dyn-2 as counted
-use Rattle.keep_desk.proofs.books_cross_threads.Goals as goal
+use Rattle.keep_desk.specs.contracts.handing.books_cross_threads.dyn-1 as asked
+use Rattle.keep_desk.specs.contracts.handing.books_cross_threads.dyn-2 as counted
+use Rattle.keep_desk.proofs.handing.books_cross_threads.Goals as goal
 
 pub handed-requires-send-T : goal.handed-requires-send-T
 handed-requires-send-T g c κs within = let d = g.dyn-1 in let e = g.dyn-2 in
