@@ -1,6 +1,6 @@
+use crate::entry::{Entry, Failure};
 use crate::no::No;
 use crate::words::{number_in, text_of};
-use crate::{Entry, Failure};
 use keep_sources::{Kind, Moment, Sight, Why};
 use std::alloc::Global;
 
