@@ -1,9 +1,9 @@
 """Parts of trials/far in which servers are killed and come back, and in which the network of a mount is cut."""
-import random, time
+import random, subprocess, time
 
 import servers
 from far_trial import LINE_SECONDS, LOCKED, MOUNTS, Asked, require
-from folders import run, what_stands
+from folders import run, start, what_stands
 from lines import LINES, answer_to, is_answered
 from stages import is_made
 
@@ -66,6 +66,25 @@ def is_locked(folder):
     return run(folder, "", timeout=LINE_SECONDS)[2].startswith(LOCKED)
 
 
+def require_locked(program, seconds):
+    errors = program.communicate(timeout=seconds)[1].decode()
+    require(errors.startswith(LOCKED), "a run gets in beside one that is cut off for a moment", errors)
+
+
+def others(folder, seconds):
+    """Begins runs beside one that has the folder, until the time is over: how many were refused, and the one that
+    still waits for what a mount has that is cut off."""
+    end, refused = time.monotonic() + seconds, 0
+    while (left := end - time.monotonic()) > 0:
+        program = start(folder)
+        try:
+            require_locked(program, left)
+        except subprocess.TimeoutExpired:
+            return refused, program
+        refused += 1
+    return refused, None
+
+
 def short_cut(trial):
     """A cut that the mount's session outlasts."""
     there, at = trial.repository("short"), 33
@@ -73,19 +92,19 @@ def short_cut(trial):
     asked = Asked(first, LINES[at])
     time.sleep(trial.took[at] / 2)
     servers.cut(NEAR)
-    begin, asked_for = time.monotonic(), 0
-    while time.monotonic() - begin < SHORT_CUT_SECONDS:
-        require(is_locked(there[FAR]), "a run gets in beside one that is cut off for a moment")
-        asked_for += 1
+    begin = time.monotonic()
+    refused, waiting = others(there[FAR], SHORT_CUT_SECONDS)
     servers.join(NEAR)
     require(asked.within(LINE_SECONDS) == trial.stages[at].answer, LINES[at][:60], asked.answer)
     seconds = time.monotonic() - begin
+    if waiting:
+        require_locked(waiting, LINE_SECONDS)
     for stage in trial.stages[at + 1:]:
         require(answer_to(first, stage.line) == stage.answer, stage.line[:60])
     require(first.communicate() == (b"", b""), "the end of a run")
     trial.require_last(there, "a run that was cut off for a moment")
-    trial.say(f"cut for {SHORT_CUT_SECONDS} seconds: the folder stays locked ({asked_for} tries), the line is answered "
-              f"as ever after {seconds:.0f} seconds")
+    trial.say(f"cut for {SHORT_CUT_SECONDS} seconds: the folder stays locked ({refused} other runs were refused "
+              f"meanwhile, {1 if waiting else 0} after it), the line is answered as ever after {seconds:.0f} seconds")
 
 
 def long_cut(trial, number):
