@@ -5,7 +5,7 @@ By restic's design document a file is sealed as 16 bytes of IV, then the bytes u
 bytes of Poly1305-AES over these. A pack has each blob sealed, then its sealed header, then the header's length; config,
 indexes and snapshots are sealed as one piece each. A sealed file is named by the SHA-256 of its sealed bytes, a plain
 one by that of its plain bytes. A blob is named by its plain bytes in both."""
-import base64, contextlib, datetime, fcntl, getpass, hashlib, json, os, re, secrets, socket, stat, struct, sys, time
+import base64, contextlib, datetime, fcntl, getpass, hashlib, json, os, re, secrets, socket, stat, struct, sys, time, warnings
 from dataclasses import dataclass
 
 try:
@@ -261,6 +261,16 @@ def moment():
     return datetime.datetime.now(datetime.timezone.utc).strftime("%Y-%m-%dT%H:%M:%S.%fZ")
 
 
+def typed(prompt):
+    """What is typed, which no terminal shows."""
+    with warnings.catch_warnings():
+        warnings.simplefilter("error", getpass.GetPassWarning)
+        try:
+            return os.fsencode(getpass.getpass(prompt))
+        except (EOFError, getpass.GetPassWarning):
+            raise Refused("no password, and no terminal to ask at: set RESTIC_PASSWORD_FILE or RESTIC_PASSWORD")
+
+
 def password_of(asks_twice):
     """RESTIC_PASSWORD_FILE, else RESTIC_PASSWORD, else what is typed."""
     file, given = os.environ.get("RESTIC_PASSWORD_FILE"), os.environb.get(b"RESTIC_PASSWORD")
@@ -268,8 +278,8 @@ def password_of(asks_twice):
         with open(file, "rb") as it:
             given = it.read().removeprefix(b"\xef\xbb\xbf").strip()
     if not given and not file:
-        given = getpass.getpass("password of the repository: ").encode()
-        if asks_twice and given != getpass.getpass("once more: ").encode():
+        given = typed("password of the repository: ")
+        if asks_twice and given != typed("once more: "):
             raise Refused("the two passwords differ")
     if not given:
         raise Refused("an empty password")
