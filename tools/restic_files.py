@@ -59,12 +59,18 @@ def is_id(value):
     return isinstance(value, str) and bool(ID.fullmatch(value))
 
 
-def bytes_of(path):
-    """The bytes of a file, which isn't opened through a link in its place."""
+def file_at(path):
+    """The file, which isn't opened through a link in its place."""
     handle = os.open(path, os.O_RDONLY | os.O_NOFOLLOW | os.O_NONBLOCK | os.O_CLOEXEC)
-    with open(handle, "rb") as file:
-        if not stat.S_ISREG(os.fstat(handle).st_mode):
-            raise Refused(f"{path!r} is no file")
+    file = open(handle, "rb")
+    if not stat.S_ISREG(os.fstat(handle).st_mode):
+        file.close()
+        raise Refused(f"{path!r} is no file")
+    return file
+
+
+def bytes_of(path):
+    with file_at(path) as file:
         return file.read()
 
 
@@ -362,7 +368,7 @@ def sealed_pack(key, blobs):
 
 def header_in(path, what):
     """The blobs of a plain pack, of which only the end is read."""
-    with open(os.open(path, os.O_RDONLY | os.O_NOFOLLOW | os.O_NONBLOCK | os.O_CLOEXEC), "rb") as file:
+    with file_at(path) as file:
         size = os.fstat(file.fileno()).st_size
         file.seek(max(0, size - 4))
         end = file.read(4)
