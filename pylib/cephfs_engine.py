@@ -9,6 +9,9 @@ PACKAGES = "ceph-mon ceph-osd ceph-mds ceph-fuse ceph-common"
 STORES, METADATA = ("osd.0", "osd.1", "osd.2"), "mds.a"
 STORE_BYTES = 1 << 30  # of a file with holes
 SESSION_SECONDS, CLOSED_SECONDS = 30, 60  # the file system's session_timeout and session_autoclose
+# How often the metadata server writes down what nobody waits for by name. Whoever looks first, through another mount, at a
+# file that was just written waits for that: by default up to 5 seconds for each file.
+TICK_SECONDS = 0.1
 LOCK_SECONDS = 240  # within which the lock of a machine that is cut off goes
 CONFIG = """[global]
 fsid = {fsid}
@@ -37,6 +40,7 @@ osd op num shards = 2
 osd heartbeat interval = 1
 osd heartbeat grace = 20
 mds beacon grace = 60
+mds tick interval = {tick}
 mon osd min down reporters = 1
 mon osd reporter subtree level = osd
 mon osd down out interval = 3600
@@ -61,7 +65,7 @@ class Engine:
     def start(self):
         fsid, monitors = str(uuid.uuid4()), os.path.join(self.top, "monitors")
         with open(self.config, "w") as file:
-            file.write(CONFIG.format(fsid=fsid, servers=SERVERS, top=self.top, bytes=STORE_BYTES))
+            file.write(CONFIG.format(fsid=fsid, servers=SERVERS, top=self.top, bytes=STORE_BYTES, tick=TICK_SECONDS))
         address = f"[v2:{SERVERS}:3300,v1:{SERVERS}:6789]"
         call("monmaptool", "--create", "--fsid", fsid, "--addv", "a", address, monitors)
         call("ceph-mon", "-c", self.config, "-i", "a", "--mkfs", "--monmap", monitors)
