@@ -22,16 +22,18 @@ def lose_servers(trial):
         first, second = chance.sample(engine.STORES, 2)
         spots = range(chance.randrange(2, 20), len(LINES), AWAY_LINES + 2)
         lost = dict(zip(spots, (first, engine.METADATA, second, engine.METADATA)))
-        program, seconds = trial.begun(there[NEAR]), 0
+        program, longest = trial.begun(there[NEAR]), (0, 0)
         for at, stage in enumerate(trial.stages):
             back = lost.get(at - AWAY_LINES, engine.METADATA)
             if back != engine.METADATA:
                 trial.engine.server(back)
-            seconds = max(seconds, line_without(trial, program, stage, lost.get(at), took[at] * chance.random()))
+            seconds = line_without(trial, program, stage, lost.get(at), took[at] * chance.random())
+            longest = max(longest, (seconds, at + 1))
         require(program.communicate() == (b"", b"") and program.returncode == 0, "the end of a run")
         trial.require_last(there, "a run that lost servers")
         told = ", ".join(f"{name} in line {at + 1}" for at, name in lost.items())
-        trial.say(f"killed and back: {told}; each line was answered as ever, the longest after {seconds:.1f} seconds")
+        trial.say(f"killed and back: {told}; each line was answered as ever, line {longest[1]} the latest, after "
+                  f"{longest[0]:.1f} seconds")
 
 
 def line_without(trial, program, stage, name, after):
