@@ -5,7 +5,8 @@ By restic's design document a file is sealed as 16 bytes of IV, then the bytes u
 bytes of Poly1305-AES over these. A pack has each blob sealed, then its sealed header, then the header's length; config,
 indexes and snapshots are sealed as one piece each. A sealed file is named by the SHA-256 of its sealed bytes, a plain
 one by that of its plain bytes. A blob is named by its plain bytes in both."""
-import base64, contextlib, datetime, fcntl, getpass, hashlib, json, os, re, secrets, socket, stat, struct, sys, time, warnings
+import base64, contextlib, datetime, fcntl, getpass, hashlib, json, os, re, secrets, socket, stat, struct, sys, time
+import warnings
 from dataclasses import dataclass
 
 try:
@@ -19,6 +20,7 @@ ID = re.compile("[0-9a-f]{64}")
 TOPS = {"pack": "data", "index": "index", "snapshot": "snapshots"}
 WORDS = {0: "data", 1: "tree"}
 COMPRESSED = (2, 3)
+UNTAKEN = "a compressed repository isn't taken, but what `restic copy` makes of it in one of version 1 is"
 ENTRY, IV_BYTES, SEAL_BYTES = 37, 16, 32
 SCRYPT = {"N": 65536, "r": 8, "p": 1}
 MOST_SCRYPT_BYTES = 1 << 31
@@ -307,7 +309,7 @@ def entries_in(header, overhead, what):
     blobs, at = [], 0
     while at < len(header):
         if overhead and header[at] in COMPRESSED:
-            raise Refused(f"{what} has a compressed blob, and compressed repositories aren't taken")
+            raise Refused(f"{what} has a compressed blob: {UNTAKEN}")
         if header[at] not in WORDS or at + ENTRY > len(header):
             raise Damaged(f"{what} is damaged: its header is no header")
         kind, length = struct.unpack_from("<BI", header, at)
