@@ -1,2 +1,3 @@
-echo 'restore @1' | keepd --folder kept > answer && tools/lines-to-files restored < answer
-cat restored/plan
+keep restore @1 --target restored
+cat "restored$PWD/notes/plan"
+keep dump latest "$PWD/notes/plan"

@@ -1,2 +1,2 @@
-echo list | keepd --folder kept | grep snapshot
-grep -o '"time":"[^"]*"' kept/snapshots/*
+keep snapshots
+keep diff @1 @2 | grep plan

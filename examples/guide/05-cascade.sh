@@ -1,3 +1,3 @@
-echo 'undo 1' | keepd --folder kept
-echo 'cascade 1' | keepd --folder kept
-printf '%s\n' 'redo 1' 'redo 2' | keepd --folder kept
+keep undo 1 2>&1
+keep undo 1 --with-all
+keep redo 1 > /dev/null && keep redo 2 > /dev/null

@@ -1,3 +1,3 @@
-echo 'forget all daily=7 weekly=4 monthly=12 tag=keep' | keepd --folder kept
-echo 'tag all +keep' | keepd --folder kept
-echo 'rewrite all forget /names' | keepd --folder kept
+keep forget --keep-daily 7 --keep-weekly 4 --keep-monthly 12 --keep-tag keep 2>&1
+keep tag --all --add keep > /dev/null
+keep rewrite --exclude names --forget > /dev/null && keep snapshots

@@ -1,3 +1,3 @@
-echo mark | keepd --folder kept --now 2024-03-06T22:00:00Z
-echo 'sweep 86400' | keepd --folder kept --now 2024-03-07T21:00:00Z
-echo 'sweep 86400' | keepd --folder kept --now 2024-03-07T23:00:00Z
+keep mark
+keep sweep --older-than 1d 2>&1
+keep sweep > /dev/null && keep history --last 1

@@ -1,3 +1,2 @@
-echo 'empty 8' | keepd --folder kept
-echo 'undo 8' | keepd --folder kept
-echo history | keepd --folder kept
+keep empty 7
+keep undo 7 2>&1

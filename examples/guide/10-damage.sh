@@ -1,3 +1,3 @@
 truncate -s 9 kept/index/*
-echo audit | keepd --folder kept
-printf '%s\n' repair audit | keepd --folder kept
+keep check
+keep repair > /dev/null && keep check

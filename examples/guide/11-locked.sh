@@ -1,1 +1,1 @@
-flock kept/lock keepd --folder kept < /dev/null 2>&1 || echo status $?
+flock kept/lock keep history --wait 0 2>&1 || echo status $?

@@ -1,5 +1,6 @@
-mkdir kept && printf '{"chunker_polynomial":"25b468838dcb75","id":"%s","version":1}' \
-    "$(head -c 32 /dev/urandom | sha256sum | cut -c 1-64)" > kept/config
-tools/files-to-lines ~/notes | ./keepd --folder kept
-echo 'restore @1' | ./keepd --folder kept | tools/lines-to-files restored
-diff -r ~/notes restored && echo same
+keep init kept && export KEEP_REPOSITORY=$PWD/kept
+keep backup ~/notes
+keep backup ~/notes --tag second
+keep forget --keep-last 1 > /dev/null && keep undo 3
+keep restore @2 --target restored
+diff -r ~/notes restored$HOME/notes && echo same

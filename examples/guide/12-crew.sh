@@ -1,1 +1,0 @@
-echo count | keepd --crew 3

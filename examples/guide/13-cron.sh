@@ -1,0 +1,1 @@
+keep mark 2>&1 || echo status $?

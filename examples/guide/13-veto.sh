@@ -1,2 +1,0 @@
-printf '%s\n' 'arm few-drops' 'arm no-empty' 'forget all last=1' 'empty 9' |
-    keepd --folder kept --drops 0

@@ -1,0 +1,1 @@
+flock kept/lock cp -a kept copy && keep -r copy check

@@ -1,1 +1,0 @@
-flock kept/lock cp -a kept copy && echo count | keepd --folder copy
