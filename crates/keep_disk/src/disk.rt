@@ -1,11 +1,16 @@
+ghost use Rattle.std.specs.IoError.{error_kind};
+ghost use Rattle.std.specs.Prelude.{◌≡◌, ◌≢◌, ◌↔◌, ◌⊎◌, Err, IfErr, IsTrue, Ok, OnOk};
+ghost use Rattle.keep_files.specs.declared.error.TreeError.TheVariants as the_error;
+
 use crate::lock::Lock;
 use crate::names::{is_leftover, names_in};
 use crate::private::{make_dir, make_file};
 use crate::sight::{after_making, after_removal, after_rename, after_writing, is_at, look};
+use crate::writing::write_lasting;
 use keep_files::TreeError;
 use std::alloc::{AllocError, Global};
 use std::fs::{File, Files};
-use std::io::{ErrorKind, Write};
+use std::io::ErrorKind;
 use std::{fs, io};
 
 /// The calls of the file system below a folder, by paths below it. A call that answers `Broken` has done nothing.
@@ -94,15 +99,10 @@ impl<R: Files<File = File> + Alloc<A = Global> + Clone + Drop> Disk<R> {
         }
     }
 
-    /// Has a folder's names outlast a loss of power. A file system that says that it has no such act is left to its
-    /// own.
+    /// Has a folder's names outlast a loss of power.
     pub(crate) fn sync_folder(&self, path: &str) -> Result<(), TreeError> {
         let place = self.below_root(path)?;
-        match self.sync(place.as_str()) {
-            Ok(()) => Ok(()),
-            Err(error) if is_unknown(error.kind()) => Ok(()),
-            Err(_) => Err(TreeError::Broken),
-        }
+        after_sync(self.sync(place.as_str()))
     }
 
     fn sync(&self, place: &str) -> io::Result<()> {
@@ -112,8 +112,7 @@ impl<R: Files<File = File> + Alloc<A = Global> + Clone + Drop> Disk<R> {
     /// Makes a file and has its bytes outlast a loss of power.
     fn fill(&self, place: &str, bytes: &[u8]) -> io::Result<()> {
         let mut file = make_file(&self.rt, place)?;
-        file.write_all(bytes)?;
-        file.sync_all()
+        write_lasting(&mut file, bytes)
     }
 
     /// Whether a link to a folder lies at the root.
@@ -170,6 +169,22 @@ impl<R: Files<File = File> + Alloc<A = Global> + Clone + Drop> Disk<R> {
     }
 }
 
-fn is_unknown(kind: ErrorKind) -> bool {
+/// What became of a folder's sync. A file system that says that it has no such act is left to its own.
+fn after_sync(synced: io::Result<()>) -> Result<(), TreeError>
+    ensures done { OnOk synced (result ≡ Ok tt) }
+    ensures left { IfErr synced (λ error. error_kind error ≡ ErrorKind.Unsupported → result ≡ Ok tt) }
+    ensures failed { IfErr synced (λ error. error_kind error ≢ ErrorKind.InvalidInput
+        → error_kind error ≢ ErrorKind.Unsupported → result ≡ Err the_error.Broken) }
+{
+    match synced {
+        Ok(()) => Ok(()),
+        Err(error) if is_unknown(error.kind()) => Ok(()),
+        Err(_) => Err(TreeError::Broken),
+    }
+}
+
+fn is_unknown(kind: ErrorKind) -> bool
+    ensures { IsTrue result ↔ ((kind ≡ ErrorKind.InvalidInput) ⊎ (kind ≡ ErrorKind.Unsupported)) }
+{
     matches!(kind, ErrorKind::InvalidInput | ErrorKind::Unsupported)
 }

@@ -12,6 +12,7 @@ mod reading;
 mod scan;
 mod sight;
 mod tree;
+mod writing;
 
 pub use error::{Cause, FolderError};
 pub use opening::NotRead;

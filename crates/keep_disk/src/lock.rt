@@ -1,3 +1,8 @@
+ghost use Rattle.std.specs.Prelude.{◌≡◌, Err, IsOk, OnOk};
+ghost use Rattle.std.specs.declared.io.Error.{Error};
+ghost use Rattle.keep_disk.specs.Ends.{end_of};
+ghost use Rattle.keep_disk.specs.declared.error.FolderError.TheVariants as the_error;
+
 use crate::error::FolderError;
 use crate::private::make_file;
 use crate::reading::require_file;
@@ -78,7 +83,16 @@ impl Lock {
 }
 
 fn lock_file(file: &File) -> Result<(), FolderError> {
-    match file.try_lock() {
+    judge_lock(file.try_lock())
+}
+
+/// What the try of a lock comes to. Where there are no locks nothing is locked.
+fn judge_lock(tried: Result<(), TryLockError>) -> Result<(), FolderError>
+    ensures locked { OnOk result (IsOk tried) }
+    ensures held { tried ≡ Err TryLockError.WouldBlock → result ≡ Err the_error.Locked }
+    ensures failed { (error : Error) → tried ≡ Err (TryLockError.Error error) → result ≡ Err (end_of error) }
+{
+    match tried {
         Ok(()) => Ok(()),
         Err(TryLockError::WouldBlock) => Err(FolderError::Locked),
         Err(TryLockError::Error(error)) => Err(FolderError::from(error)),

@@ -1,3 +1,6 @@
+ghost use Rattle.std.specs.IoError.{error_kind};
+ghost use Rattle.std.specs.Prelude.{◌≡◌, ◌≢◌, Err, IfErr, IfOk, None, Ok, Some};
+
 use std::alloc::Global;
 use std::fs::{File, Files};
 use std::io::ErrorKind;
@@ -10,13 +13,24 @@ pub(crate) fn names_in<R: Files<File = File> + Alloc<A = Global> + Clone + Drop>
 ) -> io::Result<Vec<String>> {
     let mut names = Vec::new(rt.alloc());
     for entry in fs::read_dir(rt, path)? {
-        match entry {
-            Ok(entry) => names.push(String::from_str(rt.alloc(), entry.file_name())?)?,
-            Err(error) if error.kind() == ErrorKind::InvalidFilename => {}
-            Err(error) => return Err(error),
+        if let Some(entry) = entry_in(entry)? {
+            names.push(String::from_str(rt.alloc(), entry.file_name())?)?;
         }
     }
     Ok(names)
+}
+
+/// What a listing comes to next. A name that isn't UTF-8 is passed over, and any other error is one of the listing.
+fn entry_in<E>(next: io::Result<E>) -> io::Result<Option<E>>
+    ensures entry { IfOk next (λ entry. result ≡ Ok (Some entry)) }
+    ensures no_text { IfErr next (λ error. error_kind error ≡ ErrorKind.InvalidFilename → result ≡ Ok None) }
+    ensures broken { IfErr next (λ error. error_kind error ≢ ErrorKind.InvalidFilename → result ≡ Err error) }
+{
+    match next {
+        Ok(entry) => Ok(Some(entry)),
+        Err(error) if error.kind() == ErrorKind::InvalidFilename => Ok(None),
+        Err(error) => Err(error),
+    }
 }
 
 /// Whether a file of this name at the root is what an earlier run left under way.

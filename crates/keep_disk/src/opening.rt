@@ -71,8 +71,8 @@ fn read_disk<R: Files<File = File> + Alloc<A = Global> + Clone + Drop>(
     let _names = names_in(rt, root)?;
     let config = read_config_of(rt, root, piece.as_mut_slice())?;
     let lock = Lock::take(rt, root)?;
-    let mut scan = Scan::new(rt, root, piece);
+    let mut scan = Scan::new(rt, root, piece, lock);
     scan.read_all()?;
-    let image = scan.finish(config)?;
+    let (lock, image) = scan.finish(config)?;
     Ok((path, lock, image))
 }

@@ -1,3 +1,7 @@
+ghost use Rattle.std.specs.Io.KnownBytes.{Consumes, IsAtEnd};
+ghost use Rattle.std.specs.IoError.{error_kind};
+ghost use Rattle.std.specs.Prelude.{◌≡◌, ◌≢◌, ◌<◌, IfErr, IfOk, OnOk, length};
+
 use std::alloc::Global;
 use std::fs::{File, Files};
 use std::io::{ErrorKind, Read};
@@ -18,9 +22,18 @@ pub(crate) fn read_file<R: Files<File = File> + Alloc<A = Global>>(
 ) -> io::Result<Vec<u8>> {
     require_file(rt, path)?;
     let mut file = File::open(rt, path)?;
-    let mut bytes = Vec::new(rt.alloc());
+    read_rest(rt.alloc(), &mut file, piece)
+}
+
+/// All that the reader has left, piece by piece. A read that was interrupted is made again.
+fn read_rest<F: Read>(alloc: Global, reader: &mut F, piece: &mut [u8]) -> io::Result<Vec<u8>>
+    ensures all { IfOk result (λ bytes. Consumes (F.remaining reader.old) (F.remaining reader.new) bytes.items) }
+    ensures end { 0 < length piece.old → OnOk result (IsAtEnd (F.remaining reader.new)) }
+    ensures retried { IfErr result (λ error. error_kind error ≢ ErrorKind.Interrupted) }
+{
+    let mut bytes = Vec::new(alloc);
     for _ in 0..MAX_TURNS {
-        match file.read(piece) {
+        match reader.read(piece) {
             Ok(0) => return Ok(bytes),
             Ok(count) => bytes.extend_from_slice(&piece[..count])?,
             Err(error) if error.kind() == ErrorKind::Interrupted => {}

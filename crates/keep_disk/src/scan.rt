@@ -3,6 +3,7 @@ ghost use Rattle.keep_files.specs.Stands.{IsClosed};
 ghost use Rattle.keep_files.specs.declared.node.Node.TheVariants as the_node;
 ghost use Rattle.keep_memory_files.specs.Memory.{seen_in};
 
+use crate::lock::Lock;
 use crate::names::names_in;
 use crate::reading::{MAX_TURNS, read_file};
 use keep_files::acts_keep_folders;
@@ -20,37 +21,41 @@ pub(crate) struct Scan<'a, R> {
     rt: &'a R,
     root: &'a str,
     piece: Vec<u8>,
+    /// Under which all is read.
+    lock: Lock,
     folders: Vec<String>,
     image: MemoryTree,
 }
 
 impl<'a, R: Files<File = File> + Alloc<A = Global> + Clone + Drop> Scan<'a, R> {
-    pub(crate) fn new(rt: &'a R, root: &'a str, piece: Vec<u8>) -> Scan<'a, R>
+    pub(crate) fn new(rt: &'a R, root: &'a str, piece: Vec<u8>, lock: Lock) -> Scan<'a, R>
         ensures { (path : List ℕ) → (seen_in result.image).stands path ≡ None }
     {
         Scan {
             rt,
             root,
             piece,
+            lock,
             folders: Vec::new(rt.alloc()),
             image: MemoryTree::new(rt.alloc()),
         }
     }
 
-    /// The image of what was read, with this config.
-    pub(crate) fn finish(mut self, config: Bytes) -> io::Result<MemoryTree>
-        ensures config { IfOk result (λ image. (seen_in image).stands (codes "config") ≡ Some (the_node.File config)) }
-        ensures closed { IfOk result (λ image. IsClosed (seen_in self.entry.image).stands → IsClosed (seen_in image).stands) }
+    /// The lock, and the image of what was read under it, with this config.
+    pub(crate) fn finish(mut self, config: Bytes) -> io::Result<(Lock, MemoryTree)>
+        ensures config { IfOk result (λ read. (seen_in read.1).stands (codes "config") ≡ Some (the_node.File config)) }
+        ensures closed { IfOk result (λ read. IsClosed (seen_in self.entry.image).stands → IsClosed (seen_in read.1).stands) }
     {
         self.add_file("config", &config)?;
         let Scan {
             rt: _,
             root: _,
             piece: _,
+            lock,
             folders: _,
             image,
         } = self;
-        Ok(image)
+        Ok((lock, image))
     }
 
     /// Reads all that lies where keys lie.

@@ -4,4 +4,4 @@ use Rattle.keep_disk.proofs.opening.read_disk.Goals as goal
 
 pub returns-clause-closed : goal.returns-clause-closed
 returns-clause-closed g c =
-    c.in_ok-image.ensures.closed (c.read_all.ensures (empty_closed (seen_in c.new-scan.result.image).stands c.new-scan.ensures))
+    c.in_ok-lock-2.ensures.closed (c.read_all.ensures (empty_closed (seen_in c.new-scan.result.image).stands c.new-scan.ensures))
