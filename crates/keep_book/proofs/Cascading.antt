@@ -21,6 +21,7 @@ use Rattle.keep_ledger.specs.LedgerState.{LedgerState}
 use Rattle.keep_ledger.specs.Made.{event_of, with_event}
 use Rattle.keep_ledger.specs.OnShelf.{OnShelf, entered, looks_for, settled}
 use Rattle.keep_ledger.specs.Reply.{RefusesOrTells, Replies, early_refusal, is_full, state_after, told_of}
+use Rattle.keep_ledger.specs.Request.{IsFree}
 use Rattle.keep_ledger.specs.Stops.{EachCallReads, IsBeforeOrAfter, Says}
 use Rattle.keep_ledger.specs.declared.reply.Refusal.{Refusal}
 use Rattle.keep_ledger.specs.declared.reply.Refusal.TheVariants.{Unknown, Final, NotInForce, Full, Memory, Fault, Unsettled}
@@ -30,7 +31,7 @@ use Rattle.keep_journal.specs.declared.request.Request.TheVariants.{Undo}
 use Rattle.keep_ledger.proofs.Counted.{faults_counted}
 use Rattle.keep_ledger.proofs.Replying.{undo_answers}
 use Rattle.keep_book.specs.Cascade.{AreUndone, AsksNothing, EachCallSays, EndsAlong, EndsBefore, FaultsNext, RefusesOrGives, SaysSome, StopsBefore, TakesAlong, TakesDown, count_at, failures_at, taken_refusal, undone_on, with_undos}
-use Rattle.keep_book.proofs.Undos.{IsOpenState, accepted_free, accepted_told, nothing_leans, others_left, undone_one_more, with_one_more}
+use Rattle.keep_book.proofs.Undos.{IsOpenState, accepted_free, accepted_told, events_undone, nothing_leans, others_left, undone_one_more, with_one_more}
 
 -- ---- the ledger on its shelf after some undos
 
@@ -374,6 +375,22 @@ module _ (b : OnShelf) (n : ℕ) (is : IsOpenState b.state) (free : taken_refusa
         (last_unsettled (take done all) m (drop (done + 1) all) cut now going rules after k responds)
     stops_there refusal responds =
         next_refused (take done all) m (drop (done + 1) all) cut now going rules after refusal (λ k e. cc e) responds
+
+  -- nothing leans on the next one
+  pub next_is_free : (all : List ℕ) (taken : AreTaken b.state.events n all) (done m : ℕ) (within : done < length all) (is_m : m ≡ get_or all done m)
+      (now : OnShelf) (going : Going b n (take done all) now) → IsFree now.state (Undo m)
+  next_is_free all taken done m within is_m now going =
+      let front = take done all in
+      let rest = drop (done + 1) all in
+      let events : now.state.events ≡ undone_in b.state.events front =
+      ap (λ (x : OnShelf). x.state.events) going.shelf ∙ ap (λ (l : LedgerState). l.events) (state_on b front)
+      ∙ events_undone b.state front in
+      record {
+        formed = tt;
+        refusal =
+            early front m rest (cut all taken done m within is_m now going [] now) now going [] now
+            ∙ ap (λ j. if is_full j then Some Full else None) (sym events);
+      }
 
 -- ---- what `taken` answers
 

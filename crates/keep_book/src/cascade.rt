@@ -1,14 +1,16 @@
 use crate::book::Book;
 use crate::taken_back::TakenBack;
 use keep_journal::Status;
-use keep_ledger::Refusal;
+use keep_ledger::{Refusal, Told};
 use keep_shelf::Shelf;
 use keep_touch::taken_with;
 
 impl<S: Shelf> Book<S> {
     ghost use Rattle.keep_journal.specs.Opening.{IsOpen};
     ghost use Rattle.keep_touch.specs.Taken.{AreTaken};
-    ghost use Rattle.keep_book.specs.Armed.{HasSums, ledger_of};
+    ghost use Rattle.keep_journal.specs.declared.request.Request.TheVariants.{Undo};
+    ghost use Rattle.keep_ledger.specs.Request.{IsFree};
+    ghost use Rattle.keep_book.specs.Armed.{HasSums, Responds, ledger_of};
     ghost use Rattle.keep_book.specs.Cascade.{Cascades, RefusesOrGives, taken_refusal};
 
     /// The numbers of the changes that have to be taken back with change n, so that nothing that is left leans on any
@@ -45,7 +47,7 @@ impl<S: Shelf> Book<S> {
             Err(refusal) => return TakenBack::refused(self.alloc, refusal),
         };
         for done in 0..numbers.len() {
-            if let Err(refusal) = self.undo(numbers[done]) {
+            if let Err(refusal) = self.take_back(numbers[done]) {
                 return TakenBack::stopped_at(numbers, done, refusal);
             }
         }
@@ -53,5 +55,14 @@ impl<S: Shelf> Book<S> {
             numbers,
             stopped: None,
         }
+    }
+
+    /// Takes a change back on which nothing leans, and tells the watches.
+    fn take_back(&mut self, n: u64) -> Result<Told, Refusal>
+        requires sums { HasSums self.old }
+        requires free { IsFree (ledger_of self.old) (Undo n) }
+        ensures responds { Responds self.old (Undo n) result self.new }
+    {
+        self.ledger.take_back(&mut self.hooks, n)
     }
 }

@@ -135,7 +135,7 @@ fn check_open(history: &History, n: u64) -> Result<(), Refusal>
 }
 
 /// There is room for one more event.
-fn check_room(history: &History) -> Result<(), Refusal>
+pub(crate) fn check_room(history: &History) -> Result<(), Refusal>
     ensures refusal { Passes (first_of ((is_full history.now.journal, Refusal.Full) ∷ [])) result }
     ensures room { OnOk result (length_of history.now.journal < event_limit) }
     ensures plain { IfErr result (λ refusal. is_plain refusal ≡ true) }

@@ -16,6 +16,7 @@ mod opening_marks;
 mod place;
 mod preparing;
 mod reply;
+mod requests;
 
 pub use keep_journal::{Request, Told};
 pub use keep_opening::OpenError;

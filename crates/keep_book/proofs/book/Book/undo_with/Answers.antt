@@ -5,7 +5,7 @@ use Rattle.std.specs.Global.{Global}
 use Rattle.keep_touch.specs.Taken.{AreTaken}
 use Rattle.keep_book.specs.Armed.{hooks_of, on_shelf}
 use Rattle.keep_book.specs.Cascade.{taken_refusal}
-use Rattle.keep_book.proofs.Cascading.{Going, all_taken, as_told, gives, goes_on, nothing_asked, refuses, stops_there}
+use Rattle.keep_book.proofs.Cascading.{Going, all_taken, as_told, gives, goes_on, next_is_free, nothing_asked, refuses, stops_there}
 use Rattle.keep_book.proofs.book.Book.undo_with.Goals as goal
 
 pub returns-in-Err : goal.returns-in-Err
@@ -29,18 +29,31 @@ returns-in-Err g c =
       sums = c.requires;
     }
 
-pub returns-in-Err-undo : goal.returns-in-Err-undo
-returns-in-Err-undo g c =
+-- nothing leans on the next one
+pub take_back-requires-clause-free : goal.take_back-requires-clause-free
+take_back-requires-clause-free g c =
+    let b = on_shelf c.args.self.now in
+    let n = c.args.n in
+    let all = c.in-Ok.numbers.items in
+    let took =
+    gives (taken_refusal b.state.events n) (λ (numbers : Vec ℕ Global). AreTaken b.state.events n numbers.items) c.in-Ok.numbers
+    c.in-Ok.ensures.taken in
+    let within : c.loop-done.done < length all = omega (arith, c.in-Ok.numbers.ok.0, c.len-done-end.ensures) in
+    next_is_free b n c.in-Ok.ensures.open took.0 all took.1 c.loop-done.done c.index.result.now within c.index.ensures
+    (on_shelf c.loop-done.self) c.loop-done.invariant.going
+
+pub returns-in-Err-take_back : goal.returns-in-Err-take_back
+returns-in-Err-take_back g c =
     let b = on_shelf c.args.self.now in
     let j = b.state.events in
     let n = c.args.n in
     let all = c.in-Ok.numbers.items in
-    let after = on_shelf c.undo.new.self in
+    let after = on_shelf c.take_back.new.self in
     let took = gives (taken_refusal j n) (λ (numbers : Vec ℕ Global). AreTaken j n numbers.items) c.in-Ok.numbers c.in-Ok.ensures.taken in
     let within : c.loop-done.done < length all = omega (arith, c.in-Ok.numbers.ok.0, c.len-done-end.ensures) in
-    let responds = c.in-Err-undo.ensures.responds in
+    let responds = c.in-Err-take_back.ensures.responds in
     let stops = stops_there b n c.in-Ok.ensures.open took.0 all took.1 c.loop-done.done c.index.result.now within c.index.ensures
-    (on_shelf c.loop-done.self) c.loop-done.invariant.going (hooks_of c.loop-done.self).vetoes after c.in-Err-undo.refusal
+    (on_shelf c.loop-done.self) c.loop-done.invariant.going (hooks_of c.loop-done.self).vetoes after c.in-Err-take_back.refusal
     (record { replies = responds.replies; ledger = responds.ledger; ends = responds.ends; faults = responds.faults; stops = responds.stops }) in
     let r = as_told b n _ _ c.stopped_at.result.numbers.items c.stopped_at.result.stopped after c.stopped_at.ensures.numbers c.stopped_at.ensures.stopped stops in
     record {
@@ -67,7 +80,7 @@ loop-done-preserved g c =
     let responds = c.in_default.ensures.responds in
     record {
       going = goes_on b n c.in-Ok.ensures.open took.0 all took.1 c.loop-done.done c.index.result.now within c.index.ensures
-          (on_shelf c.loop-done.self) c.loop-done.invariant.going (hooks_of c.loop-done.self).vetoes (on_shelf c.undo.new.self) c.in_default.field-0
+          (on_shelf c.loop-done.self) c.loop-done.invariant.going (hooks_of c.loop-done.self).vetoes (on_shelf c.take_back.new.self) c.in_default.field-0
           (record { replies = responds.replies; ledger = responds.ledger; ends = responds.ends; faults = responds.faults; stops = responds.stops });
       hooks = responds.hooks ∙ c.loop-done.invariant.hooks;
       sums = responds.sums;

@@ -5,7 +5,7 @@ use Rattle.keep_ledger.specs.OnShelf.{OnShelf}
 use Rattle.keep_ledger.specs.Reply.{Replies, told_of}
 use Rattle.keep_ledger.proofs.Answered.{unsettled_ends}
 use Rattle.keep_ledger.proofs.Stopping.{after_stops, amid_stops, before_stops, due_stops}
-use Rattle.keep_ledger.proofs.ledger.Ledger.ask.Goals as goal
+use Rattle.keep_ledger.proofs.ledger.Ledger.ask_by.Goals as goal
 
 pub returns-in_err-told-clause-faults : goal.returns-in_err-told-clause-faults
 returns-in_err-told-clause-faults g c fault =
