@@ -1,5 +1,6 @@
-use keep_command::{NoOperators, keepd, tell};
+use keep_command::{HostShelves, NamedShelf, NoOperators, Shelves, keepd, tell};
 use std::alloc::{AllocError, Global};
+use std::fs;
 use std::io::{self, ErrorKind, Write};
 
 /// A script, and the words behind the program's name.
@@ -9,6 +10,8 @@ pub(crate) struct Case {
     name: String,
     words: Vec<String>,
     script: Vec<u8>,
+    /// The folder that another run has meanwhile, if any.
+    taken: Option<String>,
 }
 
 impl Case {
@@ -17,6 +20,7 @@ impl Case {
             name: String::new(alloc),
             words: Vec::new(alloc),
             script: Vec::new(alloc),
+            taken: None,
         }
     }
 
@@ -25,19 +29,23 @@ impl Case {
         self.name = String::from_str(alloc, name)?;
         self.words.clear();
         self.script.clear();
+        self.taken = None;
         Ok(())
     }
 
     /// Adds what this row of the table gives.
-    pub fn add(&mut self, alloc: Global, row: &str) -> io::Result<()> {
+    pub fn add(&mut self, rt: &HostRuntime, row: &str) -> io::Result<()> {
         if row.is_empty() || row.starts_with("#") {
             return Ok(());
         }
+        let alloc = rt.alloc();
         match row.split_once(" ").unwrap_or((row, "")) {
             ("-", word) => self.words.push(String::from_str(alloc, word)?)?,
             ("|", text) => self.add_line(text)?,
             ("*", counted) => self.repeat(counted)?,
             ("x", digits) => self.add_bytes(alloc, digits)?,
+            ("&", folder) => self.taken = Some(String::from_str(alloc, folder)?),
+            ("f", file) => put_file(rt, file)?,
             _ => return Err(io::Error::from(ErrorKind::InvalidData)),
         }
         Ok(())
@@ -80,7 +88,17 @@ impl Case {
         let mut said = Vec::new(alloc);
         writeln!(writer, "= {}", self.name)?;
         let mut script = self.script.as_slice();
-        let ending = keepd(rt, &NoOperators, words.as_slice(), &mut script, writer);
+        let shelves = HostShelves::new(rt);
+        let taken = self.take(&shelves);
+        let ending = keepd(
+            alloc,
+            &shelves,
+            &NoOperators,
+            words.as_slice(),
+            &mut script,
+            writer,
+        );
+        drop(taken);
         let (code, _) = tell(ending, &mut said);
         write!(writer, "-> {code}")?;
         if said.is_empty() {
@@ -89,4 +107,21 @@ impl Case {
         writer.write_all(b" ")?;
         writer.write_all(&said)
     }
+
+    /// The shelf in the folder that another run has.
+    fn take<'a>(&self, shelves: &'a HostShelves<'_>) -> Option<NamedShelf<'a>> {
+        let folder = self.taken.as_ref()?;
+        shelves.open(Some(folder.as_str())).ok()
+    }
+}
+
+/// Puts a file of this path and these bytes where the program runs.
+fn put_file(rt: &HostRuntime, file: &str) -> io::Result<()> {
+    let Some((path, digits)) = file.split_once(" ") else {
+        return Err(io::Error::from(ErrorKind::InvalidData));
+    };
+    let Ok(bytes) = hex::decode(rt.alloc(), digits.as_bytes()) else {
+        return Err(io::Error::from(ErrorKind::InvalidData));
+    };
+    fs::write(rt, path, &bytes)
 }

@@ -1,8 +1,10 @@
 //! Runs each case of the table on its standard input through the program `keepd`, and prints what it answers, its exit
 //! status and what it says on standard error.
 //!
-//! A line of the table is `= NAME`, which begins a case, `- WORD`, a word behind the program's name, or a part of the
-//! script: `| TEXT` a line of it, `* N TEXT` a text N times, `x HEX` bytes. Empty lines and `#` are passed over.
+//! A line of the table is `= NAME`, which begins a case, `- WORD`, a word behind the program's name, `& DIR`, a folder that
+//! another run has meanwhile, `f PATH HEX`, a file that is put there first, or a part of the script: `| TEXT` a line of it,
+//! `* N TEXT` a text N times, `x HEX` bytes. Empty lines and `#` are passed over. The folders that cases name lie in
+//! `data/`; what a case does there stays for the next one.
 #![tactic(auto)]
 
 mod case;
@@ -21,7 +23,7 @@ fn main(rt: HostRuntime) -> io::Result<()> {
             case.run(&rt, &mut writer)?;
             case.begin(alloc, name)?;
         } else {
-            case.add(alloc, row.as_str())?;
+            case.add(&rt, row.as_str())?;
         }
     }
     case.run(&rt, &mut writer)?;

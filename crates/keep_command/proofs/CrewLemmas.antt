@@ -1,18 +1,19 @@
 -- How the program ends that was to have a crew work.
-use Rattle.std.proofs.Common.{◌≡◌, ◌∙◌, ℕ, List, Option, inl, inr, refl, subst, sym}
-use Rattle.keep_hooks.specs.Guards.{Rule}
-use Rattle.keep_ledger.specs.LedgerState.{LedgerState}
+use Rattle.std.proofs.Common.{◌≡◌, ◌∙◌, ℕ, List, Option, Result, Ok, Err, inl, inr, refl, subst, sym}
+use Rattle.keep_hooks.specs.Guards.{HooksData}
+use Rattle.keep_ledger.specs.OnShelf.{OnShelf}
 use Rattle.keep_jobs.specs.Job.{SettingsData}
 use Rattle.keep_operators.specs.Crewed.{IsCrewed}
-use Rattle.keep_script.specs.declared.status.Status.{Status}
-use Rattle.keep_script.specs.declared.status.Status.TheVariants.{Done, NoMemory, ScriptTooLong, WriteFailed}
-use Rattle.keep_command.specs.Ending.{ending_uncrewed}
-use Rattle.keep_command.specs.Following.{Crews, Follows, Reports, report_text}
-use Rattle.keep_command.specs.Option.{OptionsData}
 use Rattle.keep_operators.specs.declared.order.NoCrew.{NoCrew}
 use Rattle.keep_operators.specs.declared.order.NoCrew.TheVariants as uncrewed
+use Rattle.keep_operators.specs.declared.order.Tally.{Tally}
+use Rattle.keep_script.specs.declared.status.Status.{Status}
+use Rattle.keep_script.specs.declared.status.Status.TheVariants.{Done, ScriptTooLong, WriteFailed}
+use Rattle.keep_options.specs.Option.{OptionsData}
+use Rattle.keep_command.specs.Ending.{ending_uncrewed}
+use Rattle.keep_command.specs.Following.{Crews, Follows, Reports, report_text}
+use Rattle.keep_command.specs.Left.{LeftBook, LeftData}
 use Rattle.keep_command.specs.declared.ending.Ending.{Ending}
-use Rattle.keep_command.specs.declared.ending.Ending.TheVariants as ending
 use Rattle.keep_command.specs.declared.ending.Ending.TheVariants.{Ran}
 
 -- a script behind which a crew was to work isn't too long
@@ -22,46 +23,50 @@ done-short e = cc e
 write-short : Ran WriteFailed ≡ Ran ScriptTooLong → ⊥
 write-short e = cc e
 
-memory-short : Ran NoMemory ≡ Ran ScriptTooLong → ⊥
-memory-short e = cc e
+uncrewed-short : (error : NoCrew) → ending_uncrewed error ≡ Ran ScriptTooLong → ⊥
+uncrewed-short uncrewed.Memory e = cc e
+uncrewed-short uncrewed.NoPass e = cc e
 
-uncrewed-short : (error : NoCrew) → ending.NoCrew error ≡ Ran ScriptTooLong → ⊥
-uncrewed-short error e = cc e
-
-pub crews-short : (rules : List Rule) (settings : SettingsData) (time : List ℕ) (size : ℕ) (before : LedgerState) (old new : Option (List ℕ)) (ended : Ending)
-    → Crews rules settings time size before old new ended → ended ≡ Ran ScriptTooLong → ⊥
-crews-short rules settings time size before old new ended (inl h) short = go h.reported
+pub crews-short : (takes : LeftData → Type 0) (answers : Result Tally NoCrew → Type 0) (settings : SettingsData) (time : List ℕ) (size : ℕ) (before : OnShelf) (armed : HooksData) (old new : Option (List ℕ)) (ended : Ending)
+    → Crews takes answers settings time size before armed old new ended → ended ≡ Ran ScriptTooLong → ⊥
+crews-short takes answers settings time size before armed old new ended (inl h) short = go h.reported
   where
-    go : Reports old new (report_text size h.accepted h.last) ended → ⊥
+    go : Reports old new (report_text size h.tally.accepted h.tally.length) ended → ⊥
     go (inl (put, e)) = done-short (sym e ∙ short)
-    go (inr (part, inl e)) = write-short (sym e ∙ short)
-    go (inr (part, inr e)) = memory-short (sym e ∙ short)
-crews-short rules settings time size before old new ended (inr (same, inl (error, other, e))) short = uncrewed-short error (sym e ∙ short)
-crews-short rules settings time size before old new ended (inr (same, inr e)) short = memory-short (sym e ∙ short)
-
--- a crew that was refused, or found no memory
-pub crews-refused : (rules : List Rule) (settings : SettingsData) (time : List ℕ) (size : ℕ) (before : LedgerState) (old : Option (List ℕ)) (error : NoCrew) (ended : Ending)
-    → ended ≡ ending_uncrewed error → Crews rules settings time size before old old ended
-crews-refused rules settings time size before old uncrewed.Memory ended e = inr (refl, inr e)
-crews-refused rules settings time size before old uncrewed.NoPass ended e = inr (refl, inl (uncrewed.NoPass, (λ same. cc same), e))
+    go (inr (part, e)) = write-short (sym e ∙ short)
+crews-short takes answers settings time size before armed old new ended (inr none) short = uncrewed-short none.error (sym none.told ∙ short)
 
 -- a crew that worked by what it was asked for, and was reported
-pub crews-worked : (rules : List Rule) (asked settings : SettingsData) (at time : List ℕ) (many size : ℕ) (before after : LedgerState) (accepted last : ℕ) (old new : Option (List ℕ)) (ended : Ending)
-    → asked ≡ settings → at ≡ time → many ≡ size → IsCrewed rules asked at many before after accepted last → Reports old new (report_text size accepted last) ended
-    → Crews rules settings time size before old new ended
-crews-worked rules asked settings at time many size before after accepted last old new ended by when of_size h reported = inl (record {
+pub crews-worked : (takes : LeftData → Type 0) (answers : Result Tally NoCrew → Type 0) (asked settings : SettingsData) (at time : List ℕ) (many size : ℕ) (before after : OnShelf) (armed kept : HooksData) (tally : Tally) (old new : Option (List ℕ)) (ended : Ending)
+    → asked ≡ settings → at ≡ time → many ≡ size → kept ≡ armed → answers (Ok tally)
+    → IsCrewed armed.vetoes asked at many before.state after.state tally.accepted tally.length → takes (LeftBook after kept)
+    → Reports old new (report_text size tally.accepted tally.length) ended → Crews takes answers settings time size before armed old new ended
+crews-worked takes answers asked settings at time many size before after armed kept tally old new ended by when of_size stays answered h taken reported = inl (record {
   after = after;
-  accepted = accepted;
-  last = last;
-  crewed = subst (λ (s : SettingsData). IsCrewed rules s time size before after accepted last) by
-      (subst (λ (t : List ℕ). IsCrewed rules asked t size before after accepted last) when
-      (subst (λ (n : ℕ). IsCrewed rules asked at n before after accepted last) of_size h));
+  tally = tally;
+  answered = answered;
+  crewed = subst (λ (s : SettingsData). IsCrewed armed.vetoes s time size before.state after.state tally.accepted tally.length) by
+      (subst (λ (t : List ℕ). IsCrewed armed.vetoes asked t size before.state after.state tally.accepted tally.length) when
+      (subst (λ (n : ℕ). IsCrewed armed.vetoes asked at n before.state after.state tally.accepted tally.length) of_size h));
+  let_go = subst (λ (hooks : HooksData). takes (LeftBook after hooks)) stays taken;
   reported = reported;
 })
 
--- what follows, said of a book that is in this state, under these vetoes
-pub follows-where : (options : OptionsData) (rules rules' : List Rule) (before before' : LedgerState) (old new : Option (List ℕ)) (status : Status) (ended : Ending)
-    → rules ≡ rules' → before ≡ before' → Follows options rules before old new status ended → Follows options rules' before' old new status ended
-follows-where options rules rules' before before' old new status ended same stands h =
-    subst (λ (r : List Rule). Follows options r before' old new status ended) same
-    (subst (λ (b : LedgerState). Follows options rules b old new status ended) stands h)
+-- a crew that was refused, with the book handed back as it was
+pub crews-uncrewed : (takes : LeftData → Type 0) (answers : Result Tally NoCrew → Type 0) (settings : SettingsData) (time : List ℕ) (size : ℕ) (before handed : OnShelf) (armed kept : HooksData) (old : Option (List ℕ)) (error : NoCrew) (ended : Ending)
+    → handed ≡ before → kept ≡ armed → answers (Err error) → takes (LeftBook handed kept) → ended ≡ ending_uncrewed error
+    → Crews takes answers settings time size before armed old old ended
+crews-uncrewed takes answers settings time size before handed armed kept old error ended same stays answered taken told = inr (record {
+  error = error;
+  answered = answered;
+  let_go = subst (λ (book : OnShelf). takes (LeftBook book armed)) same (subst (λ (hooks : HooksData). takes (LeftBook handed hooks)) stays taken);
+  told = told;
+  unwritten = refl;
+})
+
+-- what follows, said of a book with this ledger, under what is armed
+pub follows-where : (takes : LeftData → Type 0) (answers : Result Tally NoCrew → Type 0) (options : OptionsData) (ledger ledger' : OnShelf) (armed armed' : HooksData) (old new : Option (List ℕ)) (status : Status) (ended : Ending)
+    → ledger ≡ ledger' → armed ≡ armed' → Follows takes answers options ledger armed old new status ended → Follows takes answers options ledger' armed' old new status ended
+follows-where takes answers options ledger ledger' armed armed' old new status ended stands same h =
+    subst (λ (hooks : HooksData). Follows takes answers options ledger' hooks old new status ended) same
+    (subst (λ (b : OnShelf). Follows takes answers options b armed old new status ended) stands h)

@@ -1,10 +1,7 @@
-mod BadWordLemmas
 mod CrewLemmas
 pub mod Crossing
 mod EndingLemmas
-mod NumberLemmas
-mod OptionLemmas
-mod OverLemmas
+mod ReportLemmas
 mod ServingLemmas
 mod StoredLemmas
 mod UntouchedLemmas

@@ -1,5 +1,5 @@
 -- What is stored for lines, by names and rules.
-use Rattle.std.proofs.Common.{◌≡◌, ℕ, IfOk, List, [], ◌∷◌, Option, Result, Ok, Err, String, codes, inl, inr, refl, string_bytes, subst}
+use Rattle.std.proofs.Common.{◌≡◌, ℕ, IfOk, List, [], ◌∷◌, Option, Result, Ok, Err, String, codes, inl, refl, string_bytes, subst}
 use Rattle.std.specs.Global.{Global}
 use Rattle.keep_hooks.specs.declared.limit.Limit.{Limit}
 use Rattle.keep_hooks.specs.declared.limit.Limit.TheVariants.{NoEmpty, SnapshotDropsAtMost}
@@ -8,7 +8,12 @@ use Rattle.keep_hooks.specs.declared.measure.Measure.TheVariants.{Events, FilesW
 use Rattle.keep_plan.specs.declared.pick.Pick.{Pick}
 use Rattle.keep_plan.specs.declared.pick.Pick.TheVariants.{Any, Host, Tagged}
 use Rattle.keep_jobs.specs.Kits.{NamedRule}
-use Rattle.keep_command.specs.Option.{OptionsData}
+use Rattle.keep_shelf.specs.Shelved.{Shelved}
+use Rattle.keep_disk.specs.declared.error.FolderError.{FolderError}
+use Rattle.keep_operators.specs.declared.order.NoCrew.{NoCrew}
+use Rattle.keep_operators.specs.declared.order.Tally.{Tally}
+use Rattle.keep_command.specs.Left.{LeftData}
+use Rattle.keep_options.specs.Option.{OptionsData}
 use Rattle.keep_command.specs.Following.{EndsBy, EndsWith}
 use Rattle.keep_command.specs.Running.{KeepsLines, stored, stored_filters, stored_vetoes, stored_watches}
 use Rattle.keep_command.specs.declared.ending.Ending.{Ending}
@@ -26,20 +31,18 @@ pub are-watches : (first second : List ℕ) (p q : Measure) → first ≡ codes 
 are-watches first second p q events is_events files is_files = rw (events, is_events, files, is_files) refl
 
 -- an end with just the filters of the kit is one by the options
-stored-ends : (ended : Ending) (options : OptionsData) (host tag : String Global) (known left old new : Option (List ℕ))
-    → string_bytes host ≡ options.host → string_bytes tag ≡ options.tagged
-    → EndsWith (stored (stored_filters host tag) options.drops) options known left old new ended → EndsBy options known left old new ended
-stored-ends ended options host tag known left old new of_host of_tag (inl (shelf, by, serves)) =
-    inl (shelf, by, record { host = host; tag = tag; of_host = of_host; of_tag = of_tag; serves = serves })
-stored-ends ended options host tag known left old new of_host of_tag (inr idle) = inr idle
-
-pub ends-by : {E : Type 0} (r : Result Ending E) (options : OptionsData) (filters : List NamedRule) (host tag : String Global) (known left old new : Option (List ℕ))
+pub ends-by : {S E : Type 0} (shelved : S → Shelved) (gives : Option (List ℕ) → Result S FolderError → Type 0) (takes : LeftData → Type 0) (answers : Result Tally NoCrew → Type 0) (r : Result Ending E) (options : OptionsData) (filters : List NamedRule) (host tag : String Global) (known left old new : Option (List ℕ))
     → string_bytes host ≡ options.host → string_bytes tag ≡ options.tagged → filters ≡ stored_filters host tag
-    → IfOk r (λ ended. EndsWith (stored filters options.drops) options known left old new ended × KeepsLines known old new ended)
-    → IfOk r (λ ended. EndsBy options known left old new ended × KeepsLines known old new ended)
-ends-by (Ok ended) options filters host tag known left old new of_host of_tag same h = (
-  stored-ends ended options host tag known left old new of_host of_tag
-      (subst (λ (found : List NamedRule). EndsWith (stored found options.drops) options known left old new ended) same h.0),
+    → IfOk r (λ ended. EndsWith shelved gives takes answers (stored filters options.drops) options known left old new ended × KeepsLines known old new ended)
+    → IfOk r (λ ended. EndsBy shelved gives takes answers options known left old new ended × KeepsLines known old new ended)
+ends-by shelved gives takes answers (Ok ended) options filters host tag known left old new of_host of_tag same h = (
+  inl (
+    host,
+    tag,
+    of_host,
+    of_tag,
+    subst (λ (found : List NamedRule). EndsWith shelved gives takes answers (stored found options.drops) options known left old new ended) same h.0,
+  ),
   h.1,
 )
-ends-by (Err error) options filters host tag known left old new of_host of_tag same h = tt
+ends-by shelved gives takes answers (Err error) options filters host tag known left old new of_host of_tag same h = tt

@@ -1,22 +1,27 @@
--- What is to be shown where memory runs out before anything is read or written.
-use Rattle.std.proofs.Common.{ℕ, IfSome, List, Option, Some, None, inl, inr, refl}
-use Rattle.std.specs.Io.KnownBytes.{Keeps}
-use Rattle.keep_command.specs.Option.{OptionsData}
-use Rattle.keep_command.specs.Following.{EndsBy}
+-- What is to be shown by the options that are given, and where memory runs out before anything is read or written.
+use Rattle.std.proofs.Common.{◌≡◌, ℕ, IfSome, List, Option, Some, None, Result, inr, refl, subst, sym}
+use Rattle.std.proofs.KnownBytes.{Keeps-refl}
+use Rattle.keep_shelf.specs.Shelved.{Shelved}
+use Rattle.keep_disk.specs.declared.error.FolderError.{FolderError}
+use Rattle.keep_operators.specs.declared.order.NoCrew.{NoCrew}
+use Rattle.keep_operators.specs.declared.order.Tally.{Tally}
 use Rattle.keep_script.specs.Run.{IsUntouched}
-use Rattle.keep_command.specs.declared.ending.Ending.TheVariants.{Ran}
 use Rattle.keep_script.specs.declared.status.Status.TheVariants.{NoMemory}
-
--- known bytes are kept where nothing is done
-kept : (bytes : Option (List ℕ)) → Keeps bytes bytes
-kept None = tt
-kept (Some bytes) = refl
+use Rattle.keep_options.specs.Option.{OptionsData}
+use Rattle.keep_command.specs.Following.{EndsBy}
+use Rattle.keep_command.specs.Left.{LeftData}
+use Rattle.keep_command.specs.declared.ending.Ending.TheVariants.{Ran}
 
 pub nothing-done : (known old : Option (List ℕ)) → IsUntouched known known old old
-nothing-done known old = (kept known, kept old)
+nothing-done known old = (Keeps-refl known, Keeps-refl old)
 
 -- whatever the options are
-pub without-memory : (found : Option OptionsData) (known left old new : Option (List ℕ)) → IsUntouched known left old new
-    → IfSome found (λ options. EndsBy options known left old new (Ran NoMemory))
-without-memory None known left old new same = tt
-without-memory (Some options) known left old new same = inr (inl refl, same)
+pub without-memory : {S : Type 0} (shelved : S → Shelved) (gives : Option (List ℕ) → Result S FolderError → Type 0) (takes : LeftData → Type 0) (answers : Result Tally NoCrew → Type 0) (found : Option OptionsData) (known left old new : Option (List ℕ))
+    → IsUntouched known left old new → IfSome found (λ options. EndsBy shelved gives takes answers options known left old new (Ran NoMemory))
+without-memory shelved gives takes answers None known left old new same = tt
+without-memory shelved gives takes answers (Some options) known left old new same = inr (refl, same)
+
+-- by just the options that are given
+pub by-given : (ends : OptionsData → Type 0) (found : Option OptionsData) (given asked : OptionsData) → found ≡ Some given → asked ≡ given → ends asked → IfSome found ends
+by-given ends found given asked is same h =
+    subst (λ (options : Option OptionsData). IfSome options ends) (sym is) (subst ends same h)

@@ -5,8 +5,7 @@ use Rattle.std.specs.Global.{Global}
 use Rattle.keep_damage.specs.Damage.{IsDamage}
 use Rattle.keep_damage.specs.Report.{findings_text}
 use Rattle.keep_damage.specs.declared.finding.Finding.{Finding}
-use Rattle.keep_shelf.specs.Shelved.{Content, Shelved}
-use Rattle.keep_opening.specs.Opened.{IsRefused}
+use Rattle.keep_shelf.specs.Shelved.{Content}
 use Rattle.keep_opening.specs.declared.open_error.OpenError.{OpenError}
 use Rattle.keep_opening.specs.declared.open_error.OpenError.TheVariants.{BadEntry}
 use Rattle.keep_script.specs.Status.{status_unopened}
@@ -28,7 +27,3 @@ abbrev pub IsRefusedSo : Content → OpenError → Ending → Type 0
 IsRefusedSo content error ended =
     (ended ≡ ending.Ran (status_unopened error))
     ⊎ ((number : ℕ) × (error ≡ BadEntry number) × TellsDamage content number ended)
-
--- nothing on the shelf is read, and that is told with what is wrong there
-abbrev pub IsToldDamaged : Shelved → Ending → Type 0
-IsToldDamaged shelf ended = (number : ℕ) × IsRefused (map.get shelf.content) number × TellsDamage shelf.content number ended

@@ -11,13 +11,13 @@ use Rattle.keep_opening.specs.declared.open_error.OpenError.TheVariants as unrea
 use Rattle.keep_opening.specs.declared.open_error.OpenError.TheVariants.{BadEntry}
 use Rattle.keep_lines.specs.Mistake.{mistake_text}
 use Rattle.keep_script.specs.declared.status.Status.TheVariants.{Done, Faulted, BadLine, ReadFailed, ScriptTooLong, WriteFailed, NoMemory, NotOpened}
-use Rattle.keep_command.specs.Option.{IsBadWord}
+use Rattle.keep_options.specs.Option.{IsBadWord}
 use Rattle.keep_operators.specs.declared.order.NoCrew.{NoCrew}
 use Rattle.keep_operators.specs.declared.order.NoCrew.TheVariants as uncrewed
 use Rattle.keep_command.specs.declared.ending.Ending.{Ending}
 use Rattle.keep_command.specs.declared.ending.Ending.TheVariants as ending
-use Rattle.keep_command.specs.declared.options.BadOptions.{BadOptions}
-use Rattle.keep_command.specs.declared.options.BadOptions.TheVariants.{Memory, Refused}
+use Rattle.keep_options.specs.declared.options.BadOptions.{BadOptions}
+use Rattle.keep_options.specs.declared.options.BadOptions.TheVariants.{Memory, Refused}
 
 -- the exit status: 0 where the script was answered and the shelf never failed, 1 where it did or the run failed, 2
 -- where a line isn't of the language or the words aren't options
@@ -40,10 +40,10 @@ abbrev pub ending_of : BadOptions → Ending
 ending_of Refused = ending.BadOptions None
 ending_of Memory = ending.Ran NoMemory
 
--- the end that is come to, or where there is no memory
-abbrev pub ending_after : {E : Type 0} → Result Ending E → Ending
-ending_after (Ok ended) = ended
-ending_after (Err error) = ending.Ran NoMemory
+-- the end where what was written last is handed on, and where it can't be
+abbrev pub ending_flushed : {A E : Type 0} → Result A E → Ending
+ending_flushed (Ok done) = ending.Ran Done
+ending_flushed (Err error) = ending.Ran WriteFailed
 
 -- the end where the folder isn't opened
 abbrev pub ending_unopened : FolderError → Ending

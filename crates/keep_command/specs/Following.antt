@@ -1,115 +1,143 @@
--- What follows a script: where it was answered to its end without a fault, the crew that the options ask for works.
-use Rattle.std.specs.Prelude.{◌≡◌, ◌≢◌, ◌≤◌, ◌⊎◌, ℕ, List, ◌++◌, IsSome, Option, String, codes, string_bytes}
+-- How the program ends by its options: a shelf is had, its script is answered, and what follows is done: where it was
+-- answered to its end without a fault, the crew that the options ask for works. What is left is let go.
+--
+-- What shelves may be had, what is let go and what a crew answers is said by tests: `gives`, `takes` and `answers`.
+use Rattle.std.specs.Prelude.{◌≡◌, ◌≢◌, ◌≤◌, ◌⊎◌, ℕ, List, ◌++◌, Option, Result, Ok, Err, String, codes, string_bytes}
 use Rattle.std.specs.Fmt.{decimal}
 use Rattle.std.specs.Global.{Global}
 use Rattle.std.specs.Io.KnownBytes.{Appends}
-use Rattle.keep_hooks.specs.Guards.{Rule}
+use Rattle.keep_hooks.specs.Guards.{HooksData}
 use Rattle.keep_shelf.specs.Shelved.{Shelved}
-use Rattle.keep_ledger.specs.LedgerState.{LedgerState}
+use Rattle.keep_disk.specs.declared.error.FolderError.{FolderError}
+use Rattle.keep_opening.specs.declared.open_error.OpenError.{OpenError}
+use Rattle.keep_opening.specs.declared.open_error.OpenError.TheVariants.{BadEntry}
+use Rattle.keep_ledger.specs.OnShelf.{OnShelf}
+use Rattle.keep_ledger.specs.Opened.{IsGivenBack, IsNotOpened}
 use Rattle.keep_jobs.specs.Job.{SettingsData}
 use Rattle.keep_jobs.specs.Kits.{KitData}
 use Rattle.keep_answers.specs.Known.{AppendsPart, Writes, line}
-use Rattle.keep_answers.specs.State.{State}
+use Rattle.keep_answers.specs.State.{State, ledger_in}
 use Rattle.keep_operators.specs.Crewed.{IsCrewed}
-use Rattle.keep_disk.specs.declared.error.FolderError.{FolderError}
-use Rattle.keep_disk.specs.declared.error.FolderError.TheVariants as unopened
+use Rattle.keep_operators.specs.declared.order.NoCrew.{NoCrew}
+use Rattle.keep_operators.specs.declared.order.Tally.{Tally}
+use Rattle.keep_script.specs.Run.{EndsFrom, IsUntouched}
 use Rattle.keep_script.specs.declared.status.Status.{Status}
 use Rattle.keep_script.specs.declared.status.Status.TheVariants.{Done, NoMemory, WriteFailed}
-use Rattle.keep_command.specs.Damage.{IsToldDamaged}
-use Rattle.keep_command.specs.Option.{OptionsData}
-use Rattle.keep_script.specs.Run.{IsUntouched}
-use Rattle.keep_command.specs.Running.{IsShelfBy, RunsWith, settings_of, stored, stored_filters}
-use Rattle.keep_operators.specs.declared.order.NoCrew.{NoCrew}
-use Rattle.keep_operators.specs.declared.order.NoCrew.TheVariants as uncrewed
+use Rattle.keep_options.specs.Option.{OptionsData}
+use Rattle.keep_command.specs.Damage.{IsRefusedSo}
+use Rattle.keep_command.specs.Ending.{ending_uncrewed, ending_unopened}
+use Rattle.keep_command.specs.Left.{LeftBook, LeftData, LeftShelf}
+use Rattle.keep_command.specs.Running.{settings_of, stored, stored_filters}
 use Rattle.keep_command.specs.declared.ending.Ending.{Ending}
 use Rattle.keep_command.specs.declared.ending.Ending.TheVariants as ending
+
+-- ---- a crew
 
 -- what is said of a crew of this size: how many of its backups were accepted, and the number of the last event
 abbrev pub report_text : (size accepted last : ℕ) → List ℕ
 report_text size accepted last =
     codes "crew " ++ (decimal size ++ (codes " accepted " ++ (decimal accepted ++ (codes " length " ++ decimal last))))
 
--- the line is written whole and the program is done, or a first part of it is, where a write or memory failed
+-- the line is written whole and the program is done, or a first part of it is, where it can't be written
 abbrev pub Reports : (old new : Option (List ℕ)) → (text : List ℕ) → Ending → Type 0
 Reports old new text ended =
     (Appends old new (line text) × (ended ≡ ending.Ran Done))
-    ⊎ (AppendsPart old new (line text) × ((ended ≡ ending.Ran WriteFailed) ⊎ (ended ≡ ending.Ran NoMemory)))
+    ⊎ (AppendsPart old new (line text) × (ended ≡ ending.Ran WriteFailed))
 
--- a crew of this size worked over a book in this state, and left it in another, and that is reported
-pub record CrewReports (rules : List Rule) (settings : SettingsData) (time : List ℕ) (size : ℕ) (before : LedgerState)
-    (old new : Option (List ℕ)) (ended : Ending) : Type 0 where
-  pub after : LedgerState
-  pub accepted : ℕ
-  pub last : ℕ
-  pub crewed : IsCrewed rules settings time size before after accepted last
-  pub reported : Reports old new (report_text size accepted last) ended
+-- a crew of this size worked over a book with this ledger and left it with another; that is let go, and reported
+pub record CrewReports (takes : LeftData → Type 0) (answers : Result Tally NoCrew → Type 0) (settings : SettingsData)
+    (time : List ℕ) (size : ℕ) (before : OnShelf) (armed : HooksData) (old new : Option (List ℕ)) (ended : Ending) : Type 0 where
+  pub after : OnShelf
+  pub tally : Tally
+  pub answered : answers (Ok tally)
+  pub crewed : IsCrewed armed.vetoes settings time size before.state after.state tally.accepted tally.length
+  pub let_go : takes (LeftBook after armed)
+  pub reported : Reports old new (report_text size tally.accepted tally.length) ended
 
--- no operator worked, since the crew was refused or found no memory, and nothing is written
-abbrev pub IsUncrewed : (old new : Option (List ℕ)) → Ending → Type 0
-IsUncrewed old new ended =
-    (new ≡ old)
-    × (((error : NoCrew) × (error ≢ uncrewed.Memory) × (ended ≡ ending.NoCrew error)) ⊎ (ended ≡ ending.Ran NoMemory))
+-- no operator worked, since the crew was refused: the book is let go as it was, and nothing is written
+pub record IsUncrewed (takes : LeftData → Type 0) (answers : Result Tally NoCrew → Type 0) (before : OnShelf)
+    (armed : HooksData) (old new : Option (List ℕ)) (ended : Ending) : Type 0 where
+  pub error : NoCrew
+  pub answered : answers (Err error)
+  pub let_go : takes (LeftBook before armed)
+  pub told : ended ≡ ending_uncrewed error
+  pub unwritten : new ≡ old
 
--- a crew is had work over a book in this state
-abbrev pub Crews : List Rule → SettingsData → (time : List ℕ) → (size : ℕ) → LedgerState → (old new : Option (List ℕ)) → Ending → Type 0
-Crews rules settings time size before old new ended =
-    CrewReports rules settings time size before old new ended ⊎ IsUncrewed old new ended
+-- a crew is had work over a book with this ledger, under what is armed
+abbrev pub Crews : (takes : LeftData → Type 0) → (answers : Result Tally NoCrew → Type 0) → SettingsData → (time : List ℕ)
+    → (size : ℕ) → OnShelf → HooksData → (old new : Option (List ℕ)) → Ending → Type 0
+Crews takes answers settings time size before armed old new ended =
+    CrewReports takes answers settings time size before armed old new ended
+    ⊎ IsUncrewed takes answers before armed old new ended
+
+-- ---- a script and what follows it
 
 -- a crew is due behind a run that ended so: one is asked for, and the script was answered to its end without a fault
 abbrev pub IsCrewDue : (size : ℕ) → Status → Type 0
 IsCrewDue size status = (1 ≤ size) × (status ≡ Done)
 
--- what follows a run that ended so and left a book in this state, under these vetoes: the crew that the options ask
--- for, where it is due, and else nothing
-abbrev pub Follows : OptionsData → List Rule → LedgerState → (old new : Option (List ℕ)) → Status → Ending → Type 0
-Follows options rules before old new status ended =
-    ((IsCrewDue options.crew status → ⊥) × (new ≡ old) × (ended ≡ ending.Ran status))
+-- what follows a run that ended so and left a book with this ledger, under what is armed: the crew that the options ask
+-- for has it, where one is due, and else it is let go
+abbrev pub Follows : (takes : LeftData → Type 0) → (answers : Result Tally NoCrew → Type 0) → OptionsData → OnShelf → HooksData
+    → (old new : Option (List ℕ)) → Status → Ending → Type 0
+Follows takes answers options ledger armed old new status ended =
+    ((IsCrewDue options.crew status → ⊥) × takes (LeftBook ledger armed) × (new ≡ old) × (ended ≡ ending.Ran status))
     ⊎ (IsCrewDue options.crew status
-    × Crews rules (settings_of options) options.time options.crew before old new ended)
+    × Crews takes answers (settings_of options) options.time options.crew ledger armed old new ended)
 
--- a script is answered so, up to a state, and then what follows is done, with the vetoes that it left armed
-pub record Serves (answers : List ℕ → Status → State → Type 0) (options : OptionsData) (old new : Option (List ℕ))
-    (ended : Ending) : Type 0 where
+-- a script is answered so, up to a state, and what follows is done with the book as that state has it
+pub record Serves (takes : LeftData → Type 0) (answers : Result Tally NoCrew → Type 0)
+    (answered : List ℕ → Status → State → Type 0) (options : OptionsData) (old new : Option (List ℕ)) (ended : Ending) : Type 0 where
   pub status : Status
   pub after : State
   -- what is written then
   pub middle : Option (List ℕ)
-  pub answered : Writes old middle (λ text. answers text status after)
-  pub follows : Follows options after.armed.vetoes after.book middle new status ended
+  pub writes : Writes old middle (λ text. answered text status after)
+  pub follows : Follows takes answers options (ledger_in after) after.armed middle new status ended
 
--- the script is answered by the options over this shelf, with the filters, vetoes and watches that are stored for them,
--- and then what follows is done
-pub record Runs (shelf : Shelved) (options : OptionsData) (known left old new : Option (List ℕ)) (ended : Ending) : Type 0 where
-  pub host : String Global
-  pub tag : String Global
-  pub of_host : string_bytes host ≡ options.host
-  pub of_tag : string_bytes tag ≡ options.tagged
-  pub serves : Serves (RunsWith shelf (stored (stored_filters host tag) options.drops) options known left) options old new ended
+-- this shelf isn't opened, and is let go as that left it; where what stands there says nothing, it may be read once more,
+-- for what is wrong with it
+pub record IsUnopened (takes : LeftData → Type 0) (shelf : Shelved) (ended : Ending) : Type 0 where
+  pub error : OpenError
+  pub why : IsNotOpened shelf error
+  pub told : IsRefusedSo shelf.content error ended
+  pub left : Shelved
+  pub given : IsGivenBack shelf error left
+  pub after : Shelved
+  pub same : after.content ≡ left.content
+  pub unread : ((number : ℕ) → error ≢ BadEntry number) → after ≡ left
+  pub let_go : takes (LeftShelf after)
 
--- the script is answered over this shelf, with this kit, and then what follows is done; or what is wrong there is told, and
--- nothing is read or written
-abbrev pub ServesOrTells : Shelved → KitData → OptionsData → (known left old new : Option (List ℕ)) → Ending → Type 0
-ServesOrTells shelf kit options known left old new ended =
-    Serves (RunsWith shelf kit options known left) options old new ended
-    ⊎ (IsToldDamaged shelf ended × IsUntouched known left old new)
+-- ---- the program
 
--- the script isn't answered at all: there is no memory for that, the folder that the options name isn't opened, or nothing
--- on the shelf that they name is read
-abbrev pub IsNotRun : OptionsData → Ending → Type 0
-IsNotRun options ended =
-    (ended ≡ ending.Ran NoMemory)
-    ⊎ ((IsSome options.folder × ((error : FolderError) × (error ≢ unopened.Memory) × (ended ≡ ending.NoFolder error)))
-    ⊎ ((shelf : Shelved) × IsShelfBy options shelf × IsToldDamaged shelf ended))
+-- the script is answered over this shelf by the options with this kit, or nothing is read or written
+abbrev pub EndsOver : (takes : LeftData → Type 0) → (answers : Result Tally NoCrew → Type 0) → Shelved → KitData
+    → OptionsData → (known rest old new : Option (List ℕ)) → Ending → Type 0
+EndsOver takes answers shelf kit options known rest old new ended =
+    Serves takes answers (EndsFrom shelf (settings_of options) kit known rest) options old new ended
+    ⊎ (IsUnopened takes shelf ended × IsUntouched known rest old new)
 
--- how the program ends by options with this kit: the script is answered over the shelf that they name, and what follows
--- is done, or nothing is read or written
-abbrev pub EndsWith : KitData → OptionsData → (known left old new : Option (List ℕ)) → Ending → Type 0
-EndsWith kit options known left old new ended =
-    ((shelf : Shelved) × IsShelfBy options shelf × Serves (RunsWith shelf kit options known left) options old new ended)
-    ⊎ (IsNotRun options ended × IsUntouched known left old new)
+-- the folder that the options name is no shelf
+pub record HasNoShelf {S : Type 0} (gives : Option (List ℕ) → Result S FolderError → Type 0) (options : OptionsData)
+    (ended : Ending) : Type 0 where
+  pub error : FolderError
+  pub refused : gives options.folder (Err error)
+  pub told : ended ≡ ending_unopened error
 
--- how it ends by options, with what is stored for them
-abbrev pub EndsBy : OptionsData → (known left old new : Option (List ℕ)) → Ending → Type 0
-EndsBy options known left old new ended =
-    ((shelf : Shelved) × IsShelfBy options shelf × Runs shelf options known left old new ended)
-    ⊎ (IsNotRun options ended × IsUntouched known left old new)
+-- how the program ends by options with this kit: a shelf is had of the folder that they name, and it ends over that
+abbrev pub EndsWith : {S : Type 0} → (shelved : S → Shelved) → (gives : Option (List ℕ) → Result S FolderError → Type 0)
+    → (takes : LeftData → Type 0) → (answers : Result Tally NoCrew → Type 0) → KitData → OptionsData
+    → (known rest old new : Option (List ℕ)) → Ending → Type 0
+EndsWith {S} shelved gives takes answers kit options known rest old new ended =
+    ((shelf : S) × gives options.folder (Ok shelf)
+    × EndsOver takes answers (shelved shelf) kit options known rest old new ended)
+    ⊎ (HasNoShelf gives options ended × IsUntouched known rest old new)
+
+-- how it ends by options, with the filters, vetoes and watches that are stored for them; there may be no memory for those
+abbrev pub EndsBy : {S : Type 0} → (shelved : S → Shelved) → (gives : Option (List ℕ) → Result S FolderError → Type 0)
+    → (takes : LeftData → Type 0) → (answers : Result Tally NoCrew → Type 0) → OptionsData
+    → (known rest old new : Option (List ℕ)) → Ending → Type 0
+EndsBy shelved gives takes answers options known rest old new ended =
+    ((host tag : String Global) × (string_bytes host ≡ options.host) × (string_bytes tag ≡ options.tagged)
+    × EndsWith shelved gives takes answers (stored (stored_filters host tag) options.drops) options known rest old new ended)
+    ⊎ ((ended ≡ ending.Ran NoMemory) × IsUntouched known rest old new)

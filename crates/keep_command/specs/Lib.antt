@@ -1,7 +1,7 @@
 pub mod Damage
 pub mod Ending
 pub mod Following
+pub mod Left
 pub mod NamedShelf
-pub mod Option
-pub mod Reading
 pub mod Running
+pub mod Stored

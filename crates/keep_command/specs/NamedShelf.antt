@@ -1,7 +1,8 @@
 -- What contracts see of the shelf that a script is answered over.
-use Rattle.std.specs.Prelude.{◌≡◌, ℕ, List, MatchOption, Option}
+use Rattle.std.specs.Prelude.{◌≡◌, ⊤, ℕ, IsTrue, List, Option, Some, None, Result, Ok, Err}
 use Rattle.std.specs.FinMap as map
 use Rattle.keep_shelf.specs.Shelved.{Shelved, stocked}
+use Rattle.keep_disk.specs.declared.error.FolderError.{FolderError}
 use Rattle.keep_command.specs.declared.named_shelf.NamedShelf.{NamedShelf}
 use Rattle.keep_command.specs.declared.named_shelf.NamedShelf.TheVariants.{Memory, Folder}
 
@@ -10,6 +11,12 @@ abbrev pub shelved_of : NamedShelf → Shelved
 shelved_of (Memory shelf) = shelf
 shelved_of (Folder shelf) = shelf.shelved
 
--- it is a shelf just made: where a folder is named it is what was read there, and else there is nothing on it
-abbrev pub IsShelfIn : Option (List ℕ) → Shelved → Type 0
-IsShelfIn folder shelf = MatchOption folder (shelf ≡ stocked map.empty) (λ name. shelf ≡ stocked shelf.content)
+-- it is had of this folder, just made: what was read there, or that isn't opened; where none is named it is in memory, with
+-- nothing on it
+abbrev pub IsHad : Option (List ℕ) → Result NamedShelf FolderError → Type 0
+IsHad None (Ok (Memory shelf)) = shelf ≡ stocked map.empty
+IsHad None (Ok (Folder shelf)) = ⊥
+IsHad None (Err error) = ⊥
+IsHad (Some name) (Ok (Memory shelf)) = ⊥
+IsHad (Some name) (Ok (Folder shelf)) = (shelf.shelved ≡ stocked shelf.shelved.content) × IsTrue shelf.is_told
+IsHad (Some name) (Err error) = ⊤

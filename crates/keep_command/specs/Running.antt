@@ -1,24 +1,16 @@
--- What a run by the options does.
-use Rattle.std.specs.Prelude.{◌≡◌, ◌≢◌, ◌≤◌, ◌⊎◌, ℕ, List, [], ◌∷◌, length, IfSome, Option, String, codes}
+-- What a run by the options goes by, and how it keeps to lines.
+use Rattle.std.specs.Prelude.{◌≡◌, ◌≢◌, ◌≤◌, ℕ, List, [], ◌∷◌, length, IfSome, Option, String, codes}
 use Rattle.std.specs.Global.{Global}
-use Rattle.std.specs.Io.KnownBytes.{Keeps}
 use Rattle.keep_hooks.specs.Guards.{Rule, WatchData}
 use Rattle.keep_jobs.specs.Job.{SettingsData}
 use Rattle.keep_jobs.specs.Kits.{KitData, NamedRule}
 use Rattle.keep_hooks.specs.declared.limit.Limit.TheVariants.{NoEmpty, SnapshotDropsAtMost}
 use Rattle.keep_hooks.specs.declared.measure.Measure.TheVariants.{Events, FilesWritten}
 use Rattle.keep_plan.specs.declared.pick.Pick.TheVariants.{Any, Host, Tagged}
-use Rattle.keep_shelf.specs.Shelved.{Shelved}
-use Rattle.keep_ledger.specs.Opened.{IsNotOpened}
-use Rattle.keep_opening.specs.declared.open_error.OpenError.TheVariants.{Memory}
 use Rattle.keep_answers.specs.Known.{WritesLines}
 use Rattle.keep_script.specs.Line.{longest_script}
-use Rattle.keep_script.specs.Run.{EndsFrom}
-use Rattle.keep_answers.specs.State.{State, kit_of}
-use Rattle.keep_script.specs.declared.status.Status.{Status}
-use Rattle.keep_script.specs.declared.status.Status.TheVariants.{NoMemory, NotOpened, ScriptTooLong, WriteFailed}
-use Rattle.keep_command.specs.NamedShelf.{IsShelfIn}
-use Rattle.keep_command.specs.Option.{OptionsData}
+use Rattle.keep_script.specs.declared.status.Status.TheVariants.{ScriptTooLong, WriteFailed}
+use Rattle.keep_options.specs.Option.{OptionsData}
 use Rattle.keep_command.specs.declared.ending.Ending.{Ending}
 use Rattle.keep_command.specs.declared.ending.Ending.TheVariants as ending
 
@@ -42,32 +34,9 @@ stored_watches =
 abbrev pub stored : List NamedRule → ℕ → KitData
 stored filters drops = record { filters = filters; vetoes = stored_vetoes drops; watches = stored_watches }
 
--- the shelf that the options name
-abbrev pub IsShelfBy : OptionsData → Shelved → Type 0
-IsShelfBy options shelf = IsShelfIn options.folder shelf
-
 -- what jobs go by
 abbrev pub settings_of : OptionsData → SettingsData
 settings_of options = record { cut = options.cut; now = options.now }
-
--- nothing is read or written, and the kit stays
-pub record IsIdle (kit : KitData) (known left : Option (List ℕ)) (text : List ℕ) (after : State) : Type 0 where
-  pub unread : Keeps known left
-  pub unwritten : text ≡ []
-  pub kit_stays : kit_of after ≡ kit
-
--- the text for a script that is answered over this shelf, which may not be opened, or for which there may be no memory
-abbrev pub EndsOver : Shelved → SettingsData → KitData → Option (List ℕ) → Option (List ℕ) → List ℕ → Status → State → Type 0
-EndsOver shelf settings kit known left text (NotOpened error) after =
-    IsNotOpened shelf error × (error ≢ Memory) × IsIdle kit known left text after
-EndsOver shelf settings kit known left text NoMemory after =
-    IsIdle kit known left text after ⊎ EndsFrom shelf settings kit known left text NoMemory after
-EndsOver shelf settings kit known left text status after = EndsFrom shelf settings kit known left text status after
-
--- the text for a script that is answered by the options over this shelf, with this kit, up to this state
-abbrev pub RunsWith : Shelved → KitData → OptionsData → (known left : Option (List ℕ)) → List ℕ → Status → State → Type 0
-RunsWith shelf kit options known left text status after =
-    EndsOver shelf (settings_of options) kit known left text status after
 
 -- unless a write failed whole lines are written, and a script is told as too long only where it is
 abbrev pub KeepsLines : (known old new : Option (List ℕ)) → Ending → Type 0

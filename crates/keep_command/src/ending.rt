@@ -3,11 +3,12 @@ ghost use Rattle.std.specs.Io.KnownBytes.{Appends};
 ghost use Rattle.keep_command.specs.Ending.{advice_on, code_of, told_text};
 ghost use Rattle.keep_script.specs.declared.status.Status.TheVariants as the_status;
 
-use crate::options::BadOptions;
 use keep_folder::FolderError;
 use keep_opening::OpenError;
 use keep_operators::NoCrew;
+use keep_options::BadOptions;
 use keep_script::Status;
+use std::alloc::AllocError;
 use std::fmt;
 use std::io::{self, Write};
 
@@ -84,6 +85,18 @@ impl From<BadOptions> for Ending<'_> {
             BadOptions::Refused => Ending::BadOptions(None),
             BadOptions::Memory => Ending::Ran(Status::NoMemory),
         }
+    }
+}
+
+impl From<AllocError> for Ending<'_> {
+    ghost use Rattle.std.specs.Prelude.{◌≡◌};
+    ghost use Rattle.keep_script.specs.declared.status.Status.TheVariants.{NoMemory};
+    ghost use Rattle.keep_command.specs.declared.ending.Ending.TheVariants.{Ran};
+
+    ghost from_gives = { λ _ ending. ending ≡ Ran NoMemory };
+
+    fn from(_error: AllocError) -> Self {
+        Ending::Ran(Status::NoMemory)
     }
 }
 

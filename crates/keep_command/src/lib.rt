@@ -1,18 +1,23 @@
-//! The program `keepd` without its edge: the options that its words give, the run by them, and how it ended.
+//! The program `keepd` without its edge: the run by the options that its words give, and how it ended.
 #![tactic(auto)]
 
 mod crew;
 mod ending;
 mod named_shelf;
-mod options;
 mod program;
 mod report;
 mod serving;
+mod shelves;
+mod stored;
 mod terms;
+mod unopened;
 
 pub use crew::{Crew, NoOperators};
 pub use ending::{Ending, tell};
+pub use keep_folder::FolderError;
 pub use keep_operators::{NoCrew, Order, Tally};
-pub use named_shelf::NamedShelf;
-pub use options::{BadOptions, Options, read_options};
+pub use keep_options::BadOptions;
+pub use named_shelf::{HostShelves, NamedShelf};
 pub use program::keepd;
+pub use shelves::Shelves;
+pub use unopened::Unopened;

@@ -1,6 +1,10 @@
+use crate::shelves::Shelves;
+use crate::unopened::Unopened;
+use keep_book::Book;
 use keep_folder::{FolderError, FolderShelf, HostTree, open_folder};
 use keep_repo::Bytes;
 use keep_shelf::{Fault, Key, MemoryShelf, Shelf};
+use std::mem;
 
 /// The shelf that a script is answered over: in memory, or a folder.
 #[derive(Drop)]
@@ -9,24 +13,43 @@ pub enum NamedShelf<'a> {
     Folder(FolderShelf<HostTree<'a>>),
 }
 
-impl<'a> NamedShelf<'a> {
-    ghost use Rattle.std.specs.Prelude.{IfErr, IfOk, IsSome};
-    ghost use Rattle.std.specs.Option.{option_map};
-    ghost use Rattle.keep_command.specs.NamedShelf.{IsShelfIn, shelved_of};
+/// The shelves that the program's options name: folders on this machine's disks, or in memory.
+#[derive(Clone, Copy)]
+pub struct HostShelves<'a> {
+    rt: &'a HostRuntime,
+}
 
-    /// What stands in the folder, or where none is named a shelf in memory with nothing on it.
-    pub(crate) fn open(
-        rt: &'a HostRuntime,
-        folder: Option<&str>,
-    ) -> Result<NamedShelf<'a>, FolderError>
-        ensures opened { IfOk result (λ shelf.
-            IsShelfIn (option_map (λ name. name.now) folder.entry) (shelved_of shelf)) }
-        ensures named { IfErr result (λ error. IsSome (option_map (λ name. name.now) folder.entry)) }
-    {
+impl<'a> HostShelves<'a> {
+    pub fn new(rt: &'a HostRuntime) -> HostShelves<'a> {
+        HostShelves { rt }
+    }
+}
+
+impl Shelves for HostShelves<'_> {
+    ghost use Rattle.keep_command.specs.NamedShelf.{IsHad};
+
+    ghost gives = { λ _ folder result. IsHad folder result };
+
+    ghost takes = { λ _ _. Unit {0} };
+
+    fn open<'s>(&'s self, folder: Option<&str>) -> Result<NamedShelf<'s>, FolderError> {
         match folder {
-            None => Ok(NamedShelf::Memory(MemoryShelf::new(rt.alloc()))),
-            Some(path) => Ok(NamedShelf::Folder(open_folder(rt, path)?)),
+            None => Ok(NamedShelf::Memory(MemoryShelf::new(self.rt.alloc()))),
+            Some(path) => Ok(NamedShelf::Folder(open_folder(self.rt, path)?)),
         }
+    }
+
+    /// What is in memory alone is left to the system, which takes it back at once when the program ends: giving it back
+    /// block by block takes a tenth of a long run.
+    fn leave<T: Shelf>(&self, folder: Option<&str>, book: Book<T>) {
+        match folder {
+            Some(_) => drop(book),
+            None => mem::forget(book),
+        }
+    }
+
+    fn leave_unopened<T: Shelf>(&self, unopened: Unopened<T>) {
+        drop(unopened);
     }
 }
 

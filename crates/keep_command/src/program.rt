@@ -4,21 +4,23 @@ ghost use Rattle.keep_answers.specs.Known.{WritesLines};
 ghost use Rattle.keep_script.specs.Line.{longest_script};
 ghost use Rattle.keep_script.specs.Run.{IsUntouched};
 ghost use Rattle.keep_script.specs.declared.status.Status.{Status};
-ghost use Rattle.keep_command.specs.Ending.{NamesBadWord, ending_after};
+ghost use Rattle.keep_command.specs.Ending.{NamesBadWord};
 ghost use Rattle.keep_command.specs.Following.{EndsBy, EndsWith};
-ghost use Rattle.keep_command.specs.Option.{options_of, options_view};
+ghost use Rattle.keep_options.specs.Option.{options_of, options_view};
+ghost use Rattle.keep_command.specs.NamedShelf.{shelved_of};
 ghost use Rattle.keep_command.specs.Running.{KeepsLines, stored};
 
 use crate::crew::Crew;
 use crate::ending::Ending;
-use crate::options::{BadOptions, Options, find_bad_word, read_options};
 use crate::serving::serve;
+use crate::shelves::Shelves;
+use crate::stored::Stored;
 use crate::terms::Terms;
 use keep_change::{Outline, What};
 use keep_hooks::{
     AskOutline, CountOutline, Limit, Measure, Veto, Watch, files_written, snapshots_dropped,
 };
-use keep_jobs::Kit;
+use keep_options::{BadOptions, Options, find_bad_word, read_options};
 use keep_plan::{AskFacts, Filter, Pick, has_tag};
 use keep_script::Status;
 use keep_snap::SnapFacts;
@@ -27,74 +29,79 @@ use std::io::{Read, Write};
 
 /// Answers the script that the reader gives, by the options that the words behind the program's name give: over what
 /// stands in the folder that they name, or over a shelf in memory with nothing on it. Then it has the crew work that
-/// they ask for, where each line was answered and the shelf never failed. It is a program's last call: what it held in
-/// memory alone isn't given back, where no crew worked.
-pub fn keepd<'a, C: Crew, R: Read, W: Write>(
-    rt: &HostRuntime,
+/// they ask for, where each line was answered and the shelf never failed. What is left then is let go: the book as the
+/// last line left it, or as the crew did, or the shelf that wasn't opened.
+pub fn keepd<'a, H, C, R, W>(
+    alloc: Global,
+    shelves: &H,
     crew: &C,
     words: &[&'a str],
     reader: &mut R,
     writer: &mut W,
 ) -> Ending<'a>
+where
+    H: Shelves,
+    C: Crew,
+    R: Read,
+    W: Write,
     ensures refused { let given = map (λ word. word.now) words.entry.now in options_of given ≡ None
         → (NamesBadWord given result ⊎ (result ≡ Ending.Ran Status.NoMemory))
         × IsUntouched (R.remaining reader.old) (R.remaining reader.new) (W.contents writer.old)
         (W.contents writer.new) }
     ensures answers { IfSome (options_of (map (λ word. word.now) words.entry.now)) (λ options.
-        EndsBy options (R.remaining reader.old) (R.remaining reader.new) (W.contents writer.old)
-        (W.contents writer.new) result) }
+        EndsBy shelved_of (H.gives shelves.now) (H.takes shelves.now) (C.answers crew.now) options
+        (R.remaining reader.old) (R.remaining reader.new) (W.contents writer.old) (W.contents writer.new) result) }
     ensures whole { result ≢ Ending.Ran Status.WriteFailed →
         WritesLines (W.contents writer.old) (W.contents writer.new) }
     ensures past_limit { result ≡ Ending.Ran Status.ScriptTooLong →
         IfSome (R.remaining reader.old) (λ script. longest_script ≤ length script) }
 {
-    let alloc = rt.alloc();
     match read_options(alloc, &*words) {
-        Ok(options) => answer_by(rt, crew, options, reader, writer),
+        Ok(options) => answer_by(shelves, crew, Terms::new(alloc, options), reader, writer),
         Err(BadOptions::Refused) => refuse(alloc, words),
         Err(BadOptions::Memory) => Ending::Ran(Status::NoMemory),
     }
 }
 
 /// Answers the script by the options.
-fn answer_by<'a, C: Crew, R: Read, W: Write>(
-    rt: &HostRuntime,
+fn answer_by<'a, H, C, R, W>(
+    shelves: &H,
     crew: &C,
-    options: Options<'_>,
+    terms: Terms<'_>,
     reader: &mut R,
     writer: &mut W,
 ) -> Ending<'a>
-    requires some { 1 ≤ options.cut }
-    requires most { options.cut ≤ 8388608 }
-    requires few { options.crew ≤ 8 }
-    ensures ends { EndsBy (options_view options.entry) (R.remaining reader.old) (R.remaining reader.new)
+where
+    H: Shelves,
+    C: Crew,
+    R: Read,
+    W: Write,
+    ensures ends { EndsBy shelved_of (H.gives shelves.now) (H.takes shelves.now) (C.answers crew.now)
+        (options_view terms.entry.options) (R.remaining reader.old) (R.remaining reader.new)
         (W.contents writer.old) (W.contents writer.new) result }
-    ensures whole { result ≢ Ending.Ran Status.WriteFailed →
-        WritesLines (W.contents writer.old) (W.contents writer.new) }
-    ensures past_limit { result ≡ Ending.Ran Status.ScriptTooLong →
-        IfSome (R.remaining reader.old) (λ script. longest_script ≤ length script) }
+    ensures lines { KeepsLines (R.remaining reader.old) (W.contents writer.old) (W.contents writer.new) result }
 {
-    end_of(answer(crew, Terms::new(rt, options), reader, writer))
-}
-
-/// How the program ends that was to end so, or had no memory.
-fn end_of<'a>(ended: Result<Ending<'a>, AllocError>) -> Ending<'a>
-    ensures { result ≡ ending_after ended.entry }
-{
-    match ended {
+    match answer(shelves, crew, terms, reader, writer) {
         Ok(ended) => ended,
-        Err(AllocError) => Ending::Ran(Status::NoMemory),
+        Err(error) => Ending::from(error),
     }
 }
 
 /// Answers the script, with the filters `all`, `host` and `tagged`.
-fn answer<'a, C: Crew, R: Read, W: Write>(
+fn answer<'a, H, C, R, W>(
+    shelves: &H,
     crew: &C,
     terms: Terms<'_>,
     reader: &mut R,
     writer: &mut W,
 ) -> Result<Ending<'a>, AllocError>
-    ensures ends { IfOk result (λ ended. EndsBy (options_view terms.entry.options)
+where
+    H: Shelves,
+    C: Crew,
+    R: Read,
+    W: Write,
+    ensures ends { IfOk result (λ ended. EndsBy shelved_of (H.gives shelves.now) (H.takes shelves.now)
+        (C.answers crew.now) (options_view terms.entry.options)
         (R.remaining reader.old) (R.remaining reader.new) (W.contents writer.old) (W.contents writer.new) ended
         × KeepsLines (R.remaining reader.old) (W.contents writer.old) (W.contents writer.new) ended) }
     ensures untouched { IfErr result (λ error.
@@ -116,18 +123,25 @@ fn answer<'a, C: Crew, R: Read, W: Write>(
     let ask: AskFacts = Box::new(alloc, move |facts: &SnapFacts| has_tag(facts, tag.as_str()))?;
     let by_tag = Filter::new(String::from_str(alloc, "tagged")?, rule, ask);
     let filters = vec![in alloc; all, by_host, by_tag]?;
-    answer_with(crew, terms, filters, reader, writer)
+    answer_with(shelves, crew, terms, filters, reader, writer)
 }
 
 /// Answers the script, with these filters, the vetoes `few-drops` and `no-empty`, and the watches `events` and `files`.
-fn answer_with<'a, C: Crew, R: Read, W: Write>(
+fn answer_with<'a, H, C, R, W>(
+    shelves: &H,
     crew: &C,
     terms: Terms<'_>,
     filters: Vec<Filter>,
     reader: &mut R,
     writer: &mut W,
 ) -> Result<Ending<'a>, AllocError>
+where
+    H: Shelves,
+    C: Crew,
+    R: Read,
+    W: Write,
     ensures ends { IfOk result (λ ended. let options = options_view terms.entry.options in EndsWith
+        shelved_of (H.gives shelves.now) (H.takes shelves.now) (C.answers crew.now)
         (stored (map named_rule filters.items) options.drops) options
         (R.remaining reader.old) (R.remaining reader.new) (W.contents writer.old) (W.contents writer.new) ended
         × KeepsLines (R.remaining reader.old) (W.contents writer.old) (W.contents writer.new) ended) }
@@ -153,12 +167,12 @@ fn answer_with<'a, C: Crew, R: Read, W: Write>(
         Measure::FilesWritten,
         ask,
     );
-    let mut kit = Kit {
-        filters,
+    let stored = Stored {
         vetoes: vec![in alloc; few_drops, no_empty]?,
         watches: vec![in alloc; events, files]?,
+        filters,
     };
-    Ok(serve(crew, terms, &mut kit, reader, writer))
+    Ok(serve(shelves, crew, terms, stored, reader, writer))
 }
 
 /// The end where the words aren't options.

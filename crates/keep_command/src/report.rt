@@ -1,16 +1,16 @@
-ghost use Rattle.std.specs.Prelude.{◌≡◌, ◌≢◌, ◌⊎◌};
-ghost use Rattle.std.specs.Io.KnownBytes.{Keeps};
+ghost use Rattle.std.specs.Prelude.{◌≡◌, ◌≢◌};
 ghost use Rattle.keep_answers.specs.Known.{WritesLines};
 ghost use Rattle.keep_script.specs.declared.status.Status.{Status};
+ghost use Rattle.keep_command.specs.Ending.{ending_flushed};
 ghost use Rattle.keep_command.specs.Following.{Reports, report_text};
 
 use crate::ending::Ending;
-use keep_answers::{Halt, put_line};
+use keep_answers::put_line;
 use keep_operators::Tally;
 use keep_script::Status;
 use std::alloc::Global;
 use std::fmt;
-use std::io::Write;
+use std::io::{self, Write};
 
 /// What is said of a crew, as it prints.
 #[derive(Clone, Copy)]
@@ -32,7 +32,8 @@ impl fmt::Display for Report {
     }
 }
 
-/// Writes the report as a line, and hands it on.
+/// Writes the report as a line, and hands it on. Where there is no memory for the line it can't be written: `NoMemory`
+/// would say that no crew worked.
 pub(crate) fn tell_tally<'a, W: Write>(alloc: Global, report: Report, writer: &mut W) -> Ending<'a>
     ensures reports { Reports (W.contents writer.old) (W.contents writer.new)
         (report_text report.size report.tally.accepted report.tally.length) result }
@@ -40,19 +41,17 @@ pub(crate) fn tell_tally<'a, W: Write>(alloc: Global, report: Report, writer: &m
         WritesLines (W.contents writer.old) (W.contents writer.new) }
 {
     match put_line(alloc, &report, writer) {
-        Ok(()) => flush(writer),
-        Err(Halt::NoMemory) => Ending::Ran(Status::NoMemory),
-        Err(Halt::WriteFailed | Halt::BadLine(_)) => Ending::Ran(Status::WriteFailed),
+        Ok(()) => end_flushed(writer.flush()),
+        Err(_halt) => Ending::Ran(Status::WriteFailed),
     }
 }
 
-/// Hands on what the writer keeps back, and ends the program.
-fn flush<'a, W: Write>(writer: &mut W) -> Ending<'a>
-    ensures kept { Keeps (W.contents writer.old) (W.contents writer.new) }
-    ensures ended { (result ≡ Ending.Ran Status.Done) ⊎ (result ≡ Ending.Ran Status.WriteFailed) }
+/// How the program ends where this came of handing on what it has written last.
+fn end_flushed<'a>(flushed: io::Result<()>) -> Ending<'a>
+    ensures { result ≡ ending_flushed flushed }
 {
-    match writer.flush() {
+    match flushed {
         Ok(()) => Ending::Ran(Status::Done),
-        Err(_) => Ending::Ran(Status::WriteFailed),
+        Err(_error) => Ending::Ran(Status::WriteFailed),
     }
 }

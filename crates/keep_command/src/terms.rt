@@ -1,18 +1,17 @@
 ghost use Rattle.std.specs.Prelude.{◌≡◌, ◌≤◌};
 ghost use Rattle.keep_jobs.specs.Job.{settings_view};
-ghost use Rattle.keep_command.specs.Option.{options_view};
+ghost use Rattle.keep_options.specs.Option.{options_view};
 ghost use Rattle.keep_command.specs.Running.{settings_of};
 
-use crate::options::Options;
 use keep_jobs::{Cut, Settings};
 use keep_operators::Order;
+use keep_options::Options;
 use keep_script::Setup;
 use std::alloc::Global;
 
 /// What a run goes by.
 #[derive(Clone, Copy)]
 pub(crate) struct Terms<'a> {
-    pub rt: &'a HostRuntime,
     pub alloc: Global,
     pub options: Options<'a>,
     settings: Settings,
@@ -22,7 +21,7 @@ pub(crate) struct Terms<'a> {
 
 impl<'a> Terms<'a> {
     /// By these options.
-    pub fn new(rt: &'a HostRuntime, options: Options<'a>) -> Terms<'a>
+    pub fn new(alloc: Global, options: Options<'a>) -> Terms<'a>
         requires some { 1 ≤ options.cut }
         requires most { options.cut ≤ 8388608 }
         requires few { options.crew ≤ 8 }
@@ -33,8 +32,7 @@ impl<'a> Terms<'a> {
             now: options.now,
         };
         Terms {
-            rt,
-            alloc: rt.alloc(),
+            alloc,
             options,
             settings,
         }

@@ -9,9 +9,9 @@ mod desk;
 mod operators;
 
 use crate::operators::Operators;
-use keep_command::{BadOptions, Crew, Ending, keepd, tell};
-use keep_script::Status;
+use keep_command::{BadOptions, Crew, Ending, HostShelves, keepd, tell};
 use keep_streams::fill_streams;
+use std::alloc::AllocError;
 use std::env;
 use std::io::{BufWriter, ErrorKind, Write};
 use std::process::ExitCode;
@@ -26,16 +26,23 @@ fn read_words(rt: &HostRuntime) -> Result<Vec<String>, BadOptions> {
 }
 
 /// Runs the program between standard input and output, with this crew.
-fn serve<'a, C: Crew>(rt: &HostRuntime, crew: &C, words: &'a [String]) -> Ending<'a> {
+fn serve<'a, C: Crew>(
+    rt: &HostRuntime,
+    crew: &C,
+    words: &'a [String],
+) -> Result<Ending<'a>, AllocError> {
     let alloc = rt.alloc();
-    let words: Result<Vec<&str>, _> = words.iter().map(|word| word.as_str()).collect(alloc);
-    let (Ok(words), Ok(mut writer)) = (words, BufWriter::new(alloc, rt.stdout())) else {
-        return Ending::Ran(Status::NoMemory);
+    let words: Vec<&str> = words.iter().map(|word| word.as_str()).collect(alloc)?;
+    let Ok(mut writer) = BufWriter::new(alloc, rt.stdout()) else {
+        return Err(AllocError);
     };
-    keepd(rt, crew, words.as_slice(), &mut rt.stdin(), &mut writer)
+    let shelves = HostShelves::new(rt);
+    let mut reader = rt.stdin();
+    let words = words.as_slice();
+    Ok(keepd(alloc, &shelves, crew, words, &mut reader, &mut writer))
 }
 
-/// Says on standard error why the program ended, and answers its exit status.
+/// Says on standard error why the program ended, and answers its exit status, whether that could be said or not.
 fn exit_code<E: Write>(ending: Ending<'_>, errors: &mut E) -> ExitCode
     ensures { exit_status result ≡ code_of ending.entry }
 {
@@ -47,9 +54,13 @@ fn main(rt: HostRuntime) -> ExitCode {
     if fill_streams(&rt).is_err() {
         return ExitCode::from(1);
     }
+    let words = match read_words(&rt) {
+        Ok(words) => words,
+        Err(error) => return exit_code(Ending::from(error), &mut rt.stderr()),
+    };
     let crew = Operators::new(&rt);
-    match read_words(&rt) {
-        Ok(words) => exit_code(serve(&rt, &crew, words.as_slice()), &mut rt.stderr()),
+    match serve(&rt, &crew, words.as_slice()) {
+        Ok(ending) => exit_code(ending, &mut rt.stderr()),
         Err(error) => exit_code(Ending::from(error), &mut rt.stderr()),
     }
 }

@@ -1,6 +1,6 @@
 use crate::failure::Failure;
 use crate::run::Run;
-use keep_command::{Ending, NoOperators, keepd, tell};
+use keep_command::{Ending, HostShelves, NoOperators, keepd, tell};
 use keep_tables::utc_time;
 use std::fs::File;
 use std::io::{BufWriter, Read};
@@ -28,7 +28,15 @@ fn answer<R: Read>(run: &Run<'_>, reader: &mut R) -> Result<(), Failure> {
     let Ok(mut writer) = BufWriter::new(run.alloc, run.rt.stdout()) else {
         return Err(Failure::Memory);
     };
-    let ending = keepd(run.rt, &NoOperators, words.as_slice(), reader, &mut writer);
+    let shelves = HostShelves::new(run.rt);
+    let ending = keepd(
+        run.alloc,
+        &shelves,
+        &NoOperators,
+        words.as_slice(),
+        reader,
+        &mut writer,
+    );
     match tell(ending, &mut run.rt.stderr()) {
         (0, _) => Ok(()),
         (2, _) => Err(Failure::BadWords),

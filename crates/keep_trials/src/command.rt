@@ -1,6 +1,6 @@
 use crate::readers::{Endless, Slow};
 use crate::writers::Flushed;
-use keep_command::{BadOptions, Ending, NoOperators, keepd};
+use keep_command::{BadOptions, Ending, HostShelves, NoOperators, keepd};
 use keep_ledger::OpenError;
 use keep_script::Status;
 use std::alloc::Global;
@@ -60,7 +60,8 @@ fn failures_give_their_status(rt: HostRuntime) {
         cause: "keepd: cannot read the script",
     };
     let mut writer = unread.writer(alloc);
-    let ending = keepd(&rt, &NoOperators, &[], &mut broken, &mut writer);
+    let shelves = HostShelves::new(&rt);
+    let ending = keepd(alloc, &shelves, &NoOperators, &[], &mut broken, &mut writer);
     unread.expect(&rt, alloc, &ending, &writer);
     let too_long = Failure {
         room: 0,
@@ -69,7 +70,14 @@ fn failures_give_their_status(rt: HostRuntime) {
         cause: "keepd: the script has more than 67,108,863 bytes",
     };
     let mut writer = too_long.writer(alloc);
-    let ending = keepd(&rt, &NoOperators, &[], &mut Endless, &mut writer);
+    let ending = keepd(
+        alloc,
+        &shelves,
+        &NoOperators,
+        &[],
+        &mut Endless,
+        &mut writer,
+    );
     too_long.expect(&rt, alloc, &ending, &writer);
     for (room, flushes, answers) in [(9, 99, ""), (99, 2, ANSWER)] {
         let unwritten = Failure {
@@ -80,7 +88,8 @@ fn failures_give_their_status(rt: HostRuntime) {
         };
         let mut writer = unwritten.writer(alloc);
         let ending = keepd(
-            &rt,
+            alloc,
+            &shelves,
             &NoOperators,
             &[],
             &mut b"count\n".as_slice(),

@@ -5,8 +5,9 @@ use Rattle.keep_hooks.specs.Rules.{rule_of, watch_of}
 use Rattle.keep_hooks.specs.declared.limit.Limit.TheVariants.{SnapshotDropsAtMost}
 use Rattle.keep_command.proofs.StoredLemmas.{are-vetoes, are-watches}
 use Rattle.keep_command.specs.Following.{EndsWith}
-use Rattle.keep_command.specs.Option.{options_view}
+use Rattle.keep_options.specs.Option.{options_view}
 use Rattle.keep_command.specs.Running.{stored_vetoes, stored_watches}
+use Rattle.keep_command.specs.NamedShelf.{shelved_of}
 use Rattle.keep_command.proofs.program.answer_with.Goals as goal
 
 pub returns-clause-ends : goal.returns-clause-ends
@@ -25,7 +26,7 @@ returns-clause-ends g c =
     let filters = map named_rule c.args.filters.items in
     let kit = ap₂ (λ (v : List Rule) (w : List WatchData). record { filters = filters; vetoes = v; watches = w }) vetoes watches in (
       subst
-          (λ (k : KitData). EndsWith k options (g.R.Read.remaining c.args.reader.now) (g.R.Read.remaining c.serve.new.reader)
+          (λ (k : KitData). EndsWith shelved_of (g.H.Shelves.gives c.args.shelves.now) (g.H.Shelves.takes c.args.shelves.now) (g.C.Crew.answers c.args.crew.now) k options (g.R.Read.remaining c.args.reader.now) (g.R.Read.remaining c.serve.new.reader)
           (g.W.Write.contents c.args.writer.now) (g.W.Write.contents c.serve.new.writer) c.serve.result)
           kit c.serve.ensures.ends,
       c.serve.ensures.lines,

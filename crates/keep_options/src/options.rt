@@ -2,9 +2,9 @@ ghost use Rattle.std.specs.Prelude.{◌≡◌, ◌≤◌, IfOk, IsSomeAnd, None,
 ghost use Rattle.std.specs.List.{list_any};
 ghost use Rattle.std.specs.Str.{bytes_eq};
 ghost use Rattle.clap.specs.Words.{app_of, found_of, kind_of, rows_of, with_rule};
-ghost use Rattle.keep_command.specs.Option as options;
-ghost use Rattle.keep_command.specs.Reading.{IsFolderRead, Reads, Says, refusal_of};
-ghost use Rattle.keep_command.specs.declared.options.BadOptions.TheVariants.{Memory, Refused};
+ghost use Rattle.keep_options.specs.Option as options;
+ghost use Rattle.keep_options.specs.Reading.{IsFolderRead, Reads, Says, refusal_of};
+ghost use Rattle.keep_options.specs.declared.options.BadOptions.TheVariants.{Memory, Refused};
 
 use clap::error::ErrorKind;
 use clap::{Arg, ArgMatches, Command};
@@ -84,10 +84,7 @@ pub fn read_options<'a>(alloc: Global, words: &'a [&'a str]) -> Result<Options<'
 
 /// The word behind the longest beginning of the words that is options. There is one, since no words
 /// at all are options.
-pub(crate) fn find_bad_word<'a>(
-    alloc: Global,
-    words: &[&'a str],
-) -> Result<Option<&'a str>, AllocError>
+pub fn find_bad_word<'a>(alloc: Global, words: &[&'a str]) -> Result<Option<&'a str>, AllocError>
     requires { options.options_of (map (λ word. word.now) words.now) ≡ None }
     ensures { IfOk result (λ bad. IsSomeAnd bad (λ word.
         options.IsBadWord (map (λ word. word.now) words.entry.now) word.now)) }

@@ -6,8 +6,8 @@ use Rattle.clap.specs.ValueTests.{is_unsigned_in}
 use Rattle.clap.specs.declared.builder.value_parser.ValueParser.TheVariants as vp
 use Rattle.clap.proofs.ValueTestLemmas.{Accepts-accepts, accepts-Accepts}
 use Rattle.std.specs.Prelude.{ok_or}
-use Rattle.keep_command.specs.Option.{number_in, number_or}
-use Rattle.keep_command.specs.declared.options.BadOptions.TheVariants.{Refused}
+use Rattle.keep_options.specs.Option.{number_in, number_or}
+use Rattle.keep_options.specs.declared.options.BadOptions.TheVariants.{Refused}
 
 value : List ℕ → ℕ
 value text = digits_value 10 (without_leading_plus text)

@@ -5,7 +5,7 @@ use Rattle.std.proofs.lemmas.List.{take-map}
 use Rattle.std.proofs.lemmas.Option.{none-some, slice_get-map}
 use Rattle.std.specs.Option.{option_map}
 use Rattle.clap.specs.Faults.{defaults_fault, walk_fault}
-use Rattle.keep_command.specs.Option.{IsBadWord, OptionsData, options_of}
+use Rattle.keep_options.specs.Option.{IsBadWord, OptionsData, options_of}
 
 -- no beginning of so many words or more is options
 abbrev pub NoneFrom : List (List ℕ) → ℕ → Type 0

@@ -10,7 +10,7 @@ use Rattle.clap.specs.Simple.{on_top}
 use Rattle.clap.specs.Walk.{is_empty}
 use Rattle.keep_docs.specs.Fields.{◌>>=◌}
 use Rattle.keep_snap.specs.Time.{moment_in}
-use Rattle.keep_command.specs.declared.options.Options.{Options}
+use Rattle.keep_options.specs.declared.options.Options.{Options}
 
 -- an option that takes one value: `--NAME VALUE` or `--NAME=VALUE`
 abbrev pub option : List ℕ → Rule

@@ -3,9 +3,9 @@ use Rattle.std.specs.List.{list_any}
 use Rattle.std.specs.Str.{bytes_eq}
 use Rattle.clap.proofs.WalkLemmas.{list_any-map}
 use Rattle.clap.specs.Words.{App, HasKind, app_of, fault_of, found_of, is_simple, is_simple_and_free, kind_of, matches_of, rows_of}
-use Rattle.keep_command.specs.Option as options
-use Rattle.keep_command.proofs.OptionLemmas.{command-free, command-simple, dashes-refused, has_dashes, refused-after, refused-reads, taken, taken-reads}
-use Rattle.keep_command.proofs.options.read_options.Goals as goal
+use Rattle.keep_options.specs.Option as options
+use Rattle.keep_options.proofs.OptionLemmas.{command-free, command-simple, dashes-refused, has_dashes, refused-after, refused-reads, taken, taken-reads}
+use Rattle.keep_options.proofs.options.read_options.Goals as goal
 
 dashes_among : (words : List (Bor (List ℕ))) → list_any (λ word. bytes_eq word.now (codes "--")) words ≡ has_dashes (map (λ word. word.now) words)
 dashes_among words = list_any-map (λ word. bytes_eq word (codes "--")) (λ (word : Bor (List ℕ)). word.now) words

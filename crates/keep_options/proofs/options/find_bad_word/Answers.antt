@@ -1,10 +1,10 @@
 use Rattle.std.proofs.Common.{◌-◌, ◌∙◌, ℕ, List, Bor, Err, ap, arith, subst, take}
 use Rattle.std.proofs.lemmas.List.{length-map, take_all}
 use Rattle.std.proofs.lemmas.Option.{slice_get-get_or}
-use Rattle.keep_command.specs.Option.{options_of, options_view}
-use Rattle.keep_command.specs.Reading.{Reads}
-use Rattle.keep_command.proofs.BadWordLemmas.{texts, bad-word, none-one-fewer, some-beginning}
-use Rattle.keep_command.proofs.options.find_bad_word.Goals as goal
+use Rattle.keep_options.specs.Option.{options_of, options_view}
+use Rattle.keep_options.specs.Reading.{Reads}
+use Rattle.keep_options.proofs.BadWordLemmas.{texts, bad-word, none-one-fewer, some-beginning}
+use Rattle.keep_options.proofs.options.find_bad_word.Goals as goal
 
 pub loop-count-init : goal.loop-count-init
 loop-count-init c = λ longer all.

@@ -4,10 +4,10 @@ use Rattle.std.specs.Borrow.{Bor}
 use Rattle.std.specs.Option.{option_map}
 use Rattle.clap.specs.declared.error.kind.ErrorKind.{ErrorKind}
 use Rattle.clap.specs.declared.error.kind.ErrorKind.TheVariants.{OutOfMemory}
-use Rattle.keep_command.specs.Option.{OptionsData, options_of, options_view}
-use Rattle.keep_command.specs.declared.options.Options.{Options}
-use Rattle.keep_command.specs.declared.options.BadOptions.{BadOptions}
-use Rattle.keep_command.specs.declared.options.BadOptions.TheVariants.{Memory, Refused}
+use Rattle.keep_options.specs.Option.{OptionsData, options_of, options_view}
+use Rattle.keep_options.specs.declared.options.Options.{Options}
+use Rattle.keep_options.specs.declared.options.BadOptions.{BadOptions}
+use Rattle.keep_options.specs.declared.options.BadOptions.TheVariants.{Memory, Refused}
 
 -- the error that clap's kind of error comes to
 abbrev pub refusal_of : ErrorKind → BadOptions

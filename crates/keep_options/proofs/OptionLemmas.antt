@@ -9,11 +9,11 @@ use Rattle.clap.specs.Words.{IsAmong, Kinds, fault_of, is_simple, is_simple_and_
 use Rattle.clap.specs.Walk.{is_empty}
 use Rattle.clap.specs.declared.error.kind.ErrorKind.{ErrorKind}
 use Rattle.clap.specs.declared.error.kind.ErrorKind.TheVariants.{OutOfMemory}
-use Rattle.keep_command.specs.Option.{OptionsData, command, options_in, options_of}
-use Rattle.keep_command.specs.Reading.{Reads, Says, refusal_of}
-use Rattle.keep_command.specs.declared.options.Options.{Options}
-use Rattle.keep_command.specs.declared.options.BadOptions.{BadOptions}
-use Rattle.keep_command.specs.declared.options.BadOptions.TheVariants.{Memory, Refused}
+use Rattle.keep_options.specs.Option.{OptionsData, command, options_in, options_of}
+use Rattle.keep_options.specs.Reading.{Reads, Says, refusal_of}
+use Rattle.keep_options.specs.declared.options.Options.{Options}
+use Rattle.keep_options.specs.declared.options.BadOptions.{BadOptions}
+use Rattle.keep_options.specs.declared.options.BadOptions.TheVariants.{Memory, Refused}
 
 -- `--` is among the words
 abbrev pub has_dashes : List (List ℕ) → Bool

@@ -1,6 +1,6 @@
 use Rattle.std.proofs.Common.{rules, ◌<◌, ◌^◌, refl, arith}
-use Rattle.keep_command.proofs.NumberLemmas.{number-in, number-unread}
-use Rattle.keep_command.proofs.options.Numbers.read.Goals as goal
+use Rattle.keep_options.proofs.NumberLemmas.{number-in, number-unread}
+use Rattle.keep_options.proofs.options.Numbers.read.Goals as goal
 
 pub returns-in_default-parse : goal.returns-in_default-parse
 returns-in_default-parse c =

@@ -3,12 +3,12 @@ use Rattle.std.specs.Option.{option_map}
 use Rattle.std.specs.Prelude.{ok_or, option_and_then, unwrap_or}
 use Rattle.clap.proofs.WalkLemmas.{first_value-rows}
 use Rattle.clap.specs.Words.{Row, first_of, found_of, rows_of}
-use Rattle.keep_command.specs.Option.{OptionsData, folder_in, moment_or_first, number_or}
-use Rattle.keep_command.specs.declared.options.BadOptions.{BadOptions}
-use Rattle.keep_command.specs.declared.options.BadOptions.TheVariants.{Refused}
-use Rattle.keep_command.proofs.NumberLemmas.{number-range}
-use Rattle.keep_command.proofs.OptionLemmas.{ends-there, goes-on}
-use Rattle.keep_command.proofs.options.options_in.Goals as goal
+use Rattle.keep_options.specs.Option.{OptionsData, folder_in, moment_or_first, number_or}
+use Rattle.keep_options.specs.declared.options.BadOptions.{BadOptions}
+use Rattle.keep_options.specs.declared.options.BadOptions.TheVariants.{Refused}
+use Rattle.keep_options.proofs.NumberLemmas.{number-range}
+use Rattle.keep_options.proofs.OptionLemmas.{ends-there, goes-on}
+use Rattle.keep_options.proofs.options.options_in.Goals as goal
 
 abbrev with_crew : List Row → ℕ → ℤ → ℕ → Option (List ℕ) → ℕ → Option OptionsData
 with_crew rows cut now drops folder crew = Some (record {

@@ -1,0 +1,3 @@
+mod BadWordLemmas
+mod NumberLemmas
+mod OptionLemmas
