@@ -1,2 +1,1 @@
 keep snapshots
-keep diff @1 @2 | grep plan
