@@ -93,4 +93,11 @@ impl Shelf for NamedShelf<'_> {
             NamedShelf::Folder(shelf) => shelf.list(),
         }
     }
+
+    fn is_told(&self) -> bool {
+        match self {
+            NamedShelf::Memory(shelf) => shelf.is_told(),
+            NamedShelf::Folder(shelf) => shelf.is_told(),
+        }
+    }
 }

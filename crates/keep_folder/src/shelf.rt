@@ -89,14 +89,6 @@ impl<T: FileTree> FolderShelf<T> {
         }
     }
 
-    /// Whether it is known of each call whether it was done. Where it isn't, what stands in the folder can't be told
-    /// before it is opened again.
-    pub fn is_told(&self) -> bool
-        ensures { result ≡ self.now.is_told }
-    {
-        self.is_told
-    }
-
     fn try_read(&mut self, key: Key) -> Result<Option<Bytes>, Fault>
         ensures found { IfOk result (λ found. found ≡ map.get self.old.shelved.content key) }
         ensures ok { OnOk result (self.new.shelved ≡ called self.old.shelved self.old.shelved.content) }
@@ -282,6 +274,12 @@ impl<T: FileTree> Shelf for FolderShelf<T> {
             Ok(keys) => Ok(keys),
             Err(Fault) => Err(self.fail()),
         }
+    }
+
+    fn is_told(&self) -> bool
+        ensures told { result ≡ self.now.is_told }
+    {
+        self.is_told
     }
 }
 

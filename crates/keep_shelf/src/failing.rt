@@ -167,4 +167,8 @@ impl<S: Shelf> Shelf for FailingShelf<S> {
             Err(Fault) => Err(self.fail()),
         }
     }
+
+    fn is_told(&self) -> bool {
+        self.inner.is_told()
+    }
 }

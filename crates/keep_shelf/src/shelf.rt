@@ -64,4 +64,10 @@ pub trait Shelf: Drop {
         ensures ok { OnOk result
             (shelved self.new ≡ called (shelved self.old) (shelved self.old).content) }
         ensures err { OnErr result (shelved self.new ≡ failed (shelved self.old)) };
+
+    /// Whether it is known of each call that failed that it wasn't done. Where it isn't, as behind a network that was
+    /// cut, what stands there isn't known before the shelf is opened anew.
+    fn is_told(&self) -> bool {
+        true
+    }
 }

@@ -77,4 +77,8 @@ impl<S: Shelf> Shelf for Logged<S> {
         self.note(Act::List, keys.is_err());
         keys
     }
+
+    fn is_told(&self) -> bool {
+        self.inner.is_told()
+    }
 }

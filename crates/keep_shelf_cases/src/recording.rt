@@ -200,4 +200,8 @@ impl<S: Shelf> Shelf for RecordingShelf<S> {
             Err(Fault) => Err(self.fail()),
         }
     }
+
+    fn is_told(&self) -> bool {
+        self.inner.is_told()
+    }
 }
