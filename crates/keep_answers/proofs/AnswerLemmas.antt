@@ -29,7 +29,7 @@ use Rattle.keep_answers.specs.State.{State, session_after, state_of}
 use Rattle.keep_answers.specs.Text.{commit_text, outcome_answer, reply_answer, unplanned_answer}
 use Rattle.keep_answers.specs.declared.session.Session.{Session}
 use Rattle.keep_answers.specs.declared.halt.Halt.{Halt}
-use Rattle.keep_answers.specs.declared.halt.Halt.TheVariants.{BadLine, WriteFailed, NoMemory}
+use Rattle.keep_answers.specs.declared.halt.Halt.TheVariants.{BadLine, WriteFailed, NoMemory, Untold}
 
 -- nothing is written, and nothing changes
 pub Shows-nothing : (state : State) → Shows state [] [] state
@@ -42,6 +42,12 @@ AnswersMeant-puts a b state after meant text (Ok u) h answer = (text, h, answer)
 AnswersMeant-puts a b state after meant text (Err (BadLine why)) h answer = absurd h
 AnswersMeant-puts a b state after meant text (Err WriteFailed) h answer = (h.part, h.appended, inr (h.rest, subst (λ t. AnswersTo state meant t after) h.split answer))
 AnswersMeant-puts a b state after meant text (Err NoMemory) h answer = (h.part, h.appended, inr (h.rest, subst (λ t. AnswersTo state meant t after) h.split answer))
+AnswersMeant-puts a b state after meant text (Err Untold) h answer = absurd h
+
+-- the answer is held back
+pub AnswersMeant-untold : (a : Option (List ℕ)) (state after : State) (meant : MeantData) (text : List ℕ) (r : Result (Unit {0}) Halt)
+    → r ≡ Err Untold → after.faulted ≡ true → AnswersTo state meant text after → Writes a a (λ t. AnswersMeant state meant t r after)
+AnswersMeant-untold a state after meant text r same faulted answer = rw same ([], Appends-nil a, (refl, faulted, (text, answer)))
 
 -- nothing was done, for want of memory
 pub AnswersMeant-none : (a : Option (List ℕ)) (state : State) (meant : MeantData) (r : Result (Unit {0}) Halt) → r ≡ Err NoMemory → Writes a a (λ t. AnswersMeant state meant t r state)
@@ -54,6 +60,7 @@ AnswersDue-meant a b state after due meant (Ok u) is (t, h, answer) = (t, h, (me
 AnswersDue-meant a b state after due meant (Err (BadLine why)) is (t, h, answer) = absurd answer
 AnswersDue-meant a b state after due meant (Err WriteFailed) is (t, h, answer) = (t, h, (meant, is, answer))
 AnswersDue-meant a b state after due meant (Err NoMemory) is (t, h, answer) = (t, h, (meant, is, answer))
+AnswersDue-meant a b state after due meant (Err Untold) is (t, h, answer) = (t, h, (meant, is, answer))
 
 -- or the line is bad
 pub AnswersDue-bad : (a : Option (List ℕ)) (state : State) (due : Result MeantData Mistake) (why : Mistake) → due ≡ Err why → Writes a a (λ t. AnswersDue state due t (Err (BadLine why)) state)
@@ -68,6 +75,8 @@ AnswersLine-command a b state after line command (Err WriteFailed) whole asks (t
     (t, h, elim answer [ inl none ↦ inl none | inr begun ↦ inr (begun.0, Done whole command asks meant due begun.1) ])
 AnswersLine-command a b state after line command (Err NoMemory) whole asks (t, h, (meant, due, answer)) =
     (t, h, elim answer [ inl none ↦ inl none | inr begun ↦ inr (begun.0, Done whole command asks meant due begun.1) ])
+AnswersLine-command a b state after line command (Err Untold) whole asks (t, h, (meant, due, (none, faulted, (answer, answers)))) =
+    (t, h, (none, faulted, (answer, Done whole command asks meant due answers)))
 
 -- ---- what a reading of a line tells
 
@@ -145,15 +154,14 @@ left_alone : {S I F g J E h : _} (kit : KitData) (session session' : Session) (b
 left_alone kit session session' book book' same kept = rw (kept, same.ledger, same.hooks) refl
 
 -- the answer to a job
-pub Job-answer : {S I F g J E h : _} (a b : Option (List ℕ)) (kit : KitData) (session session' : Session) (book book' : Book S I F g J E h) (asked : JobData)
-    (outcome : Result (Result Told Refusal × Sizes) PlanError) (r : Result (Unit {0}) Halt)
+pub Job-answered : {S I F g J E h : _} (kit : KitData) (session session' : Session) (book book' : Book S I F g J E h) (asked : JobData)
+    (outcome : Result (Result Told Refusal × Sizes) PlanError)
     → IfOk outcome (λ made. (change : Change) × (job_change (shown_by (ledger_of book)) (settings_view session.settings) asked ≡ Ok change) × Responds book (commit_of (ledger_of book) change) made.0 book' × (session' ≡ session_after session made.0) × (made.1 ≡ sizes_of change))
     → IfErr outcome (λ refusal. refusal ≢ plan_error.Memory → job_change (shown_by (ledger_of book)) (settings_view session.settings) asked ≡ Err refusal)
-    → (has_bad_edit asked ≡ true → outcome ≡ Err plan_error.BadEdit) → IfErr outcome (λ refusal. IsUnchanged book book' × (session' ≡ session)) → Puts a b (outcome_answer outcome) r
-    → Writes a b (λ t. AnswersMeant (state_of kit session book) (Job asked) t r (state_of kit session' book'))
-Job-answer a b kit session session' book book' asked (Ok made) r h refused bad same puts =
-    AnswersMeant-puts a b _ _ (Job asked) _ r puts (Job-made kit session session' book book' asked made h.0 h.1 h.2 h.3 h.4)
-Job-answer a b kit session session' book book' asked (Err refusal) r made due bad same puts =
-    AnswersMeant-puts a b _ _ (Job asked) _ r puts (Job-refused (state_of kit session book) (state_of kit session' book') asked refusal due
+    → (has_bad_edit asked ≡ true → outcome ≡ Err plan_error.BadEdit) → IfErr outcome (λ refusal. IsUnchanged book book' × (session' ≡ session))
+    → AnswersTo (state_of kit session book) (Job asked) (outcome_answer outcome) (state_of kit session' book')
+Job-answered kit session session' book book' asked (Ok made) h refused bad same = Job-made kit session session' book book' asked made h.0 h.1 h.2 h.3 h.4
+Job-answered kit session session' book book' asked (Err refusal) made due bad same =
+    Job-refused (state_of kit session book) (state_of kit session' book') asked refusal due
     (λ is. let refused : ◌≡◌ {A = Result (Result Told Refusal × Sizes) PlanError} (Err refusal) (Err plan_error.BadEdit) = bad is in cc refused)
-    (left_alone kit session session' book book' same.0 same.1))
+    (left_alone kit session session' book book' same.0 same.1)

@@ -7,7 +7,7 @@ use Rattle.std.specs.Io.KnownBytes.{Appends, Keeps}
 use Rattle.keep_answers.specs.Known.{AppendsPart, AreLines, Puts, WritesLines}
 use Rattle.keep_answers.specs.Known.{line}
 use Rattle.keep_answers.specs.declared.halt.Halt.{Halt}
-use Rattle.keep_answers.specs.declared.halt.Halt.TheVariants.{BadLine, WriteFailed, NoMemory}
+use Rattle.keep_answers.specs.declared.halt.Halt.TheVariants.{BadLine, WriteFailed, NoMemory, Untold}
 
 -- nothing of it
 pub AppendsPart-none : (a : Option (List ℕ)) (text : List ℕ) → AppendsPart a a text
@@ -47,6 +47,7 @@ pub Puts-failed : (a b c : Option (List ℕ)) (all done next rest : List ℕ) (s
 Puts-failed a b c all done next rest (BadLine why) r e h k same = absurd k
 Puts-failed a b c all done next rest WriteFailed r e h k same = rw same (AppendsPart-more a b c all done next rest e h k)
 Puts-failed a b c all done next rest NoMemory r e h k same = rw same (AppendsPart-more a b c all done next rest e h k)
+Puts-failed a b c all done next rest Untold r e h k same = absurd k
 
 -- it did as the last part of the text did
 pub Puts-last : (a b c : Option (List ℕ)) (all done next : List ℕ) (r : Result (Unit {0}) Halt) → all ≡ done ++ next → Appends a b done → Puts b c next r → Puts a c all r

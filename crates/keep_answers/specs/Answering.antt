@@ -1,11 +1,16 @@
 -- What is written for a line, by whether and why it isn't answered to its end.
-use Rattle.std.specs.Prelude.{◌≡◌, ℕ, ◌⊎◌, List, [], ◌++◌, Result, Ok, Err}
+use Rattle.std.specs.Prelude.{◌≡◌, ℕ, true, ◌⊎◌, List, [], ◌++◌, Result, Ok, Err}
 use Rattle.keep_lines.specs.declared.mistake.Mistake.{Mistake}
 use Rattle.keep_answers.specs.Answer.{Answered, AnswersTo, IsBad, Shows}
 use Rattle.keep_answers.specs.Meaning.{MeantData}
 use Rattle.keep_answers.specs.State.{State}
 use Rattle.keep_answers.specs.declared.halt.Halt.{Halt}
-use Rattle.keep_answers.specs.declared.halt.Halt.TheVariants.{BadLine, WriteFailed, NoMemory}
+use Rattle.keep_answers.specs.declared.halt.Halt.TheVariants.{BadLine, WriteFailed, NoMemory, Untold}
+
+-- there is an answer, and none of it is written: it tells that a call of the shelf failed, of which it isn't known whether
+-- it was done
+abbrev pub KeepsBack : (List ℕ → State → Type 0) → List ℕ → State → Type 0
+KeepsBack IsAnswer text after = (text ≡ []) × (after.faulted ≡ true) × ((answer : List ℕ) × IsAnswer answer after)
 
 -- nothing was done for what a command means, or the text is a first part of its answer
 abbrev pub BeginsMeant : State → MeantData → List ℕ → State → Type 0
@@ -18,6 +23,7 @@ AnswersMeant state meant text (Ok _) after = AnswersTo state meant text after
 AnswersMeant state meant text (Err (BadLine why)) after = ⊥
 AnswersMeant state meant text (Err WriteFailed) after = BeginsMeant state meant text after
 AnswersMeant state meant text (Err NoMemory) after = BeginsMeant state meant text after
+AnswersMeant state meant text (Err Untold) after = KeepsBack (AnswersTo state meant) text after
 
 -- the same by what is due to be meant: the line is bad, or this is written for what is meant
 abbrev pub AnswersDue : State → Result MeantData Mistake → List ℕ → Result (Unit {0}) Halt → State → Type 0
@@ -36,3 +42,4 @@ AnswersLine state line text (Ok _) after = Answered state line text after
 AnswersLine state line text (Err (BadLine why)) after = IsBad state line why × Shows state [] text after
 AnswersLine state line text (Err WriteFailed) after = BeginsAnswer state line text after
 AnswersLine state line text (Err NoMemory) after = BeginsAnswer state line text after
+AnswersLine state line text (Err Untold) after = KeepsBack (Answered state line) text after

@@ -2,7 +2,7 @@
 use Rattle.std.specs.Prelude.{◌≡◌, ◌⊎◌, ℕ, List, [], ◌++◌, codes, Option, Result, Ok, Err}
 use Rattle.std.specs.Io.KnownBytes.{Appends}
 use Rattle.keep_answers.specs.declared.halt.Halt.{Halt}
-use Rattle.keep_answers.specs.declared.halt.Halt.TheVariants.{BadLine, WriteFailed, NoMemory}
+use Rattle.keep_answers.specs.declared.halt.Halt.TheVariants.{BadLine, WriteFailed, NoMemory, Untold}
 
 -- a text with a line end
 abbrev pub line : List ℕ → List ℕ
@@ -21,6 +21,7 @@ Puts old new text (Ok _) = Appends old new text
 Puts old new text (Err (BadLine why)) = ⊥
 Puts old new text (Err WriteFailed) = AppendsPart old new text
 Puts old new text (Err NoMemory) = AppendsPart old new text
+Puts old new text (Err Untold) = ⊥
 
 -- known bytes grow by a text of which this holds
 abbrev pub Writes : Option (List ℕ) → Option (List ℕ) → (List ℕ → Type 0) → Type 0

@@ -105,6 +105,7 @@ impl Session {
         match resolve(alloc, kit, line) {
             Ok(job) => {
                 let outcome = self.perform(&job, book);
+                self.require_told(book)?;
                 write_outcome(alloc, outcome, writer)
             }
             Err(LineError::Bad(why)) => Err(Halt::BadLine(why)),
@@ -128,7 +129,9 @@ impl Session {
         ensures sums { HasSums book.new }
     {
         let change = added(self.alloc, kind, bytes)?;
-        write_committed(self.alloc, self.commit_now(book, change), writer)
+        let outcome = self.commit_now(book, change);
+        self.require_told(book)?;
+        write_committed(self.alloc, outcome, writer)
     }
 
     /// Drops a file by itself.
@@ -146,7 +149,9 @@ impl Session {
         ensures sums { HasSums book.new }
     {
         let change = dropped(self.alloc, book.ledger().live(), name)?;
-        write_committed(self.alloc, self.commit_now(book, change), writer)
+        let outcome = self.commit_now(book, change);
+        self.require_told(book)?;
+        write_committed(self.alloc, outcome, writer)
     }
 
     /// Asks the book about an earlier change.
@@ -163,7 +168,9 @@ impl Session {
         ensures whole { result ≢ Err Halt.WriteFailed → WritesLines (W.contents writer.old) (W.contents writer.new) }
         ensures sums { HasSums book.new }
     {
-        write_reply(self.alloc, self.ask(book, revision.request()), writer)
+        let reply = self.ask(book, revision.request());
+        self.require_told(book)?;
+        write_reply(self.alloc, reply, writer)
     }
 
     /// Takes the change back with all that leans on it.
@@ -180,7 +187,9 @@ impl Session {
         ensures whole { result ≢ Err Halt.WriteFailed → WritesLines (W.contents writer.old) (W.contents writer.new) }
         ensures sums { HasSums book.new }
     {
-        write_taken(self.alloc, self.take_back(book, number), writer)
+        let taken = self.take_back(book, number);
+        self.require_told(book)?;
+        write_taken(self.alloc, taken, writer)
     }
 
     /// Tells what is asked for.

@@ -7,8 +7,10 @@ ghost use Rattle.keep_journal.specs.declared.request.Request.TheVariants as requ
 ghost use Rattle.keep_lines.specs.Reply.{sizes_of};
 ghost use Rattle.keep_plan.specs.declared.plan_error.PlanError.TheVariants as plan_error;
 ghost use Rattle.keep_answers.specs.Answer.{commit_of, shown_by};
+ghost use Rattle.keep_answers.specs.declared.halt.Halt.TheVariants.{Untold};
 ghost use Rattle.keep_answers.specs.State.{session_after, session_stopped};
 
+use crate::halt::Halt;
 use crate::reply::{Outcome, is_fault, is_stopped_by_fault};
 use crate::session::Session;
 use keep_book::{Book, TakenBack};
@@ -90,5 +92,15 @@ impl Session {
         let taken = book.undo_with(number);
         self.faulted = self.faulted || is_stopped_by_fault(&taken.stopped);
         taken
+    }
+
+    /// Holds an answer back where a call of the shelf failed, and it isn't known whether it was done.
+    pub fn require_told<S: Shelf>(&self, book: &Book<S>) -> Result<(), Halt>
+        ensures { IfErr result (λ halt. (halt ≡ Untold) × (self.now.faulted ≡ true)) }
+    {
+        if self.faulted && !book.ledger().shelf().is_told() {
+            return Err(Halt::Untold);
+        }
+        Ok(())
     }
 }

@@ -12,6 +12,9 @@ pub enum Halt {
     WriteFailed,
     /// Memory ran out, for the line, a note or the answer.
     NoMemory,
+    /// A call of the shelf failed, and it isn't known whether it was done, so the answer isn't known either. None of it
+    /// is written.
+    Untold,
 }
 
 impl From<LineError> for Halt {

@@ -10,7 +10,7 @@ use Rattle.keep_opening.specs.declared.open_error.OpenError.{OpenError}
 use Rattle.keep_opening.specs.declared.open_error.OpenError.TheVariants as unread
 use Rattle.keep_opening.specs.declared.open_error.OpenError.TheVariants.{BadEntry}
 use Rattle.keep_lines.specs.Mistake.{mistake_text}
-use Rattle.keep_script.specs.declared.status.Status.TheVariants.{Done, Faulted, BadLine, ReadFailed, ScriptTooLong, WriteFailed, NoMemory, NotOpened}
+use Rattle.keep_script.specs.declared.status.Status.TheVariants.{Done, Faulted, BadLine, ReadFailed, ScriptTooLong, WriteFailed, NoMemory, Untold, NotOpened}
 use Rattle.keep_options.specs.Option.{IsBadWord}
 use Rattle.keep_operators.specs.declared.order.NoCrew.{NoCrew}
 use Rattle.keep_operators.specs.declared.order.NoCrew.TheVariants as uncrewed
@@ -29,6 +29,7 @@ code_of (ending.Ran ReadFailed) = 1
 code_of (ending.Ran ScriptTooLong) = 1
 code_of (ending.Ran WriteFailed) = 1
 code_of (ending.Ran NoMemory) = 1
+code_of (ending.Ran Untold) = 1
 code_of (ending.Ran (NotOpened error)) = 1
 code_of (ending.BadOptions word) = 2
 code_of (ending.NoFolder error) = 1
@@ -79,6 +80,7 @@ ending_text (ending.Ran ReadFailed) = codes "keepd: cannot read the script"
 ending_text (ending.Ran ScriptTooLong) = codes "keepd: the script has more than 67,108,863 bytes"
 ending_text (ending.Ran WriteFailed) = codes "keepd: cannot write the answers"
 ending_text (ending.Ran NoMemory) = codes "keepd: no memory"
+ending_text (ending.Ran Untold) = codes "keepd: the shelf can't be told"
 ending_text (ending.Ran (NotOpened error)) =
     codes "keepd: cannot open: " ++ (open_error_text error ++ (codes "; " ++ advice_on error))
 ending_text (ending.BadOptions None) = codes "keepd: bad options; " ++ usage

@@ -61,7 +61,7 @@ impl Ending<'_> {
             Ending::Ran(Status::Done) => 0,
             Ending::Ran(Status::ReadFailed | Status::ScriptTooLong) => 1,
             Ending::Ran(Status::WriteFailed | Status::NoMemory) => 1,
-            Ending::Ran(Status::Faulted | Status::NotOpened(_)) => 1,
+            Ending::Ran(Status::Faulted | Status::Untold | Status::NotOpened(_)) => 1,
             Ending::NoFolder(_) | Ending::Damaged(_, _) | Ending::NoCrew(_) => 1,
             Ending::Ran(Status::BadLine(_, _)) | Ending::BadOptions(_) => 2,
         }
@@ -143,6 +143,7 @@ impl fmt::Display for Ending<'_> {
             }
             Ending::Ran(Status::WriteFailed) => f.write_str("keepd: cannot write the answers"),
             Ending::Ran(Status::NoMemory) => f.write_str("keepd: no memory"),
+            Ending::Ran(Status::Untold) => f.write_str("keepd: the shelf can't be told"),
             Ending::Ran(Status::NotOpened(error)) => {
                 write!(f, "keepd: cannot open: {error}; {}", advice_on(error))
             }

@@ -11,7 +11,7 @@ use Rattle.keep_script.specs.Status.{ReachesEnd, status_at_end}
 use Rattle.keep_script.specs.declared.status.Status.{Status}
 use Rattle.keep_script.specs.declared.status.Status.TheVariants as ended_as
 use Rattle.keep_script.specs.declared.status.Stop.{Stop}
-use Rattle.keep_script.specs.declared.status.Stop.TheVariants.{BadLine, ReadFailed, ScriptTooLong, WriteFailed, NoMemory}
+use Rattle.keep_script.specs.declared.status.Stop.TheVariants.{BadLine, ReadFailed, ScriptTooLong, WriteFailed, NoMemory, Untold}
 
 -- bytes that were taken are counted
 Counted-taken : (a b : Option (List ℕ)) (before after : ℕ) (bytes : List ℕ) → Consumes a b bytes → after + length bytes ≡ before → Counted a before b after
@@ -61,6 +61,7 @@ StopsAt-long a b number ReadFailed h = cc h.0
 StopsAt-long a b number ScriptTooLong h = refl
 StopsAt-long a b number WriteFailed h = cc h.0
 StopsAt-long a b number NoMemory h = cc h.0
+StopsAt-long a b number Untold h = cc h.0
 
 -- a failed write ends it as one
 pub StopsAt-write : (a b : Option (List ℕ)) (number : ℕ) (stop : Stop) (status : Status) → StopsAt a b number stop status → stop ≡ WriteFailed → status ≡ ended_as.WriteFailed
@@ -69,6 +70,7 @@ StopsAt-write a b number ReadFailed status h e = cc e
 StopsAt-write a b number ScriptTooLong status h e = cc e
 StopsAt-write a b number WriteFailed status h e = h.0
 StopsAt-write a b number NoMemory status h e = cc e
+StopsAt-write a b number Untold status h e = cc e
 
 -- a run that stops doesn't reach the script's end
 pub StopsAt-end : (a b : Option (List ℕ)) (number : ℕ) (stop : Stop) (status : Status) → StopsAt a b number stop status → ReachesEnd status → ⊥
@@ -78,6 +80,7 @@ StopsAt-end a b number ReadFailed status h end = elim end [ inl done ↦ cc (sym
 StopsAt-end a b number ScriptTooLong status h end = elim end [ inl done ↦ cc (sym done ∙ h.0) | inr faulted ↦ cc (sym faulted ∙ h.0) ]
 StopsAt-end a b number WriteFailed status h end = elim end [ inl done ↦ cc (sym done ∙ h.0) | inr faulted ↦ cc (sym faulted ∙ h.0) ]
 StopsAt-end a b number NoMemory status h end = elim end [ inl done ↦ cc (sym done ∙ h.0) | inr faulted ↦ cc (sym faulted ∙ h.0) ]
+StopsAt-end a b number Untold status h end = elim end [ inl done ↦ cc (sym done ∙ h.0) | inr faulted ↦ cc (sym faulted ∙ h.0) ]
 
 -- nor is one that does for another cause
 pub at_end-long : (faulted : Bool) → status_at_end faulted ≡ ended_as.ScriptTooLong → ⊥

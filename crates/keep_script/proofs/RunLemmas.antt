@@ -19,7 +19,7 @@ use Rattle.keep_lines.specs.declared.mistake.Mistake.{Mistake}
 use Rattle.keep_script.specs.declared.status.Status.{Status}
 use Rattle.keep_script.specs.declared.status.Status.TheVariants as ended_as
 use Rattle.keep_script.specs.declared.status.Stop.{Stop}
-use Rattle.keep_script.specs.declared.status.Stop.TheVariants.{BadLine, ReadFailed, ScriptTooLong, WriteFailed, NoMemory}
+use Rattle.keep_script.specs.declared.status.Stop.TheVariants.{BadLine, ReadFailed, ScriptTooLong, WriteFailed, NoMemory, Untold}
 
 -- some lines were read and answered: whatever the next ones are, the answers to those come after it
 pub record Progress (known left old new : Option (List ℕ)) (begun now : State) (number : ℕ) : Type 0 where
@@ -212,6 +212,7 @@ Ends-bad known left left' old new newer newest begun now after number why t (end
     (so_far.text ++ bad_line_answer number, Appends-trans old newer newest so_far.text (bad_line_answer number) written wrote, rw (same, cause) whole)
 Ends-bad known left left' old new newer newest begun now after number why t ended_as.ReadFailed so_far h shown appended wrote = absurd wrote
 Ends-bad known left left' old new newer newest begun now after number why t ended_as.ScriptTooLong so_far h shown appended wrote = absurd wrote
+Ends-bad known left left' old new newer newest begun now after number why t ended_as.Untold so_far h shown appended wrote = absurd wrote
 Ends-bad known left left' old new newer newest begun now after number why t ended_as.WriteFailed so_far h shown appended wrote =
     let written = Appends-nothing old new newer so_far.text t so_far.written appended shown.text in
     let whole = bad-known known left old new begun now after number why so_far h shown.same in
@@ -255,7 +256,14 @@ Ends-broken known left begun after text ended_as.ReadFailed h = broken-read know
 Ends-broken known left begun after text ended_as.ScriptTooLong h = broken-read known left begun after text h
 Ends-broken known left begun after text ended_as.WriteFailed h = h
 Ends-broken known left begun after text ended_as.NoMemory h = h
+Ends-broken known left begun after text ended_as.Untold h = h.0
 Ends-broken known left begun after text (ended_as.NotOpened error) h = absurd h
+
+-- an answer that is held back breaks off before its first byte
+held_back : (left : Option (List ℕ)) (now after : State) (t : List ℕ) → t ≡ [] → BeginsWith left (λ line. (answer : List ℕ) × Answered now line answer after)
+    → BeginsWith left (λ line. BeginsAnswer now line t after)
+held_back None now after t none h = tt
+held_back (Some bytes) now after t none (line, more, first, (answer, answered)) = rw none (line, more, first, inr (answer, answered))
 
 -- a line's failure ends the run
 pub Ends-stop : (known left ahead left' old new newer newest : Option (List ℕ)) (begun now after : State) (number : ℕ) (stop : Stop) (status : Status) → Progress known left old new begun now number
@@ -270,6 +278,9 @@ Ends-stop known left ahead left' old new newer newest begun now after number Wri
     rw same (Breaks known left old new newest begun now after number t so_far h (Appends-kept new newer newest t appended kept))
 Ends-stop known left ahead left' old new newer newest begun now after number NoMemory status so_far (t, appended, h) (same, kept) =
     rw same (Breaks known left old new newest begun now after number t so_far h (Appends-kept new newer newest t appended kept))
+Ends-stop known left ahead left' old new newer newest begun now after number Untold status so_far (t, appended, (none, faulted, h)) (same, kept) =
+    let broken = Breaks known left old new newest begun now after number t so_far (inr (held_back left now after t none h)) (Appends-kept new newer newest t appended kept) in
+    rw same (broken.0, broken.1, (broken.2, faulted))
 
 -- at the end what the writer keeps back is handed on, or that fails
 pub Ends-finished : (known left old new newer : Option (List ℕ)) (begun after : State) (status result : Status) → Writes old new (λ t. Ends begun known left t status after) → Keeps new newer

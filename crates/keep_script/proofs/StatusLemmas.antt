@@ -6,7 +6,7 @@ use Rattle.keep_script.specs.Run.{StopsAt}
 use Rattle.keep_script.specs.Status.{status_at}
 use Rattle.keep_script.specs.declared.status.Status.{Status}
 use Rattle.keep_script.specs.declared.status.Stop.{Stop}
-use Rattle.keep_script.specs.declared.status.Stop.TheVariants.{BadLine, ReadFailed, ScriptTooLong, WriteFailed, NoMemory}
+use Rattle.keep_script.specs.declared.status.Stop.TheVariants.{BadLine, ReadFailed, ScriptTooLong, WriteFailed, NoMemory, Untold}
 
 pub StopsAt-other : (a b : Option (List ℕ)) (number : ℕ) (stop : Stop) (status : Status) → ((why : Mistake) → stop ≡ BadLine why → ⊥) → Keeps a b → status ≡ status_at stop number → StopsAt a b number stop status
 StopsAt-other a b number (BadLine why) status other kept same = absurd (other why refl)
@@ -14,3 +14,4 @@ StopsAt-other a b number ReadFailed status other kept same = (same, kept)
 StopsAt-other a b number ScriptTooLong status other kept same = (same, kept)
 StopsAt-other a b number WriteFailed status other kept same = (same, kept)
 StopsAt-other a b number NoMemory status other kept same = (same, kept)
+StopsAt-other a b number Untold status other kept same = (same, kept)

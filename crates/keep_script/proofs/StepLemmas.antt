@@ -19,7 +19,7 @@ use Rattle.keep_answers.specs.declared.halt.Halt.TheVariants as halted
 use Rattle.keep_script.specs.Status.{stop_of}
 use Rattle.keep_script.specs.Step.{AnswersLast, AnswersNext, BeginsWith}
 use Rattle.keep_script.specs.declared.status.Stop.{Stop}
-use Rattle.keep_script.specs.declared.status.Stop.TheVariants.{BadLine, ReadFailed, ScriptTooLong, WriteFailed, NoMemory}
+use Rattle.keep_script.specs.declared.status.Stop.TheVariants.{BadLine, ReadFailed, ScriptTooLong, WriteFailed, NoMemory, Untold}
 
 -- a writer that keeps its bytes got none
 pub Appends-none : (a b : Option (List ℕ)) → Keeps a b → Appends a b []
@@ -44,16 +44,17 @@ IsBad-long state (Some (b ∷ bytes)) long =
 -- the next line can't be read
 pub AnswersNext-unread : (a b : Option (List ℕ)) (state : State) (left ahead left' : Option (List ℕ)) (stop : Stop) (r : Result Bool Stop) → Keeps a b
     → ((why : Mistake) → stop ≡ BadLine why → (why ≡ TooLong) × IfSome left (λ bytes. longest_line < length (before_first is_line_end bytes))) → (EndsReading stop → LosesPiece left left')
-    → r ≡ Err stop → Writes a b (λ t. AnswersNext state left ahead left' t r state)
-AnswersNext-unread a b state left ahead left' (BadLine why) r kept long failed same =
+    → (stop ≡ Untold → ⊥) → r ≡ Err stop → Writes a b (λ t. AnswersNext state left ahead left' t r state)
+AnswersNext-unread a b state left ahead left' (BadLine why) r kept long failed told same =
     let cause = long why refl in
     rw (same, cause.0) ([], Appends-none a b kept, (IsBad-long state left cause.1, Shows-nothing state))
-AnswersNext-unread a b state left ahead left' ReadFailed r kept long failed same =
+AnswersNext-unread a b state left ahead left' ReadFailed r kept long failed told same =
     rw same ([], Appends-none a b kept, (failed (inl refl), Shows-nothing state))
-AnswersNext-unread a b state left ahead left' ScriptTooLong r kept long failed same =
+AnswersNext-unread a b state left ahead left' ScriptTooLong r kept long failed told same =
     rw same ([], Appends-none a b kept, (failed (inr refl), Shows-nothing state))
-AnswersNext-unread a b state left ahead left' WriteFailed r kept long failed same = rw same ([], Appends-none a b kept, inl (Shows-nothing state))
-AnswersNext-unread a b state left ahead left' NoMemory r kept long failed same = rw same ([], Appends-none a b kept, inl (Shows-nothing state))
+AnswersNext-unread a b state left ahead left' WriteFailed r kept long failed told same = rw same ([], Appends-none a b kept, inl (Shows-nothing state))
+AnswersNext-unread a b state left ahead left' NoMemory r kept long failed told same = rw same ([], Appends-none a b kept, inl (Shows-nothing state))
+AnswersNext-unread a b state left ahead left' Untold r kept long failed told same = absurd (told refl)
 
 -- the line was read, and its answer failed
 pub AnswersNext-failed : (a b c : Option (List ℕ)) (state after : State) (line : List ℕ) (left ahead left' : Option (List ℕ)) (halt : Halt) (stop : Stop) (r : Result Bool Stop) → Keeps a b → Starts left line
@@ -64,6 +65,9 @@ AnswersNext-failed a b c state after line left ahead left' halted.WriteFailed st
     rw (same, is) (Writes-after a b c (λ t. AnswersNext state left ahead left' t (Err WriteFailed) after) kept (t, h, inr (BeginsWith-from left line (λ l. BeginsAnswer state l t after) start answer)))
 AnswersNext-failed a b c state after line left ahead left' halted.NoMemory stop r kept start (t, h, answer) is same =
     rw (same, is) (Writes-after a b c (λ t. AnswersNext state left ahead left' t (Err NoMemory) after) kept (t, h, inr (BeginsWith-from left line (λ l. BeginsAnswer state l t after) start answer)))
+AnswersNext-failed a b c state after line left ahead left' halted.Untold stop r kept start (t, h, (none, faulted, answer)) is same =
+    rw (same, is) (Writes-after a b c (λ t. AnswersNext state left ahead left' t (Err Untold) after) kept
+    (t, h, (none, faulted, BeginsWith-from left line (λ l. (told : List ℕ) × Answered state l told after) start answer)))
 
 -- the last line was answered
 pub AnswersLast-some : (state after : State) (line t : List ℕ) → 0 < length line → Answered state line t after → AnswersLast state line t after

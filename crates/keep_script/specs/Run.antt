@@ -1,5 +1,5 @@
 -- What a run over the lines of a script writes, and how it ends.
-use Rattle.std.specs.Prelude.{◌≡◌, ℕ, ◌+◌, ◌⊎◌, List, [], ◌∷◌, ◌++◌, Option, None, IfSome}
+use Rattle.std.specs.Prelude.{◌≡◌, ℕ, ◌+◌, true, ◌⊎◌, List, [], ◌∷◌, ◌++◌, Option, None, IfSome}
 use Rattle.std.specs.Io.KnownBytes.{Appends, Consumes, IsAtEnd, Keeps}
 use Rattle.std.specs.List.{AllByRecursion}
 use Rattle.keep_jobs.specs.Job.{SettingsData}
@@ -18,7 +18,7 @@ use Rattle.keep_answers.specs.Text.{bad_line_answer}
 use Rattle.keep_script.specs.declared.status.Stop.{Stop}
 use Rattle.keep_script.specs.declared.status.Stop.TheVariants as stop
 use Rattle.keep_script.specs.declared.status.Status.{Status}
-use Rattle.keep_script.specs.declared.status.Status.TheVariants.{Done, Faulted, BadLine, ReadFailed, ScriptTooLong, WriteFailed, NoMemory, NotOpened}
+use Rattle.keep_script.specs.declared.status.Status.TheVariants.{Done, Faulted, BadLine, ReadFailed, ScriptTooLong, WriteFailed, NoMemory, Untold, NotOpened}
 
 -- the run ends at a bad line of this number
 pub record Stops (state : State) (number : ℕ) (line written : List ℕ)
@@ -73,6 +73,8 @@ Ends state known left text WriteFailed after =
     IfSome known (λ script. BreaksOff state (lines_of script) text after)
 Ends state known left text NoMemory after =
     IfSome known (λ script. BreaksOff state (lines_of script) text after)
+Ends state known left text Untold after =
+    IfSome known (λ script. BreaksOff state (lines_of script) text after) × (after.faulted ≡ true)
 Ends state known left text (NotOpened error) after = ⊥
 
 -- the same of a run from the ledger that is opened of this shelf, with nothing armed: its shelf has the calls of the
@@ -94,6 +96,7 @@ Refuses old new number why Done = ⊥
 Refuses old new number why Faulted = ⊥
 Refuses old new number why ReadFailed = ⊥
 Refuses old new number why ScriptTooLong = ⊥
+Refuses old new number why Untold = ⊥
 Refuses old new number why (NotOpened error) = ⊥
 
 -- how a run ends that stops at the line of this number, and what is written then
@@ -103,3 +106,4 @@ StopsAt old new number stop.ReadFailed status = (status ≡ ReadFailed) × Keeps
 StopsAt old new number stop.ScriptTooLong status = (status ≡ ScriptTooLong) × Keeps old new
 StopsAt old new number stop.WriteFailed status = (status ≡ WriteFailed) × Keeps old new
 StopsAt old new number stop.NoMemory status = (status ≡ NoMemory) × Keeps old new
+StopsAt old new number stop.Untold status = (status ≡ Untold) × Keeps old new

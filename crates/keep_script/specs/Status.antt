@@ -7,7 +7,7 @@ use Rattle.keep_answers.specs.declared.halt.Halt.TheVariants as halt
 use Rattle.keep_script.specs.declared.status.Status.{Status}
 use Rattle.keep_script.specs.declared.status.Status.TheVariants as ended
 use Rattle.keep_script.specs.declared.status.Stop.{Stop}
-use Rattle.keep_script.specs.declared.status.Stop.TheVariants.{BadLine, ReadFailed, ScriptTooLong, WriteFailed, NoMemory}
+use Rattle.keep_script.specs.declared.status.Stop.TheVariants.{BadLine, ReadFailed, ScriptTooLong, WriteFailed, NoMemory, Untold}
 
 -- the status of a run at the script's end, by whether a fault was answered
 abbrev pub status_at_end : Bool → Status
@@ -29,6 +29,7 @@ abbrev pub stop_of : Halt → Stop
 stop_of (halt.BadLine why) = BadLine why
 stop_of halt.WriteFailed = WriteFailed
 stop_of halt.NoMemory = NoMemory
+stop_of halt.Untold = Untold
 
 -- the status of a run that stops at the line of this number, and why
 abbrev pub status_at : Stop → ℕ → Status
@@ -37,6 +38,7 @@ status_at ReadFailed number = ended.ReadFailed
 status_at ScriptTooLong number = ended.ScriptTooLong
 status_at WriteFailed number = ended.WriteFailed
 status_at NoMemory number = ended.NoMemory
+status_at Untold number = ended.Untold
 
 -- the status of a run that would end so, once the writer was flushed: a flush that fails is a failed write
 abbrev pub status_once_flushed : Status → Result (Unit {0}) Stop → Status

@@ -7,7 +7,7 @@ use Rattle.keep_answers.specs.State.{State}
 use Rattle.keep_script.specs.Input.{LosesPiece}
 use Rattle.keep_script.specs.Line.{HasLineEnd, lines_of}
 use Rattle.keep_script.specs.declared.status.Stop.{Stop}
-use Rattle.keep_script.specs.declared.status.Stop.TheVariants.{BadLine, ReadFailed, ScriptTooLong, WriteFailed, NoMemory}
+use Rattle.keep_script.specs.declared.status.Stop.TheVariants.{BadLine, ReadFailed, ScriptTooLong, WriteFailed, NoMemory, Untold}
 
 -- known bytes begin with this line
 abbrev pub BeginsWith : Option (List ℕ) → (List ℕ → Type 0) → Type 0
@@ -37,3 +37,6 @@ AnswersNext state left ahead left' text (Err WriteFailed) after =
     Shows state [] text after ⊎ BeginsWith left (λ line. BeginsAnswer state line text after)
 AnswersNext state left ahead left' text (Err NoMemory) after =
     Shows state [] text after ⊎ BeginsWith left (λ line. BeginsAnswer state line text after)
+AnswersNext state left ahead left' text (Err Untold) after =
+    (text ≡ []) × (after.faulted ≡ true)
+    × BeginsWith left (λ line. (answer : List ℕ) × Answered state line answer after)

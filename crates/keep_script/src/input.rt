@@ -1,4 +1,4 @@
-ghost use Rattle.std.specs.Prelude.{◌≡◌, ◌↔◌, ◌<◌, ◌≤◌, ◌+◌, ◌-◌, ◌++◌, ◌⊎◌, [], Err, IfErr, IfOk, IfSome, IsTrue, Ok, OnOk, length, vec_len, true, false};
+ghost use Rattle.std.specs.Prelude.{◌≡◌, ◌≢◌, ◌↔◌, ◌<◌, ◌≤◌, ◌+◌, ◌-◌, ◌++◌, ◌⊎◌, [], Err, IfErr, IfOk, IfSome, IsTrue, Ok, OnOk, length, vec_len, true, false};
 ghost use Rattle.std.specs.Io.KnownBytes.{IsAtEnd, Keeps};
 ghost use Rattle.std.specs.List.{after_first, before_first, position, position_or_len};
 ghost use Rattle.keep_lines.specs.Line.{longest_line};
@@ -79,6 +79,7 @@ impl Input {
             (left_of self.old (R.remaining reader.old)) (R.remaining reader.new)) }
         ensures past_limit { result ≡ Err Stop.ScriptTooLong →
             IfSome (left_of self.old (R.remaining reader.old)) (λ bytes. ahead_of self.old ≤ length bytes) }
+        ensures told { result ≢ Err Stop.Untold }
         ensures quiet { Keeps (W.contents writer.old) (W.contents writer.new) }
     {
         let mut line = Vec::new(self.alloc);
@@ -115,6 +116,7 @@ impl Input {
             Keeps (left_of self.old (R.remaining reader.old)) (R.remaining reader.new)) }
         ensures past_limit { result ≡ Err Stop.ScriptTooLong → ahead_of self.old ≡ 0 }
         ensures never_bad { (why : Mistake) → result ≡ Err (Stop.BadLine why) → ⊥ }
+        ensures told { result ≢ Err Stop.Untold }
         ensures quiet { Keeps (W.contents writer.old) (W.contents writer.new) }
     {
         if self.is_used_up() {
@@ -161,6 +163,7 @@ impl Input {
             Keeps (R.remaining reader.old) (R.remaining reader.new)) }
         ensures past_limit { result ≡ Err Stop.ScriptTooLong → ahead_of self.old ≡ 0 }
         ensures never_bad { (why : Mistake) → result ≡ Err (Stop.BadLine why) → ⊥ }
+        ensures told { result ≢ Err Stop.Untold }
     {
         let mut chunk = [0; CHUNK];
         for _ in 0..MAX_READ {

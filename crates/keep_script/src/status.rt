@@ -25,6 +25,9 @@ pub enum Status {
     /// The run itself found no memory: for a line, a note or an answer. Of the answer to `list`,
     /// `history`, `restore` or `audit` the first lines may be written.
     NoMemory,
+    /// A call of the shelf failed, and it isn't known whether it was done, nor so what the line that asked for it
+    /// changed. No answer to that line is written.
+    Untold,
     /// The shelf wasn't opened, for this cause, which isn't want of memory. Nothing was read or written.
     NotOpened(OpenError),
 }
@@ -74,6 +77,7 @@ pub(crate) enum Stop {
     ScriptTooLong,
     WriteFailed,
     NoMemory,
+    Untold,
 }
 
 impl Stop {
@@ -87,6 +91,7 @@ impl Stop {
             Stop::ScriptTooLong => Status::ScriptTooLong,
             Stop::WriteFailed => Status::WriteFailed,
             Stop::NoMemory => Status::NoMemory,
+            Stop::Untold => Status::Untold,
         }
     }
 }
@@ -101,6 +106,7 @@ impl From<Halt> for Stop {
             Halt::BadLine(why) => Stop::BadLine(why),
             Halt::WriteFailed => Stop::WriteFailed,
             Halt::NoMemory => Stop::NoMemory,
+            Halt::Untold => Stop::Untold,
         }
     }
 }

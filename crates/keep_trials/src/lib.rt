@@ -7,6 +7,8 @@ mod arming;
 #[cfg(test)]
 mod command;
 #[cfg(test)]
+mod folders;
+#[cfg(test)]
 mod histories;
 #[cfg(test)]
 mod hooks;

@@ -13,7 +13,7 @@ use Rattle.keep_script.proofs.turns.Turns.answer_next.Goals as goal
 pub returns-in_err-line-clause-answers : goal.returns-in_err-line-clause-answers
 returns-in_err-line-clause-answers g c =
     let passed = err_from_is_err_and c.from_residual.result c.from_residual.ensures.1 in
-    AnswersNext-unread _ _ _ _ _ _ c.in_err-line.field-0.0 _ c.in_err-line.ensures.quiet (λ why e. c.in_err-line.ensures.too_long why (ap Err e)) c.in_err-line.ensures.failed (passed.1 ∙ ap Err passed.2)
+    AnswersNext-unread _ _ _ _ _ _ c.in_err-line.field-0.0 _ c.in_err-line.ensures.quiet (λ why e. c.in_err-line.ensures.too_long why (ap Err e)) c.in_err-line.ensures.failed (λ e. c.in_err-line.ensures.told (ap Err e)) (passed.1 ∙ ap Err passed.2)
 
 pub returns-in_err-answer_line-in-Line-clause-answers : goal.returns-in_err-answer_line-in-Line-clause-answers
 returns-in_err-answer_line-in-Line-clause-answers g c =
