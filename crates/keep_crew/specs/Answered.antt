@@ -1,5 +1,5 @@
 -- What a desk's answer says of what the pass has seen.
-use Rattle.std.specs.Prelude.{◌≡◌, ℕ, Bool, true, List, Option, Some, None, Result, Ok, Err, ◌⊎◌}
+use Rattle.std.specs.Prelude.{◌≡◌, ℕ, Bool, true, List, [], ◌∷◌, ◌++◌, Option, Some, None, Result, Ok, Err, ◌⊎◌}
 use mathlib.Core.List.{IsPrefix}
 use Rattle.keep_journal.specs.declared.event.Event.{Event}
 use Rattle.keep_hooks.specs.Guards.{Rule}
@@ -9,7 +9,7 @@ use Rattle.keep_ledger.specs.declared.reply.Refusal.{Refusal}
 use Rattle.keep_ledger.specs.declared.reply.Refusal.TheVariants.{Memory, Unsettled}
 use Rattle.keep_journal.specs.declared.request.Told.{Told}
 use Rattle.keep_journal.specs.declared.request.Request.{Request}
-use Rattle.keep_pages.specs.Histories.{state_of}
+use Rattle.keep_pages.specs.Histories.{state_of, IsHistory}
 use Rattle.keep_register.specs.Asked.{WasAsked, is_in}
 use Rattle.keep_register.specs.Known.{Known}
 use Rattle.keep_crew.specs.declared.answers.DeskError.{DeskError}
@@ -35,6 +35,13 @@ Tells rules opening request (Err (Late n)) on seen = let b = state_of opening on
     Replies b rules request (Ok (told_of b.events request)) × (n ≡ about b.events request) × (seen ≡ on)
 Tells rules opening request (Err (Refused refusal)) on seen = WasAsked rules opening request (Err refusal) on seen
 
+-- an event was late before: it is in, the last of a list that begins with all that was seen
+pub record IsHeldUp (rules : List Rule) (opening : LedgerState) (seen : List Event) : Type 0 where
+  pub front : List Event
+  pub late : Event
+  pub begins : IsPrefix seen (front ++ late ∷ [])
+  pub history : IsHistory rules opening (front ++ late ∷ [])
+
 -- the answer is the book's, after a list of events that begins with all that the pass had seen; or there was no memory
 -- for an event that was late before, and nothing was asked
 pub record IsAnswered (rules : List Rule) (opening : LedgerState) (request : Request) (before after : Known)
@@ -42,4 +49,4 @@ pub record IsAnswered (rules : List Rule) (opening : LedgerState) (request : Req
   pub on : List Event
   pub begins : IsPrefix before.seen on
   pub tells : Tells rules opening request answer on after.seen
-      ⊎ ((answer ≡ Err (Refused Memory)) × (after.seen ≡ on))
+      ⊎ ((answer ≡ Err (Refused Memory)) × (after.seen ≡ on) × IsHeldUp rules opening on)

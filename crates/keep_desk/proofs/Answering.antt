@@ -1,5 +1,6 @@
 -- What a desk answers, by what the book answered.
-use Rattle.std.proofs.Common.{◌≡◌, ◌∙◌, ℕ, List, [], ◌∷◌, ◌++◌, Option, Some, None, Result, Ok, Err, ap, inl, inr, refl, sym}
+use Rattle.std.proofs.Common.{◌≡◌, ◌∙◌, ℕ, List, [], ◌∷◌, ◌++◌, Option, Some, None, Result, Ok, Err, ap, inl, inr, refl, subst, sym}
+use mathlib.Core.List.{IsPrefix}
 use Rattle.logbook.specs.Pages.{Book}
 use Rattle.keep_journal.specs.declared.event.Event.{Event}
 use Rattle.keep_hooks.specs.Guards.{Rule}
@@ -10,12 +11,12 @@ use Rattle.keep_ledger.specs.declared.reply.Refusal.TheVariants.{Fault, Memory, 
 use Rattle.keep_journal.specs.declared.request.Told.{Told}
 use Rattle.keep_journal.specs.declared.request.Request.{Request}
 use Rattle.keep_chronicle.proofs.Prefixes.{prefix_self}
-use Rattle.keep_pages.specs.Histories.{state_of}
+use Rattle.keep_pages.specs.Histories.{state_of, IsHistory}
 use Rattle.keep_register.specs.Known.{Known}
 use Rattle.keep_register.specs.Asked.{WasAsked}
 use Rattle.keep_register.specs.Pages.{PageState, StepState, events_on}
-use Rattle.keep_crew.specs.Answered.{IsAnswered, number_in}
-use Rattle.keep_desk.specs.Held.{IsUpTo}
+use Rattle.keep_crew.specs.Answered.{IsAnswered, IsHeldUp, number_in}
+use Rattle.keep_desk.specs.Held.{Held, IsBehind, IsUpTo}
 use Rattle.keep_crew.specs.declared.answers.DeskError.TheVariants.{Refused}
 
 -- what isn't some number is none
@@ -23,10 +24,22 @@ pub none_of : (o : Option ℕ) → ((n : ℕ) → o ≡ Some n → ⊥) → o �
 none_of None other = refl
 none_of (Some n) other = absurd (other n refl)
 
+-- an event that isn't published holds up whoever has seen a beginning of all
+pub held_up : (rules : List Rule) (opening : LedgerState) (seen : List Event) (held : Held) → IsPrefix seen held.journal
+    → IsBehind rules opening held → IsHeldUp rules opening seen
+held_up rules opening seen held within behind = record {
+  front = held.published;
+  late = behind.late;
+  begins = subst (λ (es : List Event). IsPrefix seen es) (sym behind.last) within;
+  history = subst (λ (es : List Event). IsHistory rules opening es) (sym behind.last) behind.history;
+}
+
 module _ (rules : List Rule) (opening : LedgerState) (request : Request) where
   -- nothing was asked
-  pub nothing_asked : (before after : Known) → after.seen ≡ before.seen → IsAnswered rules opening request before after (Err (Refused Memory))
-  nothing_asked before after same = record { on = before.seen; begins = prefix_self before.seen; tells = inr (refl, same) }
+  pub nothing_asked : (before after : Known) (held : Held) → after.seen ≡ before.seen → IsPrefix before.seen held.journal
+      → IsBehind rules opening held → IsAnswered rules opening request before after (Err (Refused Memory))
+  nothing_asked before after held same within behind =
+      record { on = before.seen; begins = prefix_self before.seen; tells = inr (refl, same, held_up rules opening before.seen held within behind) }
 
   module _ (on now : List Event) where
     -- where none is named, the list stays

@@ -4,12 +4,14 @@ use Rattle.std.specs.Option.{option_map}
 use mathlib.Core.List.{IsPrefix}
 use Rattle.keep_journal.specs.Event.{undoing}
 use Rattle.keep_journal.specs.declared.event.Event.{Event}
+use Rattle.keep_hooks.specs.Guards.{Rule}
 use Rattle.keep_ledger.specs.LedgerState.{LedgerState}
 use Rattle.keep_ledger.specs.declared.reply.Refusal.{Refusal}
 use Rattle.keep_ledger.specs.declared.reply.Refusal.TheVariants.{Memory, Unsettled}
 use Rattle.keep_book.specs.Cascade.{AreUndone, TakesAlong}
 use Rattle.keep_pages.specs.Histories.{state_of}
 use Rattle.keep_register.specs.Known.{Known}
+use Rattle.keep_crew.specs.Answered.{IsHeldUp}
 use Rattle.keep_crew.specs.declared.answers.DeskError.{DeskError}
 use Rattle.keep_crew.specs.declared.answers.DeskError.TheVariants.{Late, Refused}
 use Rattle.keep_desk.specs.declared.taken_back.TakenBack.{TakenBack}
@@ -34,12 +36,13 @@ pub record GoesDown (opening : LedgerState) (n : ℕ) (on : List Event) (numbers
   pub sees : Sees on numbers stopped seen
 
 -- there was no memory for an event that was late before, and nothing was asked
-abbrev pub WasHeldUp : List Event → List ℕ → Option DeskError → List Event → Type 0
-WasHeldUp on numbers stopped seen = (numbers ≡ []) × (stopped ≡ Some (Refused Memory)) × (seen ≡ on)
+abbrev pub WasHeldUp : List Rule → LedgerState → List Event → List ℕ → Option DeskError → List Event → Type 0
+WasHeldUp rules opening on numbers stopped seen =
+    (numbers ≡ []) × (stopped ≡ Some (Refused Memory)) × (seen ≡ on) × IsHeldUp rules opening on
 
 -- one or the other, after a list of events that begins with all that the pass had seen
-pub record IsTakenBack (opening : LedgerState) (n : ℕ) (before after : Known) (back : TakenBack) : Type 0 where
+pub record IsTakenBack (rules : List Rule) (opening : LedgerState) (n : ℕ) (before after : Known) (back : TakenBack) : Type 0 where
   pub on : List Event
   pub begins : IsPrefix before.seen on
   pub tells : GoesDown opening n on back.numbers.items back.stopped after.seen
-      ⊎ WasHeldUp on back.numbers.items back.stopped after.seen
+      ⊎ WasHeldUp rules opening on back.numbers.items back.stopped after.seen

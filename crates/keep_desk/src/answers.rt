@@ -1,3 +1,5 @@
+use crate::opening::Wanting;
+
 /// Why a desk isn't opened. The book is handed back.
 #[derive(Drop)]
 pub enum NotOpened<K> {
@@ -5,4 +7,21 @@ pub enum NotOpened<K> {
     Memory(K),
     /// There was no place for one of the readers.
     NoPass(K),
+}
+
+impl<K> NotOpened<K> {
+    ghost use Rattle.std.specs.Prelude.{◌≡◌};
+    ghost use Rattle.keep_desk.specs.Closed.{keeper_of};
+
+    /// Hands the book back where this was wanting.
+    pub(crate) fn without(wanting: Wanting, keeper: K) -> NotOpened<K>
+        ensures handed { keeper_of result ≡ keeper }
+        ensures memory { wanting ≡ Wanting.Memory → result ≡ NotOpened.Memory keeper }
+        ensures place { wanting ≡ Wanting.Place → result ≡ NotOpened.NoPass keeper }
+    {
+        match wanting {
+            Wanting::Memory => NotOpened::Memory(keeper),
+            Wanting::Place => NotOpened::NoPass(keeper),
+        }
+    }
 }

@@ -11,7 +11,7 @@ ghost use Rattle.keep_register.specs.Known.{AreFresh};
 
 use crate::answers::NotOpened;
 use crate::locked::Locked;
-use crate::opening::{Wanting, passes_of, press_of};
+use crate::opening::{passes_of, press_of};
 use crate::taken_back::TakenBack;
 use keep_change::Planned;
 use keep_chronicle::Opened;
@@ -79,8 +79,7 @@ impl<B: Naming, R: Wait + Drop, K: Keeper> Desk<B, Locked<B, R, K>> {
                 };
                 Ok((desk, made))
             }
-            Err(Wanting::Memory) => Err(NotOpened::Memory(keeper)),
-            Err(Wanting::Place) => Err(NotOpened::NoPass(keeper)),
+            Err(wanting) => Err(NotOpened::without(wanting, keeper)),
         }
     }
 
@@ -96,6 +95,7 @@ impl<B: Naming, R: Wait + Drop, K: Keeper> Desk<B, Locked<B, R, K>> {
         ensures begins { IsPrefix pass.old.seen pass.new.seen }
         ensures legal { IsLegal B.hooks.vetoes B.opening pass.new.seen }
         ensures counted { pass.new.counted ≡ counted_after (has_event result) pass.old.counted }
+        ensures published { IfOk result (λ _. pass.new.read ≡ pass.new.seen) }
     {
         self.locked.lock(rt).change(pass, Request::Commit(planned))
     }
@@ -106,6 +106,7 @@ impl<B: Naming, R: Wait + Drop, K: Keeper> Desk<B, Locked<B, R, K>> {
         ensures begins { IsPrefix pass.old.seen pass.new.seen }
         ensures legal { IsLegal B.hooks.vetoes B.opening pass.new.seen }
         ensures counted { pass.new.counted ≡ counted_after (has_event result) pass.old.counted }
+        ensures published { IfOk result (λ _. pass.new.read ≡ pass.new.seen) }
     {
         self.locked.lock(rt).change(pass, Request::Undo(n))
     }
@@ -116,7 +117,7 @@ impl<B: Naming, R: Wait + Drop, K: Keeper> Desk<B, Locked<B, R, K>> {
     /// Where an undo is refused or late, or its change is left unsettled, no more are asked for. `LeanedOn` is no
     /// refusal of any: what leans on a change is taken back before it.
     pub fn undo_with<W: Wait>(&self, rt: &W, pass: &mut Pass<B>, n: u64) -> TakenBack
-        ensures taken_back { IsTakenBack B.opening n pass.old pass.new result }
+        ensures taken_back { IsTakenBack B.hooks.vetoes B.opening n pass.old pass.new result }
         ensures begins { IsPrefix pass.old.seen pass.new.seen }
         ensures legal { IsLegal B.hooks.vetoes B.opening pass.new.seen }
         ensures counted { pass.new.counted ≡ pass.old.counted + length result.numbers.items }
@@ -130,6 +131,7 @@ impl<B: Naming, R: Wait + Drop, K: Keeper> Desk<B, Locked<B, R, K>> {
         ensures begins { IsPrefix pass.old.seen pass.new.seen }
         ensures legal { IsLegal B.hooks.vetoes B.opening pass.new.seen }
         ensures counted { pass.new.counted ≡ counted_after (has_event result) pass.old.counted }
+        ensures published { IfOk result (λ _. pass.new.read ≡ pass.new.seen) }
     {
         self.locked.lock(rt).change(pass, Request::Redo(n))
     }
@@ -140,6 +142,7 @@ impl<B: Naming, R: Wait + Drop, K: Keeper> Desk<B, Locked<B, R, K>> {
         ensures begins { IsPrefix pass.old.seen pass.new.seen }
         ensures legal { IsLegal B.hooks.vetoes B.opening pass.new.seen }
         ensures counted { pass.new.counted ≡ counted_after (has_event result) pass.old.counted }
+        ensures published { IfOk result (λ _. pass.new.read ≡ pass.new.seen) }
     {
         self.locked.lock(rt).change(pass, Request::Empty(n))
     }

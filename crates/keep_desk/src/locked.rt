@@ -1,4 +1,4 @@
-ghost use Rattle.std.specs.Prelude.{◌≡◌, ◌+◌, [], ◌∷◌, ◌++◌, IfOk, OnErr, OnOk, length};
+ghost use Rattle.std.specs.Prelude.{◌≡◌, ◌+◌, [], ◌∷◌, ◌++◌, ◌⊎◌, IfOk, OnErr, OnOk, false, length, true};
 ghost use Rattle.std.specs.List.{All};
 ghost use mathlib.Core.List.{IsPrefix};
 ghost use Rattle.keep_journal.specs.declared.event.Event as the_event;
@@ -14,7 +14,7 @@ ghost use Rattle.keep_desk.specs.Cascade.{IsTakenBack};
 ghost use Rattle.keep_crew.specs.Asking.{count_of};
 ghost use Rattle.keep_crew.specs.Planned.{IsPlanned};
 ghost use Rattle.keep_desk.specs.Closed.{IsClosed};
-ghost use Rattle.keep_desk.specs.Held.{HasStep, Waits};
+ghost use Rattle.keep_desk.specs.Held.{HasStep, IsBehind, Waits};
 
 use crate::press::Press;
 use crate::taken_back::TakenBack;
@@ -77,6 +77,7 @@ impl<B: Naming, R: Wait + Drop, K: Keeper> Locked<B, R, K> {
         ensures journal { self.new.journal ≡ self.old.journal }
         ensures ok { OnOk result (self.new.published ≡ self.old.journal) }
         ensures err { OnErr result (self.new.published ≡ self.old.published) }
+        ensures late { OnErr result (IsBehind B.hooks.vetoes B.opening self.old) }
     {
         if self.press.page().length() == self.register.length() {
             return Ok(());
@@ -94,6 +95,9 @@ impl<B: Naming, R: Wait + Drop, K: Keeper> Locked<B, R, K> {
         ensures legal { IsLegal B.hooks.vetoes B.opening pass.new.seen }
         ensures counted { pass.new.counted ≡ counted_after (has_event result) pass.old.counted }
         ensures published { IfOk result (λ _. self.new.published ≡ self.new.journal) }
+        ensures read { IfOk result (λ _. pass.new.read ≡ pass.new.seen) }
+        ensures asked { Tells B.hooks.vetoes B.opening request result self.old.journal pass.new.seen
+            ⊎ IsBehind B.hooks.vetoes B.opening self.old }
     {
         if let Err(AllocError) = self.catch_up(pass) {
             return Err(DeskError::Refused(Refusal::Memory));
@@ -103,7 +107,7 @@ impl<B: Naming, R: Wait + Drop, K: Keeper> Locked<B, R, K> {
 
     /// Publishes an event that came late before, and takes the change back with all that leans on it.
     pub(crate) fn undo_with(&mut self, pass: &mut Pass<B>, n: u64) -> TakenBack
-        ensures taken_back { IsTakenBack B.opening n pass.old pass.new result }
+        ensures taken_back { IsTakenBack B.hooks.vetoes B.opening n pass.old pass.new result }
         ensures begins { IsPrefix pass.old.seen pass.new.seen }
         ensures legal { IsLegal B.hooks.vetoes B.opening pass.new.seen }
         ensures counted { pass.new.counted ≡ pass.old.counted + length result.numbers.items }
@@ -158,14 +162,25 @@ impl<B: Naming, R: Wait + Drop, K: Keeper> Locked<B, R, K> {
         ensures published { OnOk result (self.new.published ≡ self.new.journal) }
         ensures seen { OnOk result (pass.new.seen ≡ self.new.journal) }
         ensures same { OnErr result (pass.new.seen ≡ pass.old.seen) }
+        ensures late { OnErr result (IsBehind B.hooks.vetoes B.opening self.old) }
+        ensures within { IsPrefix pass.old.seen self.old.journal }
         ensures begins { IsPrefix pass.old.seen pass.new.seen }
         ensures legal { IsLegal B.hooks.vetoes B.opening pass.new.seen }
         ensures counted { pass.new.counted ≡ pass.old.counted }
     {
         pass.leave();
+        self.covers(pass);
         self.settle()?;
         self.tell(pass);
         Ok(())
+    }
+
+    /// What the pass has seen begins the list of all events.
+    fn covers(&mut self, pass: &Pass<B>)
+        ensures same { self.new ≡ self.old }
+        ensures begins { IsPrefix pass.now.seen self.old.journal }
+    {
+        pass.precedes(&mut self.register);
     }
 
     /// Does what is asked where all events are published and told, and publishes the event of that.
@@ -179,19 +194,37 @@ impl<B: Naming, R: Wait + Drop, K: Keeper> Locked<B, R, K> {
         ensures legal { IsLegal B.hooks.vetoes B.opening pass.new.seen }
         ensures counted { pass.new.counted ≡ counted_after (has_event result) pass.old.counted }
         ensures told { IfOk result (λ _. pass.new.seen ≡ self.new.journal) }
+        ensures read { IfOk result (λ _. pass.new.read ≡ pass.new.seen) }
         ensures published { IfOk result (λ _. self.new.published ≡ self.new.journal) }
     {
         let reply = self.ask(pass, request);
         if let Some(number) = number_in(&reply) {
-            if let Err(AllocError) = self.settle() {
+            if !self.show(pass) {
                 return Err(DeskError::Late(number));
             }
-            self.tell(pass);
         }
         match reply {
             Ok(told) => Ok(told),
             Err(refusal) => Err(DeskError::Refused(refusal)),
         }
+    }
+
+    /// Publishes the event that isn't yet, and has the pass read it on the page. Answers whether it has.
+    fn show(&mut self, pass: &mut Pass<B>) -> bool
+        requires { IsLegal B.hooks.vetoes B.opening pass.old.seen }
+        ensures journal { self.new.journal ≡ self.old.journal }
+        ensures published { result ≡ true → self.new.published ≡ self.new.journal }
+        ensures seen { result ≡ true → pass.new.seen ≡ self.new.journal }
+        ensures read { result ≡ true → pass.new.read ≡ self.new.journal }
+        ensures kept { result ≡ false → pass.new.seen ≡ pass.old.seen }
+        ensures begins { IsPrefix pass.old.seen pass.new.seen }
+        ensures legal { IsLegal B.hooks.vetoes B.opening pass.new.seen }
+        ensures counted { pass.new.counted ≡ pass.old.counted }
+    {
+        if let Err(AllocError) = self.settle() {
+            return false;
+        }
+        pass.read_all(&mut self.register)
     }
 
     /// Tells the pass of all events.

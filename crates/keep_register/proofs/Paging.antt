@@ -1,5 +1,6 @@
 -- What a page shows, and the page after a step.
-use Rattle.std.proofs.Common.{◌≡◌, ◌∙◌, ◌+◌, List, [], ◌∷◌, ◌++◌, length, ap, subst, sym}
+use Rattle.std.proofs.Common.{◌≡◌, ◌∙◌, ◌+◌, List, [], ◌∷◌, ◌++◌, length, ap, arith, subst, sym}
+use mathlib.Core.List.{IsPrefix}
 use Rattle.logbook.specs.Pages.{Book}
 use Rattle.keep_journal.specs.History.{length_of}
 use Rattle.keep_journal.specs.Opening.{IsOpen}
@@ -8,8 +9,9 @@ use Rattle.keep_hooks.specs.Guards.{Rule}
 use Rattle.keep_view.specs.Shown.{shown_of}
 use Rattle.keep_ledger.specs.LedgerState.{LedgerState}
 use Rattle.keep_chronicle.specs.Chronicle.{events_of}
+use Rattle.keep_chronicle.proofs.Prefixes.{prefix_whole}
 use Rattle.keep_pages.specs.Following.{Follows}
-use Rattle.keep_pages.specs.Histories.{shown_at, state_of, IsHistory, IsLegal}
+use Rattle.keep_pages.specs.Histories.{length_at, shown_at, state_of, IsHistory, IsLegal}
 use Rattle.keep_pages.specs.Sheet.{SheetState, followed, sheet_of}
 use Rattle.keep_pages.proofs.Following.{follows, open_at}
 use Rattle.keep_pages.proofs.Histories.{legal-last, length_at-all, state_of-push}
@@ -34,6 +36,11 @@ module _ (book : Book) (rules : List Rule) (opening : LedgerState) (p : PageStat
   -- the number of its last event
   pub page_length : length_of p.sheet.events ≡ length_of opening.events + length (events_on p)
   page_length = ap (λ (s : SheetState). length_of s.events) is.shows ∙ length_at-all opening (events_on p)
+
+  -- its list is this one, which it begins and is as long as
+  pub page_whole : (on : List Event) → IsPrefix (events_on p) on → length_of p.sheet.events ≡ length_at opening on → events_on p ≡ on
+  page_whole on begins long =
+      prefix_whole (events_on p) on begins (omega (arith, page_length, length_at-all opening on, long))
 
   -- the page after the step to a list with one more event
   pub page_next : (s : StepState) (es : List Event) (e : Event) → events_on p ++ e ∷ [] ≡ es → IsStep book es e s

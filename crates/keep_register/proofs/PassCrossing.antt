@@ -98,7 +98,7 @@ module _ (B : RattleType) (n : naming.Ghosts B.Denot) (c : chronicled.Ghosts B.D
         (
           enum_send (enum_declared.shape (option.the_type (reading.the_row page.the_row unit (published.the_row B) heap.the_row rule ghosts)))
               (tt, ((reading_send page.the_row unit (published.the_row B) rule page_sync, tt), tt)),
-          (search (seen.the_send, sendable), (number_send, (share.the_send B l, tt))),
+          (search (seen.the_send, sendable), (number_send, (search (seen.the_send, sendable), (share.the_send B l, tt)))),
         ),
       ))
 

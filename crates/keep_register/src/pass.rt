@@ -25,6 +25,8 @@ pub struct Pass<B: Naming> {
     sight: Sight,
     /// The number of the last event that it knows.
     at: u64,
+    /// The token of the page that it read last. It is told for clauses alone.
+    read: Sight,
     share: Share<B>,
 }
 
@@ -40,6 +42,7 @@ impl<B: Naming> Model for Pass<B> {
     ghost view = { λ p. record {
       seen = events_of p.sight.log;
       shown = is_some p.reading;
+      read = events_of p.read.log;
       counted = p.share.amount;
     } };
 
@@ -68,11 +71,13 @@ impl<B: Naming> Pass<B> {
         requires share { (share.parts ≡ 1) × (share.amount ≡ 0) }
         ensures { result ≡ fresh }
     {
+        let read = sight.again();
         Pass {
             reader: Some(reader),
             reading: None,
             sight,
             at,
+            read,
             share,
         }
     }
@@ -124,6 +129,7 @@ impl<B: Naming> Pass<B> {
         }
         self.sight = page.sight();
         self.at = page.length();
+        self.read = page.sight();
         if let Some(before) = self.reading.replace(reading) {
             before.leave();
         }
@@ -141,6 +147,14 @@ impl<B: Naming> Pass<B> {
         }
     }
 
+    /// What it has seen begins the list.
+    pub fn precedes<K: Keeper>(&self, register: &mut Register<B, K>)
+        ensures same { register.new ≡ register.old }
+        ensures begins { IsPrefix self.now.seen register.old }
+    {
+        register.covers(&self.sight);
+    }
+
     /// Is told of all events.
     pub fn learn<K: Keeper>(&mut self, register: &mut Register<B, K>)
         ensures seen { self.new.seen ≡ register.old }
@@ -150,9 +164,61 @@ impl<B: Naming> Pass<B> {
         ensures legal { IsLegal B.hooks.vetoes B.opening self.new.seen }
     {
         self.leave();
-        register.covers(&self.sight);
+        self.precedes(register);
         self.sight = register.sight();
         self.at = register.length();
+    }
+
+    /// Takes the page that is published, if all events of the list stand on it, and leaves it again. Answers whether they do.
+    pub fn read_all<K: Keeper>(&mut self, register: &mut Register<B, K>) -> bool
+        ensures all { result ≡ true → (self.new.seen ≡ register.old) × (self.new.read ≡ register.old) }
+        ensures kept { result ≡ false → self.new.seen ≡ self.old.seen }
+        ensures same { register.new ≡ register.old }
+        ensures begins { IsPrefix self.old.seen self.new.seen }
+        ensures legal { IsLegal B.hooks.vetoes B.opening self.new.seen }
+        ensures counted { self.new.counted ≡ self.old.counted }
+    {
+        self.leave();
+        let Some(reader) = self.reader.take() else {
+            return false;
+        };
+        match reader.enter_as::<Shows<B>>() {
+            Ok(reading) => self.look(reading, register),
+            Err(reader) => {
+                self.reader = Some(reader);
+                false
+            }
+        }
+    }
+
+    /// Learns what stands on the page, if it is the whole list, and ends the reading.
+    fn look<K: Keeper>(
+        &mut self,
+        reading: Reading<Page, (), Published<B>>,
+        register: &mut Register<B, K>,
+    ) -> bool
+        requires none { self.old.shown ≡ false }
+        requires page { IsPage B.book B.hooks.vetoes B.opening reading.part.value }
+        ensures all { result ≡ true → (self.new.seen ≡ register.old) × (self.new.read ≡ register.old) }
+        ensures kept { result ≡ false → self.new.seen ≡ self.old.seen }
+        ensures same { register.new ≡ register.old }
+        ensures begins { IsPrefix self.old.seen self.new.seen }
+        ensures legal { IsLegal B.hooks.vetoes B.opening self.new.seen }
+        ensures counted { self.new.counted ≡ self.old.counted }
+    {
+        let page = reading.get();
+        if page.length() != register.length() {
+            self.reader = Some(reading.leave());
+            return false;
+        }
+        self.precedes(register);
+        let all = page.sight();
+        register.covers(&all);
+        self.at = page.length();
+        self.reader = Some(reading.leave());
+        self.read = all.again();
+        self.sight = all;
+        true
     }
 
     /// Asks, and counts an event that is in.
@@ -182,6 +248,7 @@ impl<B: Naming> Pass<B> {
             reading,
             sight,
             at: _,
+            read: _read,
             share,
         } = self;
         if let Some(reading) = reading {
@@ -199,6 +266,7 @@ impl<B: Naming> Drop for Pass<B> {
             reading,
             sight: _sight,
             at: _,
+            read: _read,
             share: _share,
         } = self;
         if let Some(reading) = reading {

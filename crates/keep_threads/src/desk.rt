@@ -4,7 +4,7 @@ ghost use Rattle.keep_journal.specs.History.{length_of};
 ghost use Rattle.keep_jobs.specs.Job.{settings_view};
 ghost use Rattle.keep_ledger.specs.Sums.{AreSums};
 ghost use Rattle.keep_crew.specs.Allowing.{AllowsWork};
-ghost use Rattle.keep_desk.specs.Closed.{IsClosed};
+ghost use Rattle.keep_desk.specs.Closed.{IsClosed, keeper_of};
 ghost use Rattle.keep_desk.specs.Crew.{HasWorked};
 ghost use Rattle.keep_operators.specs.Asked.{AreAsked};
 ghost use Rattle.keep_operators.specs.Backups.{backup_of};
@@ -71,8 +71,22 @@ where
             let (keeper, tally) = close_after(desk, worked, room.passes, before);
             (keeper, Ok(tally))
         }
-        Err(NotOpened::Memory(keeper)) => (keeper, Err(NoCrew::Memory)),
-        Err(NotOpened::NoPass(keeper)) => (keeper, Err(NoCrew::NoPass)),
+        Err(refusal) => {
+            let (keeper, why) = unopened(refusal);
+            (keeper, Err(why))
+        }
+    }
+}
+
+/// What is handed back where no desk is opened, and why nobody works then.
+fn unopened<K>(refusal: NotOpened<K>) -> (K, NoCrew)
+    ensures handed { result.0 ≡ keeper_of refusal }
+    ensures memory { (keeper : K) → refusal ≡ NotOpened.Memory keeper → result.1 ≡ NoCrew.Memory }
+    ensures place { (keeper : K) → refusal ≡ NotOpened.NoPass keeper → result.1 ≡ NoCrew.NoPass }
+{
+    match refusal {
+        NotOpened::Memory(keeper) => (keeper, NoCrew::Memory),
+        NotOpened::NoPass(keeper) => (keeper, NoCrew::NoPass),
     }
 }
 

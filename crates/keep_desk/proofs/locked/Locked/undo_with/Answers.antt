@@ -10,6 +10,7 @@ use Rattle.keep_book.proofs.Cascading.{gives, refuses}
 use Rattle.keep_chronicle.proofs.Prefixes.{prefix_self, prefix_trans}
 use Rattle.keep_pages.specs.Histories.{state_of}
 use Rattle.keep_desk.specs.Cascade.{GoesDown, refusal_of}
+use Rattle.keep_desk.proofs.Answering.{held_up}
 use Rattle.keep_desk.proofs.Cascading.{Going, all_taken, as_told, asks_nothing, goes_on, stops_there}
 use Rattle.keep_desk.proofs.locked.Locked.undo_with.Goals as goal
 
@@ -21,7 +22,12 @@ pub returns-in-Err-clause-taken_back : goal.returns-in-Err-clause-taken_back
 returns-in-Err-clause-taken_back g c = record {
   on = c.args.pass.now.seen;
   begins = prefix_self c.args.pass.now.seen;
-  tells = inr (c.refused.ensures.numbers, c.refused.ensures.stopped, c.in-Err.ensures.same);
+  tells = inr (
+    c.refused.ensures.numbers,
+    c.refused.ensures.stopped,
+    c.in-Err.ensures.same,
+    held_up g.B.Naming.hooks.vetoes g.B.Naming.opening c.args.pass.now.seen c.args.self.now c.catch_up.ensures.within c.in-Err.ensures.late,
+  );
 }
 
 pub returns-in-Err-taken-clause-taken_back : goal.returns-in-Err-taken-clause-taken_back
