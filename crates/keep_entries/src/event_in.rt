@@ -43,9 +43,16 @@ fn told_in(alloc: Global, value: &Value) -> Result<Event, Misread>
     ensures { Answers Memory (λ event. event)
         (ok_or (option_map (λ told. told.1) (spec.told_in (view value.now))) OtherShape) result }
 {
-    let number = u64_at(value, "form").ok_or(Misread::OtherShape)?;
-    let form = form_of(number).ok_or(Misread::OtherShape)?;
+    let form = form_in(value)?;
     event_in(alloc, form, value)
+}
+
+// The form that a document says. It takes no memory.
+fn form_in(value: &Value) -> Result<Form, Misread>
+    ensures { result ≡ ok_or (spec.form_in (view value.now)) OtherShape }
+{
+    let number = u64_at(value, "form").ok_or(Misread::OtherShape)?;
+    form_of(number).ok_or(Misread::OtherShape)
 }
 
 // The event that an entry of the form says.
