@@ -1,4 +1,4 @@
-ghost use Rattle.std.specs.Prelude.{◌≡◌, ◌≢◌, ◌<◌, ℕ, IfErr, IfOk, OnOk, None, Some, true};
+ghost use Rattle.std.specs.Prelude.{◌≡◌, ◌≢◌, ◌<◌, ℕ, Err, IfErr, IfOk, OnOk, None, Some, true};
 ghost use Rattle.keep_journal.specs.History.{IsNumbered, final_after as final_after_of, final_number as final_number_of};
 ghost use Rattle.keep_moves.specs.Move.{Stand};
 ghost use Rattle.keep_opening.specs.Telling.{CanCome, WasTaken, top_after};
@@ -72,6 +72,7 @@ fn take_leaf(
     ensures number { IfErr result (λ why. (k : ℕ) → why ≡ the_error.BadEntry k → k ≡ leaf.at) }
     ensures wrong { IfErr result (λ why. (k : ℕ) → why ≡ the_error.BadEntry k
         → is_wrong final_number top history.old.journal leaf ≡ true) }
+    ensures found { is_wrong final_number top history.old.journal leaf ≡ true → result ≡ Err (the_error.BadEntry leaf.at) }
     ensures why { IfErr result (λ why. why ≢ the_error.Fault) }
 {
     let Leaf { at, event } = leaf;
