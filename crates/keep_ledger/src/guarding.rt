@@ -1,4 +1,4 @@
-ghost use Rattle.std.specs.Prelude.{◌≡◌, ◌^◌, ◌<◌, ◌≤◌, IfErr, IfOk, IfSome, true};
+ghost use Rattle.std.specs.Prelude.{◌≡◌, ◌^◌, ◌<◌, ◌≤◌, [], IfErr, IfOk, IfSome, None, Ok, true};
 ghost use Rattle.std.specs.List.{All};
 ghost use Rattle.keep_change.specs.Outline.{outline_of};
 ghost use Rattle.keep_change.specs.declared.outline.Outline.{Outline};
@@ -22,8 +22,9 @@ pub(crate) fn outline_for<V: Guard>(
     number: u64,
     change: &Change,
 ) -> Result<Option<Outline>, AllocError>
-    ensures { let asked = outline_of what number change.now in
+    ensures outline { let asked = outline_of what number change.now in
         IfOk result (λ made. IsOutline (V.armed guard.now).vetoes (V.tallies guard.now) asked made) }
+    ensures unarmed { (V.armed guard.now).vetoes ≡ [] → V.tallies guard.now ≡ [] → result ≡ Ok None }
 {
     if guard.has_vetoes() || guard.has_watches() {
         return Ok(Some(Outline::of(alloc, what, number, change)?));
