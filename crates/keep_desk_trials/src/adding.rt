@@ -1,4 +1,5 @@
-ghost use Rattle.std.specs.Prelude.{◌≡◌, Ok, IfOk};
+ghost use Rattle.std.specs.Prelude.{◌≡◌, Err, Ok, IfOk};
+ghost use Rattle.keep_plan.specs.declared.plan_error.PlanError.TheVariants.{NothingToDo};
 ghost use Rattle.keep_desk_trials.specs.Adding.{adding};
 
 use keep_change::{Change, Listed, Planned, StoredFile};
@@ -41,6 +42,18 @@ impl Plans for Adding {
 
     fn plan(&self, view: &View) -> Result<Planned, PlanError> {
         Ok(self.planned(view.length())?)
+    }
+}
+
+/// Finds nothing to do, whatever is shown.
+#[derive(Clone, Copy)]
+pub struct Idle;
+
+impl Plans for Idle {
+    ghost wanted = { λ _ _. Err NothingToDo };
+
+    fn plan(&self, _view: &View) -> Result<Planned, PlanError> {
+        Err(PlanError::NothingToDo)
     }
 }
 

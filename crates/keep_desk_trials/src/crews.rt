@@ -1,10 +1,11 @@
 ghost use Rattle.keep_register.specs.Allowed.{AllowsAll};
 
-use crate::adding::Adding;
+use crate::adding::{Adding, Idle};
 use crate::desks::{Scene, play};
-use crate::gates::{LastFirst, Signals, Together};
+use crate::gates::{AllTogether, LastFirst, Signals, Together};
 use keep_book::Book;
-use keep_desk::{Desk, Gate, Locked, Operator, Pass, Work};
+use keep_desk::{Desk, Gate, Locked, NotTold, Operator, Pass, Work};
+use keep_plan::PlanError;
 use keep_register::{Keeper, Naming};
 use keep_shelf::MemoryShelf;
 use std::alloc::{AllocError, Global};
@@ -51,6 +52,44 @@ pub fn last_first<
     let (passes, numbers) = two_add(rt, alloc, desk, passes, &gate)?;
     assert_eq!(rt; gate.0.given_up(), 0);
     assert_eq!(rt; numbers.as_slice(), [2, 1].as_slice());
+    Ok(passes)
+}
+
+/// As many operators in threads as there are passes find nothing to do, and none begins before all have come.
+pub fn all_at_once<
+    N: Naming + Send + Sync,
+    R: Abort + Wait + Threads + Clock + Send + Sync + Drop,
+    K: Keeper,
+>(
+    rt: &R,
+    alloc: Global,
+    desk: &Desk<N, Locked<N, R, K>>,
+    passes: Vec<Pass<N>>,
+) -> Result<Vec<Pass<N>>, Fail>
+    requires { AllowsAll N.allows }
+{
+    let gate = AllTogether::new(rt, passes.len() as u64);
+    let mut operators = Vec::new(alloc);
+    for pass in passes {
+        operators.push(Operator {
+            pass,
+            work: Work::Plan(Idle),
+            answer: None,
+        })?;
+    }
+    desk.run_crew(rt, &mut operators, &gate);
+    assert_eq!(rt; gate.given_up(), 0);
+    let mut passes = Vec::new(alloc);
+    for operator in operators {
+        let Operator { pass, answer, .. } = operator;
+        assert!(rt;
+            matches!(
+                answer,
+                Some(Err(NotTold::Unplanned(PlanError::NothingToDo)))
+            )
+        );
+        passes.push(pass)?;
+    }
     Ok(passes)
 }
 
@@ -109,6 +148,15 @@ fn answers_of<N: Naming>(
         })?;
     }
     Ok((passes, numbers))
+}
+
+#[test]
+fn eight_operators_are_at_work_at_once(rt: HostRuntime) -> Result<(), Fail> {
+    let alloc = rt.alloc();
+    let book = Book::open(alloc, MemoryShelf::new(alloc))?;
+    let book = play(rt, alloc, book, Scene::AllAtOnce)?;
+    assert_eq!(rt; book.ledger().history().length(), 0);
+    Ok(())
 }
 
 #[test]

@@ -1,10 +1,11 @@
-ghost use Rattle.std.specs.Prelude.{◌≡◌};
+ghost use Rattle.std.specs.Prelude.{◌≡◌, ◌<◌, ◌≤◌};
 ghost use Rattle.keep_book.specs.Armed.{HasSums};
 ghost use Rattle.keep_ledger.specs.Sums.{AreSums};
 ghost use Rattle.keep_register.specs.Allowed.{AllowsAll};
 
 use crate::cascades::both_taken_back;
-use crate::crews::{both_at_once, last_first};
+use crate::crews::{all_at_once, both_at_once, last_first};
+use crate::refusals::refused_twice;
 use crate::shelves::Failing;
 use crate::sweeps::{emptied_under_marks, swept_too_late};
 use crate::turns::{one_at_a_time, one_goes_on, one_pass_lost};
@@ -22,7 +23,7 @@ use std::test::Fail;
 use std::thread::Threads;
 use std::time::Clock;
 
-/// What operators do at a desk that has two passes.
+/// What operators do at a desk.
 #[derive(Clone, Copy)]
 pub enum Scene {
     /// One operator adds `a`, takes it back, adds it again, and makes that final. The other never comes.
@@ -31,6 +32,9 @@ pub enum Scene {
     OneGoesOn,
     /// Each operator adds a file, and is shown what the other did. The second pass is lost.
     OnePassLost,
+    /// One operator adds `a`, then comes late with a strict change, and makes final what a veto doesn't let it. The other
+    /// never comes.
+    RefusedTwice,
     /// One operator plans a sweep, and then the other one backs up what would be swept.
     SweptTooLate,
     /// One operator makes all changes final where packs have marks, and then takes a view. The other never comes.
@@ -41,7 +45,21 @@ pub enum Scene {
     BothAtOnce,
     /// The same, where the first doesn't begin before the second is done.
     LastFirst,
+    /// Eight operators in threads find nothing to do, and none begins before all have come.
+    AllAtOnce,
     Failing(Failing),
+}
+
+impl Scene {
+    /// How many passes the desk has.
+    fn passes(self) -> usize
+        ensures { (0 < result) × (result ≤ 64) }
+    {
+        match self {
+            Scene::AllAtOnce => 8,
+            _ => 2,
+        }
+    }
 }
 
 /// Opens a desk over the book, and gives the book back once the scene was played there.
@@ -56,22 +74,33 @@ pub fn play<R: Abort + Wait + Threads + Clock + Send + Sync + Copy + Drop, S: Sh
     let Some(opened) = Opened::new() else {
         return Err(Fail::new("no list of events can be begun"));
     };
-    play_named::<Brand, R, Book<S>>(rt, alloc, book, opened, Blank::new(2), scene)
+    let passes = scene.passes();
+    let blank = Blank::new(passes as u64);
+    play_named::<Brand, R, Book<S>>(rt, alloc, book, opened, blank, passes, scene)
 }
 
 fn play_named<
     N: Naming + Send + Sync,
     R: Abort + Wait + Threads + Clock + Send + Sync + Copy + Drop,
     K: Keeper,
->(rt: R, alloc: Global, keeper: K, opened: Opened, blank: Blank, scene: Scene) -> Result<K, Fail>
+>(
+    rt: R,
+    alloc: Global,
+    keeper: K,
+    opened: Opened,
+    blank: Blank,
+    passes: usize,
+    scene: Scene,
+) -> Result<K, Fail>
     requires history { opened.sight.book ≡ N.book }
     requires opening { K.ledger keeper ≡ N.opening }
     requires hooks { K.hooks keeper ≡ N.hooks }
     requires sums { AreSums (K.ledger keeper).events (K.hooks keeper).watches (K.tallies keeper) }
-    requires counts { (blank.name ≡ N.name) × (blank.parts ≡ N.parts) × (blank.parts ≡ 2) }
+    requires counts { (blank.name ≡ N.name) × (blank.parts ≡ N.parts) × (blank.parts ≡ passes) }
+    requires passes { (0 < passes) × (passes ≤ 64) }
     requires allows { AllowsAll N.allows }
 {
-    let made = Desk::<N, Locked<N, R, K>>::open(alloc, rt, keeper, opened, blank, 2);
+    let made = Desk::<N, Locked<N, R, K>>::open(alloc, rt, keeper, opened, blank, passes);
     let Ok((desk, passes)) = made else {
         return Err(Fail::new("the desk isn't opened"));
     };
@@ -102,11 +131,13 @@ fn play_at<
         Scene::OneAtATime => one_at_a_time(rt, alloc, desk, passes),
         Scene::OneGoesOn => one_goes_on(rt, alloc, desk, passes),
         Scene::OnePassLost => one_pass_lost(rt, alloc, desk, passes),
+        Scene::RefusedTwice => refused_twice(rt, alloc, desk, passes),
         Scene::SweptTooLate => swept_too_late(rt, alloc, desk, passes),
         Scene::EmptiedUnderMarks => emptied_under_marks(rt, alloc, desk, passes),
         Scene::BothTakenBack => both_taken_back(rt, alloc, desk, passes),
         Scene::BothAtOnce => both_at_once(rt, alloc, desk, passes),
         Scene::LastFirst => last_first(rt, alloc, desk, passes),
+        Scene::AllAtOnce => all_at_once(rt, alloc, desk, passes),
         Scene::Failing(failing) => failing.play(rt, alloc, desk, passes),
     }
 }

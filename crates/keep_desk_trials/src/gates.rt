@@ -6,6 +6,9 @@ use std::time::{Clock, Duration};
 /// How often a gate looks, once a millisecond, before it gives up.
 const MOST_TURNS: u64 = 10_000;
 
+/// How many milliseconds a worker lingers.
+const LINGERED: u64 = 200;
+
 /// What the workers of two jobs have told.
 #[derive(Drop)]
 pub struct Signals<C: Clock> {
@@ -67,7 +70,49 @@ impl<C: Clock> Gate for Together<C> {
     fn after(&self, _place: usize) {}
 }
 
+/// No job is begun before so many workers have come.
+#[derive(Drop)]
+pub struct AllTogether<C: Clock> {
+    clock: C,
+    wanted: u64,
+    come: AtomicU64,
+    given_up: AtomicU64,
+}
+
+impl<C: Clock> AllTogether<C> {
+    pub fn new(clock: C, wanted: u64) -> AllTogether<C> {
+        AllTogether {
+            clock,
+            wanted,
+            come: AtomicU64::new(0),
+            given_up: AtomicU64::new(0),
+        }
+    }
+
+    /// How often a worker went on without the others.
+    pub fn given_up(&self) -> u64 {
+        self.given_up.load(Ordering::SeqCst)
+    }
+}
+
+impl<C: Clock> Gate for AllTogether<C> {
+    fn before(&self, _place: usize) {
+        self.come.fetch_add(1, Ordering::SeqCst);
+        for _ in 0..MOST_TURNS {
+            if self.come.load(Ordering::SeqCst) >= self.wanted {
+                return;
+            }
+            thread::sleep(&self.clock, Duration::from_millis(1));
+        }
+        self.given_up.fetch_add(1, Ordering::SeqCst);
+    }
+
+    fn after(&self, _place: usize) {}
+}
+
 /// The first job isn't begun before the second is done.
+///
+/// Who told of its job lingers. So where the second told of it too early, the first is done by the time that it begins.
 #[derive(Drop)]
 pub struct LastFirst<C: Clock>(pub Signals<C>);
 
@@ -80,5 +125,6 @@ impl<C: Clock> Gate for LastFirst<C> {
 
     fn after(&self, place: usize) {
         self.0.give(place);
+        thread::sleep(&self.0.clock, Duration::from_millis(LINGERED));
     }
 }

@@ -16,6 +16,8 @@ mod gates;
 #[cfg(test)]
 mod looking;
 #[cfg(test)]
+mod refusals;
+#[cfg(test)]
 mod shelves;
 #[cfg(test)]
 mod sweeps;
