@@ -1,14 +1,12 @@
 ghost use Rattle.keep_book.specs.Armed.{HasSums};
 
 use crate::asking::agrees;
-use crate::failure::Failure;
 use crate::looking::look;
-use crate::outcome::{Way, numbers_text, refused, tell_made, tell_outcome, tell_taken};
-use crate::pruned::tell_pruned;
-use crate::run::Run;
 use keep_book::Book;
 use keep_deeds::{Came, NoDeed, deed_of, perform};
 use keep_journal::History;
+use keep_outcomes::{Way, tell_made, tell_outcome, tell_pruned, tell_taken};
+use keep_run::{Failure, Run, numbers_text, refused};
 use keep_shelf::Shelf;
 use keep_words::Command;
 

@@ -1,4 +1,4 @@
-use crate::run::Run;
+use keep_run::Run;
 use std::io::IsTerminal;
 
 /// Whether whoever typed the command wants what the text says. It is asked where standard input is a terminal, unless the

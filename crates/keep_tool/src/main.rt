@@ -3,25 +3,13 @@
 
 mod answer;
 mod asking;
-mod backing;
-mod dumping;
-mod failure;
-mod left;
 mod looking;
-mod naming;
 mod opening;
-mod outcome;
-mod places;
-mod pruned;
 mod reading;
-mod restoring;
-mod run;
 mod script;
-mod unchanged;
-mod viewing;
 
-use crate::failure::tell;
 use crate::reading::keep;
+use keep_run::tell;
 use keep_streams::fill_streams;
 use std::process::ExitCode;
 

@@ -1,10 +1,9 @@
 use crate::answer::answer;
-use crate::failure::Failure;
-use crate::run::Run;
 use keep_book::Book;
 use keep_disk::FolderError;
 use keep_folder::{FolderShelf, HostTree, open_folder};
 use keep_openings::{Unopened, copied, refusal_of};
+use keep_run::{Failure, Run};
 use keep_shelf::Shelf;
 use keep_words::Command;
 use std::thread;

@@ -1,10 +1,9 @@
-use crate::failure::Failure;
 use crate::opening::over_folder;
-use crate::run::Run;
 use crate::script::script;
 use keep_folder::{BeginError, begin};
 use keep_looks::MachineZone;
 use keep_openings::Unopened;
+use keep_run::{Failure, Run};
 use keep_typed::read_words;
 use keep_words::{Command, Words};
 use std::env::{self, VarError};

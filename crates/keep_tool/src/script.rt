@@ -1,6 +1,5 @@
-use crate::failure::Failure;
-use crate::run::Run;
 use keep_command::{Ending, HostShelves, NoOperators, keepd, tell};
+use keep_run::{Failure, Run};
 use keep_tables::utc_time;
 use std::fs::File;
 use std::io::{BufWriter, Read};

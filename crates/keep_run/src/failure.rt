@@ -5,7 +5,7 @@ use std::fmt;
 
 /// Why a command wasn't done, or not whole.
 #[derive(Drop)]
-pub(crate) enum Failure {
+pub enum Failure {
     /// The words are bad, and that was said.
     BadWords,
     /// The words are bad, for this cause.
@@ -67,7 +67,7 @@ impl<T: Drop> From<AllocFailed<T>> for Failure {
 }
 
 /// Says on standard error why the command wasn't done, and answers the exit status.
-pub(crate) fn tell(rt: &HostRuntime, failure: Failure) -> u8 {
+pub fn tell(rt: &HostRuntime, failure: Failure) -> u8 {
     let code = failure.code();
     let _said = match failure {
         Failure::Unmeant(cause) | Failure::Refused(cause) => eprintln!(rt; "keep: {cause}"),

@@ -1,18 +1,15 @@
-use crate::failure::Failure;
-use crate::left::{Left, left_value, tell_left};
-use crate::naming::{meant, patterns_of};
-use crate::run::Run;
 use keep_book::Book;
 use keep_host_target::{caller, open_target};
 use keep_putting::{Restored, Why};
 use keep_restores::restore;
+use keep_run::{Failure, Left, Run, left_value, meant, patterns_of, tell_left};
 use keep_shelf::Shelf;
 use keep_tables::size;
 use keep_words::Restore;
 use serde_json::json;
 
 /// `keep restore`
-pub(crate) fn restore_snapshot<S: Shelf>(
+pub fn restore_snapshot<S: Shelf>(
     run: &Run<'_>,
     book: &Book<S>,
     words: &Restore<'_>,

@@ -8,7 +8,7 @@ use keep_shelf::Shelf;
 use keep_tree::{Pattern, PatternError, parse_pattern};
 
 /// The snapshot that the text means: a first part of its id, `latest`, or `@N`.
-pub(crate) fn meant<S: Shelf>(run: &Run<'_>, book: &Book<S>, text: &str) -> Result<Id, Failure> {
+pub fn meant<S: Shelf>(run: &Run<'_>, book: &Book<S>, text: &str) -> Result<Id, Failure> {
     let view = book.ledger().view();
     match snapshot_named(run.alloc, &view, book.ledger().history(), text) {
         Ok(id) => Ok(id),
@@ -18,7 +18,7 @@ pub(crate) fn meant<S: Shelf>(run: &Run<'_>, book: &Book<S>, text: &str) -> Resu
 }
 
 /// The patterns that the words are.
-pub(crate) fn patterns_of(run: &Run<'_>, words: &[&str]) -> Result<Vec<Pattern>, Failure> {
+pub fn patterns_of(run: &Run<'_>, words: &[&str]) -> Result<Vec<Pattern>, Failure> {
     let mut patterns = Vec::new(run.alloc);
     for word in words {
         patterns.push(pattern_of(run, word)?)?;
@@ -27,7 +27,7 @@ pub(crate) fn patterns_of(run: &Run<'_>, words: &[&str]) -> Result<Vec<Pattern>,
 }
 
 /// The pattern that the word is.
-pub(crate) fn pattern_of(run: &Run<'_>, word: &str) -> Result<Pattern, Failure> {
+pub fn pattern_of(run: &Run<'_>, word: &str) -> Result<Pattern, Failure> {
     match parse_pattern(run.alloc, word) {
         Ok(pattern) => Ok(pattern),
         Err(PatternError::Memory) => Err(Failure::Memory),

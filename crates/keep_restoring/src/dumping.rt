@@ -1,13 +1,11 @@
-use crate::failure::Failure;
-use crate::naming::meant;
-use crate::run::Run;
 use keep_book::Book;
 use keep_restores::{NotDumped, dump};
+use keep_run::{Failure, Run, meant};
 use keep_shelf::Shelf;
 use std::io::Write;
 
 /// `keep dump`: the bytes of a file on standard output, as they are.
-pub(crate) fn dump_file<S: Shelf>(
+pub fn dump_file<S: Shelf>(
     run: &Run<'_>,
     book: &Book<S>,
     snapshot: &str,

@@ -5,13 +5,13 @@ use serde_json::{Value, json};
 
 /// What isn't as it was asked for, and why.
 #[derive(Drop)]
-pub(crate) struct Left {
+pub struct Left {
     pub path: String,
     pub why: String,
 }
 
 /// Names each on standard error. There is none where it is done whole.
-pub(crate) fn tell_left(run: &Run<'_>, left: &[Left]) -> Result<(), Failure> {
+pub fn tell_left(run: &Run<'_>, left: &[Left]) -> Result<(), Failure> {
     for one in left {
         let path = shown(run.alloc, one.path.as_str())?;
         let _said = eprintln!(run.rt; "keep: {path}: {}", one.why);
@@ -24,7 +24,7 @@ pub(crate) fn tell_left(run: &Run<'_>, left: &[Left]) -> Result<(), Failure> {
 }
 
 /// They as a list of JSON objects.
-pub(crate) fn left_value(run: &Run<'_>, left: &[Left]) -> Result<Value, Failure> {
+pub fn left_value(run: &Run<'_>, left: &[Left]) -> Result<Value, Failure> {
     let mut values = Vec::new(run.alloc);
     for one in left {
         let path = one.path.as_str();

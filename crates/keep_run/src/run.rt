@@ -11,7 +11,7 @@ const CUT: u32 = 1_048_576;
 
 /// What a command goes by, beside its own words.
 #[derive(Clone, Copy)]
-pub(crate) struct Run<'a> {
+pub struct Run<'a> {
     pub rt: &'a HostRuntime,
     pub alloc: Global,
     /// The repository's folder.

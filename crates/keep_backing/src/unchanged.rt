@@ -1,5 +1,3 @@
-use crate::failure::Failure;
-use crate::run::Run;
 use keep_backup::BackupFacts;
 use keep_backups::known_of;
 use keep_book::Book;
@@ -7,6 +5,7 @@ use keep_catalog::ReachError;
 use keep_named::{SnapshotRow, snapshots_of};
 use keep_names::Id;
 use keep_read::RestoreError;
+use keep_run::{Failure, Run};
 use keep_shelf::Shelf;
 use keep_snap::Snap;
 use keep_sources::Known;

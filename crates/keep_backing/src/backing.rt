@@ -1,11 +1,6 @@
 ghost use Rattle.keep_book.specs.Armed.{HasSums};
 
-use crate::failure::Failure;
-use crate::left::{Left, left_value, tell_left};
-use crate::naming::patterns_of;
-use crate::outcome::refused;
 use crate::places::place_of;
-use crate::run::Run;
 use crate::unchanged::unchanged;
 use keep_acts::PlanAdvice;
 use keep_backup::BackupFacts;
@@ -14,6 +9,7 @@ use keep_book::Book;
 use keep_host_source::{HostSource, host_name, user_name};
 use keep_ledger::Refusal;
 use keep_plan::PlanError;
+use keep_run::{Failure, Left, Run, left_value, patterns_of, refused, tell_left};
 use keep_shelf::Shelf;
 use keep_sources::{Job, Known, Why};
 use keep_tables::utc_time;
@@ -23,7 +19,7 @@ use std::collections::BTreeMap;
 use std::io;
 
 /// `keep backup`. Where it is tried alone, the book is one over a copy in memory.
-pub(crate) fn backup<S: Shelf>(
+pub fn backup<S: Shelf>(
     run: &Run<'_>,
     book: &mut Book<S>,
     words: &Backup<'_>,

@@ -1,15 +1,12 @@
-use crate::failure::Failure;
-use crate::naming::{meant, pattern_of};
-use crate::outcome::print_rows;
-use crate::run::Run;
 use keep_book::Book;
 use keep_looks::{Unlisted, difference_rows, found_rows, node_rows, snapshot_rows};
 use keep_read::RestoreError;
+use keep_run::{Failure, Run, meant, pattern_of, print_rows};
 use keep_shelf::Shelf;
 use keep_words::Chosen;
 
 /// `keep snapshots`
-pub(crate) fn list_snapshots<S: Shelf>(
+pub fn list_snapshots<S: Shelf>(
     run: &Run<'_>,
     book: &Book<S>,
     chosen: &Chosen<'_>,
@@ -23,7 +20,7 @@ pub(crate) fn list_snapshots<S: Shelf>(
 }
 
 /// `keep ls`
-pub(crate) fn list_nodes<S: Shelf>(
+pub fn list_nodes<S: Shelf>(
     run: &Run<'_>,
     book: &Book<S>,
     snapshot: &str,
@@ -42,7 +39,7 @@ pub(crate) fn list_nodes<S: Shelf>(
 }
 
 /// `keep diff`
-pub(crate) fn compare<S: Shelf>(
+pub fn compare<S: Shelf>(
     run: &Run<'_>,
     book: &Book<S>,
     old: &str,
@@ -64,7 +61,7 @@ pub(crate) fn compare<S: Shelf>(
 }
 
 /// `keep find`
-pub(crate) fn find<S: Shelf>(run: &Run<'_>, book: &Book<S>, pattern: &str) -> Result<(), Failure> {
+pub fn find<S: Shelf>(run: &Run<'_>, book: &Book<S>, pattern: &str) -> Result<(), Failure> {
     let pattern = pattern_of(run, pattern)?;
     let view = book.ledger().view();
     let found = found_rows(run.alloc, &view, book.ledger().history(), &pattern)?;

@@ -1,12 +1,13 @@
-use crate::failure::Failure;
-use crate::outcome::{Way, print_made, settled, tell_outcome};
-use crate::run::Run;
+use crate::made::{print_made, settled};
+use crate::outcome::tell_outcome;
+use crate::parts::Way;
 use keep_acts::{Made, NotDone, Outcome, Pruned};
 use keep_journal::History;
+use keep_run::{Failure, Run};
 
 /// Prints what came of a prune: of the mark where there was something to mark, and of the sweep where it followed. As JSON
 /// it is a list of what was made.
-pub(crate) fn tell_pruned(run: &Run<'_>, history: &History, pruned: Pruned) -> Result<(), Failure> {
+pub fn tell_pruned(run: &Run<'_>, history: &History, pruned: Pruned) -> Result<(), Failure> {
     if run.is_json {
         return list_pruned(run, history, pruned);
     }

@@ -1,5 +1,4 @@
-use crate::failure::Failure;
-use crate::run::Run;
+use keep_run::{Failure, Run};
 use std::fs;
 use std::io::{self, ErrorKind};
 use std::path::Path;

@@ -1,0 +1,8 @@
+//! The command `backup`, of files of the machine.
+#![tactic(auto)]
+
+mod backing;
+mod places;
+mod unchanged;
+
+pub use backing::backup;

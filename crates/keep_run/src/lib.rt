@@ -1,0 +1,17 @@
+//! What each command of `keep` goes by: who runs it over which folder, how it fails, what it prints, and what its words
+//! name.
+#![tactic(auto)]
+
+mod failure;
+mod left;
+mod naming;
+mod printing;
+mod refusing;
+mod run;
+
+pub use failure::{Failure, tell};
+pub use left::{Left, left_value, tell_left};
+pub use naming::{meant, pattern_of, patterns_of};
+pub use printing::{numbers_text, print_rows};
+pub use refusing::refused;
+pub use run::Run;

@@ -1,0 +1,43 @@
+ghost use Rattle.keep_book.specs.Armed.{HasSums};
+
+use keep_book::Book;
+use keep_names::Id;
+use keep_read::{Finding, audit};
+use keep_rows::FindingRow;
+use keep_run::{Failure, Run, print_rows};
+use keep_shelf::Shelf;
+
+/// `keep check`: all that is wrong. There is something where it fails.
+pub fn check<S: Shelf>(run: &Run<'_>, book: &mut Book<S>) -> Result<(), Failure>
+    requires { HasSums book.old }
+{
+    book.hash_all();
+    let findings = audit(run.alloc, &book.ledger().view())?;
+    let mut rows = Vec::new(run.alloc);
+    for finding in &findings {
+        rows.push(row_of(run, *finding)?)?;
+    }
+    if !rows.is_empty() {
+        print_rows(run, rows.as_slice())?;
+        return Err(Failure::Told);
+    }
+    if run.is_json {
+        return print_rows(run, rows.as_slice());
+    }
+    run.print(b"nothing is wrong\n")
+}
+
+/// The row of something that is wrong.
+fn row_of(run: &Run<'_>, finding: Finding) -> Result<FindingRow, Failure> {
+    let (word, id): (&str, Id) = match finding {
+        Finding::WrongName(name) => ("wrong name", name.id),
+        Finding::Unreadable(file) => ("unreadable", file.name.id),
+        Finding::WrongBlob(pack, _) => ("wrong blob in pack", pack),
+        Finding::Broken(snapshot, _) => ("broken snapshot", snapshot),
+    };
+    Ok(FindingRow {
+        word: String::from_str(run.alloc, word)?,
+        id,
+        number: finding.number(),
+    })
+}

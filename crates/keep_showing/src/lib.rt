@@ -1,0 +1,10 @@
+//! The commands that show what a repository has: its snapshots and their files, its events, and what is wrong.
+#![tactic(auto)]
+
+mod checking;
+mod events;
+mod viewing;
+
+pub use checking::check;
+pub use events::history;
+pub use viewing::{compare, find, list_nodes, list_snapshots};
