@@ -8,10 +8,10 @@ use Rattle.keep_operators.specs.declared.order.NoCrew.{NoCrew}
 use Rattle.keep_operators.specs.declared.order.NoCrew.TheVariants as uncrewed
 use Rattle.keep_operators.specs.declared.order.Tally.{Tally}
 use Rattle.keep_script.specs.declared.status.Status.{Status}
-use Rattle.keep_script.specs.declared.status.Status.TheVariants.{Done, ScriptTooLong, WriteFailed}
+use Rattle.keep_script.specs.declared.status.Status.TheVariants.{Done, ScriptTooLong, Untold, WriteFailed}
 use Rattle.keep_options.specs.Option.{OptionsData}
 use Rattle.keep_command.specs.Ending.{ending_uncrewed}
-use Rattle.keep_command.specs.Following.{Crews, Follows, Reports, report_text}
+use Rattle.keep_command.specs.Following.{Crews, Follows, TellsCrew}
 use Rattle.keep_command.specs.Left.{LeftBook, LeftData}
 use Rattle.keep_command.specs.declared.ending.Ending.{Ending}
 use Rattle.keep_command.specs.declared.ending.Ending.TheVariants.{Ran}
@@ -23,25 +23,29 @@ done-short e = cc e
 write-short : Ran WriteFailed ≡ Ran ScriptTooLong → ⊥
 write-short e = cc e
 
+untold-short : Ran Untold ≡ Ran ScriptTooLong → ⊥
+untold-short e = cc e
+
 uncrewed-short : (error : NoCrew) → ending_uncrewed error ≡ Ran ScriptTooLong → ⊥
 uncrewed-short uncrewed.Memory e = cc e
 uncrewed-short uncrewed.NoPass e = cc e
 
 pub crews-short : (takes : LeftData → Type 0) (answers : Result Tally NoCrew → Type 0) (settings : SettingsData) (time : List ℕ) (size : ℕ) (before : OnShelf) (armed : HooksData) (old new : Option (List ℕ)) (ended : Ending)
     → Crews takes answers settings time size before armed old new ended → ended ≡ Ran ScriptTooLong → ⊥
-crews-short takes answers settings time size before armed old new ended (inl h) short = go h.reported
+crews-short takes answers settings time size before armed old new ended (inl h) short = go h.told
   where
-    go : Reports old new (report_text size h.tally.accepted h.tally.length) ended → ⊥
-    go (inl (put, e)) = done-short (sym e ∙ short)
-    go (inr (part, e)) = write-short (sym e ∙ short)
+    go : TellsCrew old new size h.tally ended → ⊥
+    go (inl (inl (put, e))) = done-short (sym e ∙ short)
+    go (inl (inr (part, e))) = write-short (sym e ∙ short)
+    go (inr (fewer, same, e)) = untold-short (sym e ∙ short)
 crews-short takes answers settings time size before armed old new ended (inr none) short = uncrewed-short none.error (sym none.told ∙ short)
 
--- a crew that worked by what it was asked for, and was reported
+-- a crew that worked by what it was asked for, and was told of
 pub crews-worked : (takes : LeftData → Type 0) (answers : Result Tally NoCrew → Type 0) (asked settings : SettingsData) (at time : List ℕ) (many size : ℕ) (before after : OnShelf) (armed kept : HooksData) (tally : Tally) (old new : Option (List ℕ)) (ended : Ending)
     → asked ≡ settings → at ≡ time → many ≡ size → kept ≡ armed → answers (Ok tally)
     → IsCrewed armed.vetoes asked at many before.state after.state tally.accepted tally.length → takes (LeftBook after kept)
-    → Reports old new (report_text size tally.accepted tally.length) ended → Crews takes answers settings time size before armed old new ended
-crews-worked takes answers asked settings at time many size before after armed kept tally old new ended by when of_size stays answered h taken reported = inl (record {
+    → TellsCrew old new size tally ended → Crews takes answers settings time size before armed old new ended
+crews-worked takes answers asked settings at time many size before after armed kept tally old new ended by when of_size stays answered h taken told = inl (record {
   after = after;
   tally = tally;
   answered = answered;
@@ -49,7 +53,7 @@ crews-worked takes answers asked settings at time many size before after armed k
       (subst (λ (t : List ℕ). IsCrewed armed.vetoes asked t size before.state after.state tally.accepted tally.length) when
       (subst (λ (n : ℕ). IsCrewed armed.vetoes asked at n before.state after.state tally.accepted tally.length) of_size h));
   let_go = subst (λ (hooks : HooksData). takes (LeftBook after hooks)) stays taken;
-  reported = reported;
+  told = told;
 })
 
 -- a crew that was refused, with the book handed back as it was

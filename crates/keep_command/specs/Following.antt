@@ -2,7 +2,7 @@
 -- answered to its end without a fault, the crew that the options ask for works. What is left is let go.
 --
 -- What shelves may be had, what is let go and what a crew answers is said by tests: `gives`, `takes` and `answers`.
-use Rattle.std.specs.Prelude.{◌≡◌, ◌≢◌, ◌≤◌, ◌⊎◌, ℕ, List, ◌++◌, Option, Result, Ok, Err, String, codes, string_bytes}
+use Rattle.std.specs.Prelude.{◌≡◌, ◌≢◌, ◌≤◌, ◌<◌, ◌⊎◌, ℕ, List, ◌++◌, Option, Result, Ok, Err, String, codes, string_bytes}
 use Rattle.std.specs.Fmt.{decimal}
 use Rattle.std.specs.Global.{Global}
 use Rattle.std.specs.Io.KnownBytes.{Appends}
@@ -22,7 +22,7 @@ use Rattle.keep_operators.specs.declared.order.NoCrew.{NoCrew}
 use Rattle.keep_operators.specs.declared.order.Tally.{Tally}
 use Rattle.keep_script.specs.Run.{EndsFrom, IsUntouched}
 use Rattle.keep_script.specs.declared.status.Status.{Status}
-use Rattle.keep_script.specs.declared.status.Status.TheVariants.{Done, NoMemory, WriteFailed}
+use Rattle.keep_script.specs.declared.status.Status.TheVariants.{Done, NoMemory, Untold, WriteFailed}
 use Rattle.keep_options.specs.Option.{OptionsData}
 use Rattle.keep_command.specs.Damage.{IsRefusedSo}
 use Rattle.keep_command.specs.Ending.{ending_uncrewed, ending_unopened}
@@ -44,7 +44,16 @@ Reports old new text ended =
     (Appends old new (line text) × (ended ≡ ending.Ran Done))
     ⊎ (AppendsPart old new (line text) × (ended ≡ ending.Ran WriteFailed))
 
--- a crew of this size worked over a book with this ledger and left it with another; that is let go, and reported
+-- nothing is said of a crew of this size: it isn't known of one of its backups whether it is in
+abbrev pub IsHeldBack : (old new : Option (List ℕ)) → (size accepted : ℕ) → Ending → Type 0
+IsHeldBack old new size accepted ended = (accepted < size) × (new ≡ old) × (ended ≡ ending.Ran Untold)
+
+-- what a crew of this size did is reported, or held back
+abbrev pub TellsCrew : (old new : Option (List ℕ)) → (size : ℕ) → Tally → Ending → Type 0
+TellsCrew old new size tally ended =
+    Reports old new (report_text size tally.accepted tally.length) ended ⊎ IsHeldBack old new size tally.accepted ended
+
+-- a crew of this size worked over a book with this ledger and left it with another; that is let go, and told of
 pub record CrewReports (takes : LeftData → Type 0) (answers : Result Tally NoCrew → Type 0) (settings : SettingsData)
     (time : List ℕ) (size : ℕ) (before : OnShelf) (armed : HooksData) (old new : Option (List ℕ)) (ended : Ending) : Type 0 where
   pub after : OnShelf
@@ -52,7 +61,7 @@ pub record CrewReports (takes : LeftData → Type 0) (answers : Result Tally NoC
   pub answered : answers (Ok tally)
   pub crewed : IsCrewed armed.vetoes settings time size before.state after.state tally.accepted tally.length
   pub let_go : takes (LeftBook after armed)
-  pub reported : Reports old new (report_text size tally.accepted tally.length) ended
+  pub told : TellsCrew old new size tally ended
 
 -- no operator worked, since the crew was refused: the book is let go as it was, and nothing is written
 pub record IsUncrewed (takes : LeftData → Type 0) (answers : Result Tally NoCrew → Type 0) (before : OnShelf)

@@ -15,7 +15,7 @@ ghost use Rattle.keep_command.specs.Stored.{stored_view};
 use crate::crew::Crew;
 use crate::ending::Ending;
 use crate::named_shelf::NamedShelf;
-use crate::report::{Report, tell_tally};
+use crate::report::{Report, tell_crew};
 use crate::shelves::Shelves;
 use crate::stored::Stored;
 use crate::terms::Terms;
@@ -204,11 +204,12 @@ where
         WritesLines (W.contents writer.old) (W.contents writer.new) }
 {
     let (left, worked) = crew.work(book, terms.order());
+    let is_told = left.ledger().shelf().is_told();
     shelves.leave(terms.options.folder, left);
     match worked {
         Ok(tally) => {
             let size = terms.options.crew;
-            tell_tally(terms.alloc, Report { size, tally }, writer)
+            tell_crew(terms.alloc, Report { size, tally }, is_told, writer)
         }
         Err(refusal) => Ending::from(refusal),
     }
