@@ -1,5 +1,5 @@
 -- A page that is at most one event behind.
-use Rattle.std.proofs.Common.{◌≡◌, ◌≢◌, ◌∙◌, ◌+◌, List, [], ◌∷◌, ◌++◌, OnErr, Result, Ok, Err, length, ap, arith, inl, inr, length-append, subst, sym}
+use Rattle.std.proofs.Common.{◌≡◌, ◌≢◌, ◌∙◌, ℕ, ◌+◌, List, [], ◌∷◌, ◌++◌, OnErr, Result, Ok, Err, length, ap, arith, inl, inr, length-append, subst, sym}
 use Rattle.logbook.specs.Pages.{Book}
 use Rattle.keep_journal.specs.History.{length_of}
 use Rattle.keep_journal.specs.declared.event.Event.{Event}
@@ -37,9 +37,9 @@ module _ (book : Book) (rules : List Rule) (opening : LedgerState) (es : List Ev
   one_late (inr late) other = record { event = late.0; goes_on = late.1; waits = late.2 }
 
   -- and what lies under the lock is behind by it
-  pub behind : (held : Held) → record { journal = es; published = events_on p } ≡ held → IsUpTo book es p pending
+  pub behind : (held : Held) (failures : ℕ) → record { journal = es; published = events_on p; failures = failures } ≡ held → IsUpTo book es p pending
       → length_of p.sheet.events ≢ length_at opening es → IsHistory rules opening es → IsBehind rules opening held
-  behind held is_held up other history =
+  behind held failures is_held up other history =
       let late = one_late up other in
       subst (IsBehind rules opening) is_held (record { late = late.event; last = late.goes_on; history = history })
 

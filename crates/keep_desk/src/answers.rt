@@ -1,4 +1,8 @@
+ghost use Rattle.std.specs.Prelude.{◌≡◌};
+ghost use Rattle.keep_crew.specs.Answered.{number_in};
+
 use crate::opening::Wanting;
+use keep_ledger::{Refusal, Told};
 
 /// Why a desk isn't opened. The book is handed back.
 #[derive(Drop)]
@@ -10,7 +14,6 @@ pub enum NotOpened<K> {
 }
 
 impl<K> NotOpened<K> {
-    ghost use Rattle.std.specs.Prelude.{◌≡◌};
     ghost use Rattle.keep_desk.specs.Closed.{keeper_of};
 
     /// Hands the book back where this was wanting.
@@ -23,5 +26,16 @@ impl<K> NotOpened<K> {
             Wanting::Memory => NotOpened::Memory(keeper),
             Wanting::Place => NotOpened::NoPass(keeper),
         }
+    }
+}
+
+/// The number of the change that an answer is about, where its event is in.
+pub(crate) fn number_in(reply: &Result<Told, Refusal>) -> Option<u64>
+    ensures { result ≡ number_in reply.now }
+{
+    match reply {
+        Ok(told) => Some(told.number),
+        Err(Refusal::Unsettled(number)) => Some(*number),
+        Err(_) => None,
     }
 }

@@ -147,7 +147,8 @@ impl<B: Naming, R: Wait + Drop, K: Keeper> Desk<B, Locked<B, R, K>> {
         self.locked.lock(rt).change(pass, Request::Empty(n))
     }
 
-    /// Takes the passes in, and gives the book back. Pages that are still read are waited for.
+    /// Takes the passes in, and gives the book back. Pages that are still read are waited for. Where a request was
+    /// answered by `Fault` and the book's shelf can't be told, its event may be in.
     pub fn close(self, passes: Vec<Pass<B>>) -> K
         ensures closed { IsClosed B.allows B.hooks.vetoes B.opening B.parts passes.items (K.ledger result) }
         ensures hooks { K.hooks result ≡ B.hooks }

@@ -9,6 +9,7 @@ mod locked;
 mod opening;
 mod press;
 mod taken_back;
+mod taking_in;
 
 pub use answers::NotOpened;
 pub use crew::Operator;

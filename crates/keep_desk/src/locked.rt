@@ -1,7 +1,6 @@
-ghost use Rattle.std.specs.Prelude.{◌≡◌, ◌+◌, [], ◌∷◌, ◌++◌, ◌⊎◌, IfOk, OnErr, OnOk, false, length, true};
-ghost use Rattle.std.specs.List.{All};
+ghost use Rattle.std.specs.Prelude.{◌≡◌, ◌+◌, [], ◌⊎◌, IfOk, OnErr, OnOk, false, length, true};
 ghost use mathlib.Core.List.{IsPrefix};
-ghost use Rattle.keep_journal.specs.declared.event.Event as the_event;
+ghost use Rattle.keep_ledger.specs.Ends.{failures_after};
 ghost use Rattle.keep_ledger.specs.Sums.{AreSums};
 ghost use Rattle.keep_touch.specs.Taken.{AreTaken};
 ghost use Rattle.keep_book.specs.Cascade.{RefusesOrGives, taken_refusal};
@@ -9,15 +8,16 @@ ghost use Rattle.keep_pages.specs.Histories.{shown_at, state_of, IsHistory, IsLe
 ghost use Rattle.keep_register.specs.Allowed.{MayAsk, MayFollow};
 ghost use Rattle.keep_register.specs.Asked.{WasAsked, counted_after, is_in};
 ghost use Rattle.keep_register.specs.Pages.{events_on};
-ghost use Rattle.keep_crew.specs.Answered.{IsAnswered, Tells, has_event, number_in};
+ghost use Rattle.keep_crew.specs.Answered.{IsAnswered, Tells, has_event};
 ghost use Rattle.keep_desk.specs.Cascade.{IsTakenBack};
-ghost use Rattle.keep_crew.specs.Asking.{count_of};
 ghost use Rattle.keep_crew.specs.Planned.{IsPlanned};
 ghost use Rattle.keep_desk.specs.Closed.{IsClosed};
-ghost use Rattle.keep_desk.specs.Held.{HasStep, IsBehind, Waits};
+ghost use Rattle.keep_desk.specs.Held.{FailuresAfter, IsBehind};
 
-use crate::press::Press;
+use crate::answers::number_in;
+use crate::press::{Press, hand_in};
 use crate::taken_back::TakenBack;
+use crate::taking_in::take_in;
 use keep_change::Planned;
 use keep_crew::{DeskError, Plans};
 use keep_ledger::{Refusal, Request, Told};
@@ -46,9 +46,13 @@ impl<B: Naming, R: Wait + Drop, K: Keeper> Model for Locked<B, R, K> {
 
     ghost Value = { Held };
 
-    ghost view = { λ l. record { journal = l.register; published = events_on l.press.page } };
+    ghost view = { λ l. record {
+      journal = l.register.events;
+      published = events_on l.press.page;
+      failures = l.register.failures;
+    } };
 
-    ghost invariant = { λ l. IsUpTo B.book l.register l.press.page l.press.pending
+    ghost invariant = { λ l. IsUpTo B.book l.register.events l.press.page l.press.pending
         × (l.rest.parts ≡ 0)
         × (l.rest.amount ≡ 0) };
 }
@@ -60,7 +64,7 @@ impl<B: Naming, R: Wait + Drop, K: Keeper> Locked<B, R, K> {
         press: Press<B, R>,
         rest: Share<B>,
     ) -> Locked<B, R, K>
-        requires page { events_on press.page ≡ register }
+        requires page { events_on press.page ≡ register.events }
         requires pending { press.pending ≡ [] }
         requires rest { (rest.parts ≡ 0) × (rest.amount ≡ 0) }
     {
@@ -78,6 +82,7 @@ impl<B: Naming, R: Wait + Drop, K: Keeper> Locked<B, R, K> {
         ensures ok { OnOk result (self.new.published ≡ self.old.journal) }
         ensures err { OnErr result (self.new.published ≡ self.old.published) }
         ensures late { OnErr result (IsBehind B.hooks.vetoes B.opening self.old) }
+        ensures failures { self.new.failures ≡ self.old.failures }
     {
         if self.press.page().length() == self.register.length() {
             return Ok(());
@@ -98,6 +103,7 @@ impl<B: Naming, R: Wait + Drop, K: Keeper> Locked<B, R, K> {
         ensures read { IfOk result (λ _. pass.new.read ≡ pass.new.seen) }
         ensures asked { Tells B.hooks.vetoes B.opening request result self.old.journal pass.new.seen
             ⊎ IsBehind B.hooks.vetoes B.opening self.old }
+        ensures failures { FailuresAfter result self.old.failures self.new.failures }
     {
         if let Err(AllocError) = self.catch_up(pass) {
             return Err(DeskError::Refused(Refusal::Memory));
@@ -163,6 +169,7 @@ impl<B: Naming, R: Wait + Drop, K: Keeper> Locked<B, R, K> {
         ensures seen { OnOk result (pass.new.seen ≡ self.new.journal) }
         ensures same { OnErr result (pass.new.seen ≡ pass.old.seen) }
         ensures late { OnErr result (IsBehind B.hooks.vetoes B.opening self.old) }
+        ensures failures { self.new.failures ≡ self.old.failures }
         ensures within { IsPrefix pass.old.seen self.old.journal }
         ensures begins { IsPrefix pass.old.seen pass.new.seen }
         ensures legal { IsLegal B.hooks.vetoes B.opening pass.new.seen }
@@ -193,6 +200,7 @@ impl<B: Naming, R: Wait + Drop, K: Keeper> Locked<B, R, K> {
         ensures begins { IsPrefix pass.old.seen pass.new.seen }
         ensures legal { IsLegal B.hooks.vetoes B.opening pass.new.seen }
         ensures counted { pass.new.counted ≡ counted_after (has_event result) pass.old.counted }
+        ensures failures { FailuresAfter result self.old.failures self.new.failures }
         ensures told { IfOk result (λ _. pass.new.seen ≡ self.new.journal) }
         ensures read { IfOk result (λ _. pass.new.read ≡ pass.new.seen) }
         ensures published { IfOk result (λ _. self.new.published ≡ self.new.journal) }
@@ -213,6 +221,7 @@ impl<B: Naming, R: Wait + Drop, K: Keeper> Locked<B, R, K> {
     fn show(&mut self, pass: &mut Pass<B>) -> bool
         requires { IsLegal B.hooks.vetoes B.opening pass.old.seen }
         ensures journal { self.new.journal ≡ self.old.journal }
+        ensures failures { self.new.failures ≡ self.old.failures }
         ensures published { result ≡ true → self.new.published ≡ self.new.journal }
         ensures seen { result ≡ true → pass.new.seen ≡ self.new.journal }
         ensures read { result ≡ true → pass.new.read ≡ self.new.journal }
@@ -243,6 +252,7 @@ impl<B: Naming, R: Wait + Drop, K: Keeper> Locked<B, R, K> {
         requires published { self.old.published ≡ self.old.journal }
         requires may { MayFollow B.allows self.old.journal request }
         ensures asked { WasAsked B.hooks.vetoes B.opening request result self.old.journal self.new.journal }
+        ensures failures { self.new.failures ≡ failures_after result self.old.failures }
         ensures published { self.new.published ≡ self.old.published }
         ensures seen { pass.new.seen ≡ pass.old.seen }
         ensures counted { pass.new.counted ≡ counted_after (is_in result) pass.old.counted }
@@ -273,54 +283,5 @@ impl<B: Naming, R: Wait + Drop, K: Keeper> Locked<B, R, K> {
         } = self;
         take_in(&mut register, passes, &mut rest);
         register.close(&mut rest)
-    }
-}
-
-/// The number of the change that an answer is about, where its event is in.
-fn number_in(reply: &Result<Told, Refusal>) -> Option<u64>
-    ensures { result ≡ number_in reply.now }
-{
-    match reply {
-        Ok(told) => Some(told.number),
-        Err(Refusal::Unsettled(number)) => Some(*number),
-        Err(_) => None,
-    }
-}
-
-/// Sees to it that the step of the last event waits to be published.
-fn hand_in<B: Naming, R: Wait + Drop, K: Keeper>(
-    alloc: Global,
-    register: &Register<B, K>,
-    press: &mut Press<B, R>,
-) -> Result<(), AllocError>
-    ensures page { press.new.page ≡ press.old.page }
-    ensures ready { (event : the_event.Event) → events_on press.old.page ++ event ∷ [] ≡ register.now
-        → Waits B.book register.now event press.old.pending
-        → OnOk result (HasStep B.book register.now event press.new.pending) }
-    ensures same { OnErr result (press.new.pending ≡ press.old.pending) }
-{
-    if press.is_waiting() {
-        return Ok(());
-    }
-    let step = register.last_step(alloc)?;
-    press.append(step)?;
-    Ok(())
-}
-
-/// Takes the passes in: what each has seen begins the list, and their counts come together.
-fn take_in<B: Naming, K: Keeper>(
-    register: &mut Register<B, K>,
-    mut passes: Vec<Pass<B>>,
-    rest: &mut Share<B>,
-)
-    requires { (rest.old.parts ≡ 0) × (rest.old.amount ≡ 0) }
-    ensures same { register.new ≡ register.old }
-    ensures begins { All (λ p. IsPrefix p.seen register.old) passes.items }
-    ensures amount { rest.new.amount ≡ count_of passes.items }
-    ensures parts { rest.new.parts ≡ length passes.items }
-{
-    while let Some(pass) = passes.pop() {
-        let share = pass.close(register);
-        rest.merge(share);
     }
 }

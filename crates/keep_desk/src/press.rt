@@ -1,8 +1,10 @@
 ghost use Rattle.std.specs.Prelude.{◌≡◌, ◌^◌, ◌<◌, ◌↔◌, [], ◌∷◌, ◌++◌, drop, fold, length, IfOk, IsTrue, OnErr, OnOk};
-ghost use Rattle.keep_register.specs.Pages.{IsPage, page_after};
+ghost use Rattle.keep_journal.specs.declared.event.Event as the_event;
+ghost use Rattle.keep_register.specs.Pages.{IsPage, events_on, page_after};
+ghost use Rattle.keep_desk.specs.Held.{HasStep, Waits};
 
 use core::mem::replace_with;
-use keep_register::{Naming, Page, Published, Shows, Step};
+use keep_register::{Keeper, Naming, Page, Published, Register, Shows, Step};
 use left_right::reader::Reader;
 use left_right::writer::Writer;
 use std::alloc::{AllocError, Global};
@@ -117,4 +119,24 @@ impl<B: Naming, R: Wait + Drop> Drop for Press<B, R> {
         let Self { writer, rt } = self;
         drop(writer.take(&rt));
     }
+}
+
+/// Sees to it that the step of the last event waits to be published.
+pub(crate) fn hand_in<B: Naming, R: Wait + Drop, K: Keeper>(
+    alloc: Global,
+    register: &Register<B, K>,
+    press: &mut Press<B, R>,
+) -> Result<(), AllocError>
+    ensures page { press.new.page ≡ press.old.page }
+    ensures ready { (event : the_event.Event) → events_on press.old.page ++ event ∷ [] ≡ register.now.events
+        → Waits B.book register.now.events event press.old.pending
+        → OnOk result (HasStep B.book register.now.events event press.new.pending) }
+    ensures same { OnErr result (press.new.pending ≡ press.old.pending) }
+{
+    if press.is_waiting() {
+        return Ok(());
+    }
+    let step = register.last_step(alloc)?;
+    press.append(step)?;
+    Ok(())
 }

@@ -1,5 +1,6 @@
 ghost use Rattle.std.specs.Prelude.{◌≡◌, [], false, true};
 ghost use mathlib.Core.List.{IsPrefix};
+ghost use Rattle.keep_ledger.specs.Ends.{failures_after};
 ghost use Rattle.keep_chronicle.specs.Chronicle.{events_of};
 ghost use Rattle.keep_pages.specs.Histories.{length_at, shown_at, IsHistory, IsLegal};
 ghost use Rattle.keep_register.specs.Allowed.{MayFollow};
@@ -150,14 +151,14 @@ impl<B: Naming> Pass<B> {
     /// What it has seen begins the list.
     pub fn precedes<K: Keeper>(&self, register: &mut Register<B, K>)
         ensures same { register.new ≡ register.old }
-        ensures begins { IsPrefix self.now.seen register.old }
+        ensures begins { IsPrefix self.now.seen register.old.events }
     {
         register.covers(&self.sight);
     }
 
     /// Is told of all events.
     pub fn learn<K: Keeper>(&mut self, register: &mut Register<B, K>)
-        ensures seen { self.new.seen ≡ register.old }
+        ensures seen { self.new.seen ≡ register.old.events }
         ensures same { register.new ≡ register.old }
         ensures begins { IsPrefix self.old.seen self.new.seen }
         ensures counted { self.new.counted ≡ self.old.counted }
@@ -171,7 +172,7 @@ impl<B: Naming> Pass<B> {
 
     /// Takes the page that is published, if all events of the list stand on it, and leaves it again. Answers whether they do.
     pub fn read_all<K: Keeper>(&mut self, register: &mut Register<B, K>) -> bool
-        ensures all { result ≡ true → (self.new.seen ≡ register.old) × (self.new.read ≡ register.old) }
+        ensures all { result ≡ true → (self.new.seen ≡ register.old.events) × (self.new.read ≡ register.old.events) }
         ensures kept { result ≡ false → self.new.seen ≡ self.old.seen }
         ensures same { register.new ≡ register.old }
         ensures begins { IsPrefix self.old.seen self.new.seen }
@@ -199,7 +200,7 @@ impl<B: Naming> Pass<B> {
     ) -> bool
         requires none { self.old.shown ≡ false }
         requires page { IsPage B.book B.hooks.vetoes B.opening reading.part.value }
-        ensures all { result ≡ true → (self.new.seen ≡ register.old) × (self.new.read ≡ register.old) }
+        ensures all { result ≡ true → (self.new.seen ≡ register.old.events) × (self.new.read ≡ register.old.events) }
         ensures kept { result ≡ false → self.new.seen ≡ self.old.seen }
         ensures same { register.new ≡ register.old }
         ensures begins { IsPrefix self.old.seen self.new.seen }
@@ -227,9 +228,10 @@ impl<B: Naming> Pass<B> {
         register: &mut Register<B, K>,
         request: Request,
     ) -> Result<Told, Refusal>
-        requires { MayFollow B.allows register.old request }
-        ensures asked { WasAsked B.hooks.vetoes B.opening request result register.old register.new }
-        ensures legal { IsLegal B.hooks.vetoes B.opening register.new }
+        requires { MayFollow B.allows register.old.events request }
+        ensures asked { WasAsked B.hooks.vetoes B.opening request result register.old.events register.new.events }
+        ensures failures { register.new.failures ≡ failures_after result register.old.failures }
+        ensures legal { IsLegal B.hooks.vetoes B.opening register.new.events }
         ensures seen { self.new.seen ≡ self.old.seen }
         ensures counted { self.new.counted ≡ counted_after (is_in result) self.old.counted }
     {
@@ -239,7 +241,7 @@ impl<B: Naming> Pass<B> {
     /// Gives back its part of the counts. What it has seen is a beginning of all.
     pub fn close<K: Keeper>(self, register: &mut Register<B, K>) -> Share<B>
         ensures same { register.new ≡ register.old }
-        ensures begins { IsPrefix self.seen register.old }
+        ensures begins { IsPrefix self.seen register.old.events }
         ensures amount { result.amount ≡ self.counted }
         ensures parts { result.parts ≡ 1 }
     {

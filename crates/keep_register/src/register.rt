@@ -2,6 +2,7 @@ ghost use Rattle.std.specs.Prelude.{◌≡◌, ◌<◌, ◌≤◌, List, [], ◌
 ghost use mathlib.Core.List.{IsPrefix};
 ghost use Rattle.keep_journal.specs.Opening.{IsOpen};
 ghost use Rattle.keep_journal.specs.declared.event.Event as the_event;
+ghost use Rattle.keep_ledger.specs.Ends.{failures_after};
 ghost use Rattle.keep_ledger.specs.Sums.{AreSums};
 ghost use Rattle.keep_touch.specs.Taken.{AreTaken};
 ghost use Rattle.keep_book.specs.Cascade.{RefusesOrGives, taken_refusal};
@@ -31,15 +32,15 @@ pub struct Register<B: Naming, K: Keeper> {
 }
 
 impl<B: Naming, K: Keeper> Model for Register<B, K> {
-    ghost use Rattle.std.specs.Prelude.{◌≡◌, List, [], length};
-    ghost use Rattle.keep_journal.specs.declared.event.Event.{Event};
+    ghost use Rattle.std.specs.Prelude.{◌≡◌, [], length};
     ghost use Rattle.keep_ledger.specs.Sums.{AreSums};
     ghost use Rattle.keep_pages.specs.Histories.{state_of, IsHistory};
     ghost use Rattle.keep_register.specs.Allowed.{AreAllowed};
+    ghost use Rattle.keep_register.specs.Registered.{Registered};
 
-    ghost Value = { List Event };
+    ghost Value = { Registered };
 
-    ghost view = { λ r. r.chronicle };
+    ghost view = { λ r. record { events = r.chronicle; failures = K.failures r.keeper } };
 
     ghost invariant = { λ r. (K.ledger r.keeper ≡ state_of B.opening r.chronicle)
         × IsHistory B.hooks.vetoes B.opening r.chronicle
@@ -58,7 +59,8 @@ impl<B: Naming, K: Keeper> Register<B, K> {
         requires hooks { K.hooks keeper ≡ B.hooks }
         requires sums { AreSums (K.ledger keeper).events (K.hooks keeper).watches (K.tallies keeper) }
         requires counts { counts.total ≡ 0 }
-        ensures { result ≡ [] }
+        ensures none { result.events ≡ [] }
+        ensures failures { result.failures ≡ K.failures keeper }
     {
         Register {
             keeper,
@@ -69,8 +71,8 @@ impl<B: Naming, K: Keeper> Register<B, K> {
 
     /// The number of the last event.
     pub fn length(&self) -> u64
-        ensures length { result ≡ length_at B.opening self.now }
-        ensures history { IsHistory B.hooks.vetoes B.opening self.now }
+        ensures length { result ≡ length_at B.opening self.now.events }
+        ensures history { IsHistory B.hooks.vetoes B.opening self.now.events }
     {
         self.keeper.history().length()
     }
@@ -78,7 +80,7 @@ impl<B: Naming, K: Keeper> Register<B, K> {
     /// The token of the list.
     pub fn sight(&self) -> Sight
         ensures book { result.book ≡ B.book }
-        ensures all { events_of result.log ≡ self.now }
+        ensures all { events_of result.log ≡ self.now.events }
     {
         self.chronicle.sight()
     }
@@ -87,16 +89,16 @@ impl<B: Naming, K: Keeper> Register<B, K> {
     pub fn covers(&mut self, seen: &Sight)
         requires { seen.now.book ≡ B.book }
         ensures same { self.new ≡ self.old }
-        ensures begins { IsPrefix (events_of seen.now.log) self.new }
+        ensures begins { IsPrefix (events_of seen.now.log) self.new.events }
     {
         self.chronicle.covers(seen);
     }
 
     /// The numbers of the changes that have to be taken back with change n after the list, from the greatest down.
     pub fn taken(&self, n: u64) -> Result<Vec<u64>, Refusal>
-        ensures taken { let events = (state_of B.opening self.now).events in
+        ensures taken { let events = (state_of B.opening self.now.events).events in
             RefusesOrGives (taken_refusal events n) (λ numbers. AreTaken events n numbers.items) result }
-        ensures history { IsHistory B.hooks.vetoes B.opening self.now }
+        ensures history { IsHistory B.hooks.vetoes B.opening self.now.events }
     {
         self.keeper.taken(n)
     }
@@ -104,9 +106,10 @@ impl<B: Naming, K: Keeper> Register<B, K> {
     /// Asks the keeper. An event that is in, settled or not, is written and counted.
     pub fn ask(&mut self, share: &mut Share<B>, request: Request) -> Result<Told, Refusal>
         requires parts { 0 < share.old.parts }
-        requires may { MayFollow B.allows self.old request }
-        ensures asked { WasAsked B.hooks.vetoes B.opening request result self.old self.new }
-        ensures legal { IsLegal B.hooks.vetoes B.opening self.new }
+        requires may { MayFollow B.allows self.old.events request }
+        ensures asked { WasAsked B.hooks.vetoes B.opening request result self.old.events self.new.events }
+        ensures failures { self.new.failures ≡ failures_after result self.old.failures }
+        ensures legal { IsLegal B.hooks.vetoes B.opening self.new.events }
         ensures counted { share.new.amount ≡ counted_after (is_in result) share.old.amount }
         ensures parts { share.new.parts ≡ share.old.parts }
     {
@@ -120,8 +123,8 @@ impl<B: Naming, K: Keeper> Register<B, K> {
 
     /// The step to the page of the whole list.
     pub fn last_step(&self, alloc: Global) -> Result<Step, AllocError>
-        ensures { (before : List the_event.Event) (event : the_event.Event) → self.now ≡ before ++ event ∷ []
-            → IfOk result (IsStep B.book self.now event) }
+        ensures { (before : List the_event.Event) (event : the_event.Event) → self.now.events ≡ before ++ event ∷ []
+            → IfOk result (IsStep B.book self.now.events event) }
     {
         let last = last_event(alloc, self.keeper.history(), self.keeper.live())?;
         let Some(event) = last else {
@@ -132,13 +135,13 @@ impl<B: Naming, K: Keeper> Register<B, K> {
 
     /// The keeper, and that the share of all that was counted tells how many events the list has.
     pub fn close(self, all: &mut Share<B>) -> K
-        ensures ledger { K.ledger result ≡ state_of B.opening self }
-        ensures history { IsHistory B.hooks.vetoes B.opening self }
-        ensures allowed { AreAllowed B.allows B.hooks.vetoes B.opening [] self }
+        ensures ledger { K.ledger result ≡ state_of B.opening self.events }
+        ensures history { IsHistory B.hooks.vetoes B.opening self.events }
+        ensures allowed { AreAllowed B.allows B.hooks.vetoes B.opening [] self.events }
         ensures hooks { K.hooks result ≡ B.hooks }
         ensures sums { AreSums (K.ledger result).events (K.hooks result).watches (K.tallies result) }
-        ensures least { all.old.amount ≤ length self }
-        ensures whole { all.old.parts ≡ B.parts → length self ≡ all.old.amount }
+        ensures least { all.old.amount ≤ length self.events }
+        ensures whole { all.old.parts ≡ B.parts → length self.events ≡ all.old.amount }
     {
         let Register {
             keeper,

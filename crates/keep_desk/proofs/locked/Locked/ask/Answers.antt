@@ -8,12 +8,12 @@ use Rattle.keep_desk.proofs.locked.Locked.ask.Goals as goal
 pub invariant_of-self : goal.invariant_of-self
 invariant_of-self g c =
     let book = g.B.Chronicled.book in
-    let on = c.self.inside.register in
+    let on = c.self.inside.register.events in
     let p = c.self.inside.press.page in
     let pending = c.self.inside.press.pending in
     let all : events_on p ≡ on =
     ap (λ (h : Held). h.published) c.self.view_is ∙ (c.requires.published ∙ sym (ap (λ (h : Held). h.journal) c.self.view_is)) in (
-      up_to g.B.Naming.hooks.vetoes g.B.Naming.opening c.args.request on c.ask.new.register book p pending all
+      up_to g.B.Naming.hooks.vetoes g.B.Naming.opening c.args.request on c.ask.new.register.events book p pending all
           (nothing_waits book on p pending c.self.invariant.0 all) c.ask.result c.ask.ensures.asked,
       c.self.invariant.1,
       c.self.invariant.2,

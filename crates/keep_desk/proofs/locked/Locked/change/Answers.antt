@@ -1,7 +1,8 @@
-use Rattle.std.proofs.Common.{List, inl, inr, subst}
+use Rattle.std.proofs.Common.{ℕ, List, inl, inr, subst}
 use mathlib.Core.List.{IsPrefix}
 use Rattle.keep_journal.specs.declared.event.Event.{Event}
 use Rattle.keep_crew.specs.Answered.{Tells}
+use Rattle.keep_desk.specs.Held.{FailuresAfter}
 use Rattle.keep_desk.proofs.Answering.{nothing_asked}
 use Rattle.keep_desk.proofs.locked.Locked.change.Goals as goal
 
@@ -31,3 +32,7 @@ pub returns-clause-asked : goal.returns-clause-asked
 returns-clause-asked g c =
     inl (subst (λ (es : List Event). Tells g.B.Naming.hooks.vetoes g.B.Naming.opening c.args.request c.change_once.result es c.change_once.new.pass.seen)
     c.catch_up.ensures.journal c.change_once.ensures.tells)
+
+pub returns-clause-failures : goal.returns-clause-failures
+returns-clause-failures g c =
+    subst (λ (n : ℕ). FailuresAfter c.change_once.result n c.change_once.new.self.failures) c.catch_up.ensures.failures c.change_once.ensures.failures

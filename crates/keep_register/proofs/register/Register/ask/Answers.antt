@@ -1,9 +1,11 @@
-use Rattle.std.proofs.Common.{◌≡◌, ◌+◌, ◌++◌, Bool, true, false, List, length, ap, refl, sym, ◌∙◌, subst, MatchBool}
+use Rattle.std.proofs.Common.{◌≡◌, ℕ, ◌+◌, ◌++◌, Bool, true, false, List, length, ap, refl, sym, ◌∙◌, subst, MatchBool}
 use Rattle.keep_journal.specs.Journal.{Journal}
 use Rattle.keep_journal.specs.declared.event.Event.{Event}
+use Rattle.keep_ledger.specs.Ends.{failures_after}
 use Rattle.keep_chronicle.specs.Chronicle.{last_events}
 use Rattle.keep_register.specs.Allowed.{MayFollow}
 use Rattle.keep_register.specs.Asked.{WasAsked, counted_after, is_in}
+use Rattle.keep_register.specs.Registered.{Registered}
 use Rattle.keep_register.proofs.Allowing.{allowed_after}
 use Rattle.keep_register.proofs.Recording.{recorded}
 use Rattle.keep_register.proofs.register.Register.ask.Goals as goal
@@ -27,7 +29,7 @@ invariant_of-self g c =
       c.add.ensures.total
           ∙ (ap (λ n. n + 1) c.self.invariant.4 ∙ sym (r.counted ∙ ap (λ v. counted_after v (length on)) yes)),
       allowed_after g.B.Naming.allows g.B.Naming.hooks.vetoes g.B.Naming.opening c.args.request on now
-          (subst (λ (es : List Event). MayFollow g.B.Naming.allows es c.args.request) (sym c.self.view_is) c.requires.may) c.self.invariant.5
+          (subst (λ (es : List Event). MayFollow g.B.Naming.allows es c.args.request) (sym (ap (λ (r : Registered). r.events) c.self.view_is)) c.requires.may) c.self.invariant.5
           c.ask-reply.result r.asked,
     )
 
@@ -44,7 +46,7 @@ returns-then-event_is_in-clause-asked g c =
     c.ask-reply.ensures.replies c.ask-reply.ensures.ledger c.ask-reply.ensures.unsettled
     (subst (λ (v : Bool). MatchBool v (now ≡ on ++ last_events after.events) (now ≡ on)) (sym yes) written) in
     subst (λ (es : List Event). WasAsked g.B.Naming.hooks.vetoes g.B.Naming.opening c.args.request c.ask-reply.result es now)
-    c.self.view_is r.asked
+    (ap (λ (r : Registered). r.events) c.self.view_is) r.asked
 
 pub returns-then-event_is_in-clause-legal : goal.returns-then-event_is_in-clause-legal
 returns-then-event_is_in-clause-legal g c =
@@ -70,4 +72,14 @@ returns-else-event_is_in-clause-asked g c =
     c.ask-reply.ensures.replies c.ask-reply.ensures.ledger c.ask-reply.ensures.unsettled
     (subst (λ (v : Bool). MatchBool v (on ≡ on ++ last_events after.events) (on ≡ on)) (sym no) refl) in
     subst (λ (es : List Event). WasAsked g.B.Naming.hooks.vetoes g.B.Naming.opening c.args.request c.ask-reply.result es on)
-    c.self.view_is r.asked
+    (ap (λ (r : Registered). r.events) c.self.view_is) r.asked
+
+pub returns-then-event_is_in-clause-failures : goal.returns-then-event_is_in-clause-failures
+returns-then-event_is_in-clause-failures g c =
+    c.ask-reply.ensures.failures
+    ∙ ap (λ (n : ℕ). failures_after c.ask-reply.result n) (ap (λ (r : Registered). r.failures) c.self.view_is)
+
+pub returns-else-event_is_in-clause-failures : goal.returns-else-event_is_in-clause-failures
+returns-else-event_is_in-clause-failures g c =
+    c.ask-reply.ensures.failures
+    ∙ ap (λ (n : ℕ). failures_after c.ask-reply.result n) (ap (λ (r : Registered). r.failures) c.self.view_is)
