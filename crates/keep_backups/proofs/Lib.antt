@@ -1,1 +1,6 @@
+pub mod Added
+pub mod GivenSo
+pub mod Kept
 pub mod Storing
+pub mod Tied
+pub mod Written

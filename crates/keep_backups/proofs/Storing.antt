@@ -1,9 +1,9 @@
 -- Parts that are committed.
-use Rattle.std.proofs.Common.{◌≡◌, ◌≤◌, ℕ, List, Option, None, Some, Result, Ok, Err, OnOk, IfErr, IfOk, IfSome, option_map, sym, subst, rules}
+use Rattle.std.proofs.Common.{◌≡◌, ◌≤◌, ℕ, List, Option, None, Some, Result, Ok, Err, OnOk, IfErr, IfOk, IfSome, option_map, append-nil, refl, ap, ◌∙◌, sym, subst, rules}
 use Rattle.std.proofs.Math.Logic.{∥∥₁_elim, ∥∥₁_map, ∥∥₁_prop}
 use Rattle.keep_acts.specs.Shown.{shown_by}
 use Rattle.keep_acts.specs.declared.made.Made.{Made}
-use Rattle.keep_archive.specs.Archive.{ArchiveData}
+use Rattle.keep_archive.specs.Archive.{ArchiveData, archive_view}
 use Rattle.keep_archive.specs.Plans.{last_change, of_open, part_change}
 use Rattle.keep_archive.specs.Steps.{Leaves, LetsGo, never}
 use Rattle.keep_backup.specs.Backup.{FactsData}
@@ -16,9 +16,14 @@ use Rattle.keep_plan.specs.declared.plan_error.PlanError.TheVariants.{Memory}
 use Rattle.keep_ledger.specs.LedgerState.{LedgerState}
 use Rattle.keep_ledger.specs.Made.{with_event}
 use Rattle.keep_ledger.specs.declared.reply.Refusal.{Refusal}
+use Rattle.keep_sources.specs.Told.{Told}
+use Rattle.keep_sources.specs.declared.job.Job.{Job}
 use Rattle.keep_backups.specs.Holding.{held_of}
 use Rattle.keep_backups.specs.Parts.{AddsSnapshot, BacksUp, IsLastOn, IsPartOn, StoresParts, none, one_more}
+use Rattle.keep_backups.specs.Taken.{kept_in, taken_in, taken_of}
+use Rattle.keep_backups.specs.Trees.{IsTreeOf}
 use Rattle.keep_backups.specs.declared.backed_up.BackedUp.{BackedUp}
+use Rattle.keep_backups.specs.declared.intake.Filled.{Filled}
 use Rattle.keep_backups.specs.declared.not_backed_up.NotBackedUp.{NotBackedUp}
 
 -- nothing was committed yet
@@ -51,23 +56,40 @@ kept before old new planned (Ok made) is same parts part =
 kept before old new planned (Err refusal) is same parts part =
     subst (λ (s : LedgerState). ∥ StoresParts before s ∥₁) (sym same) parts
 
--- what an open archive plans last is of it
+-- what an archive plans last is of it, and it is open
 pub is_last : (archive : Option ArchiveData) (now : LedgerState) (facts : FactsData) (tags : List (List ℕ)) (planned : Planned)
-    → of_open (last_change (shown_by now).repo facts tags) archive ≡ Ok planned.change
-    → planned.seen ≡ length_of now.events → IsLastOn now facts tags planned
-is_last None now facts tags planned is seen = search (rules, is)
-is_last (Some a) now facts tags planned is seen = record { archive = a; last = is; seen = seen }
+    → of_open (last_change (shown_by now).repo facts tags) archive ≡ Ok planned.change → planned.seen ≡ length_of now.events
+    → (a : ArchiveData) × (archive ≡ Some a) × IsLastOn now a facts tags planned
+is_last None now facts tags planned is seen = cc is
+is_last (Some a) now facts tags planned is seen = (a, refl, record { last = is; seen = seen })
 
--- the last change follows the parts
-pub backs_up : (before stored after : LedgerState) (facts : FactsData) (tags : List (List ℕ)) (result : Result BackedUp NotBackedUp)
-    → ∥ StoresParts before stored ∥₁ → IfOk result (λ _. AddsSnapshot stored after facts tags)
-    → IfOk result (λ _. ∥ BacksUp before after facts tags ∥₁)
-backs_up before stored after facts tags (Ok backed_up) parts adds =
-    ∥∥₁_map parts (λ all. record { stored = stored; parts = all; adds = adds })
-backs_up before stored after facts tags (Err cause) parts adds = tt
+-- the last change follows the parts, and its snapshot has the tree of what was taken
+pub backs_up : (told : Told) (job : Job) (cut : ℕ) (facts : FactsData) (tags : List (List ℕ)) (before stored after : LedgerState) (filled : Filled)
+    (result : Result BackedUp NotBackedUp) → ∥ StoresParts before stored ∥₁
+    → IfSome (archive_view filled.archive) (λ archive. IsTreeOf told job cut (kept_in archive.blobs) archive.place.nodes filled.skipped.items)
+    → IfOk result (λ _. (archive : ArchiveData) × (archive_view filled.archive ≡ Some archive) × AddsSnapshot stored after archive facts tags)
+    → IfOk result (λ done. done.skipped ≡ filled.skipped)
+    → IfOk result (λ done. ∥ BacksUp told job cut facts tags before after done.skipped.items ∥₁)
+backs_up told job cut facts tags before stored after filled (Ok done) parts tree (archive, is, adds) same =
+    let here : IsTreeOf told job cut (kept_in archive.blobs) archive.place.nodes filled.skipped.items =
+    subst (λ (view : Option ArchiveData). IfSome view (λ a. IsTreeOf told job cut (kept_in a.blobs) a.place.nodes filled.skipped.items)) is tree in
+    ∥∥₁_map parts (λ all. record {
+      stored = stored;
+      parts = all;
+      archive = archive;
+      tree = subst (λ skipped. IsTreeOf told job cut (kept_in archive.blobs) archive.place.nodes skipped.items) (sym same) here;
+      adds = adds;
+    })
+backs_up told job cut facts tags before stored after filled (Err cause) parts tree adds same = tt
 
 -- nothing is held once it was let go
 pub none_held : (old new : Option ArchiveData) (done : Unit {0}) → Leaves never LetsGo old new (Ok done) → held_of new ≤ 67108864
 none_held None new done leaves = absurd leaves
 none_held (Some old) new done leaves =
     search (rules, leaves)
+
+-- what was given stays so when it is let go
+pub still_taken : (old new : Option ArchiveData) (done : Unit {0}) → Leaves never LetsGo old new (Ok done) → taken_of new ≡ taken_of old
+still_taken None new done leaves = absurd leaves
+still_taken (Some old) new done (free, made, is, gone) =
+    ap taken_of is ∙ ap taken_in gone ∙ (λ i. record { place = old.place; begun = old.begun; kept = (append-nil (kept_in old.blobs)) i })

@@ -2,3 +2,5 @@ pub mod Holding
 pub mod Known
 pub mod Parts
 pub mod Sighted
+pub mod Taken
+pub mod Trees

@@ -9,6 +9,11 @@ use Rattle.keep_journal.specs.History.{length_of}
 use Rattle.keep_journal.specs.declared.request.Request.TheVariants.{Commit}
 use Rattle.keep_ledger.specs.LedgerState.{LedgerState}
 use Rattle.keep_ledger.specs.Made.{with_event}
+use Rattle.keep_sources.specs.Told.{Told}
+use Rattle.keep_sources.specs.declared.job.Job.{Job}
+use Rattle.keep_sources.specs.declared.skipped.Skipped.{Skipped}
+use Rattle.keep_backups.specs.Taken.{kept_in}
+use Rattle.keep_backups.specs.Trees.{IsTreeOf}
 
 -- it is planned on what the book shows, and stores just what an archive holds
 pub record IsPartOn (now : LedgerState) (planned : Planned) : Type 0 where
@@ -22,20 +27,26 @@ pub data StoresParts : LedgerState → LedgerState → Type 0 where
   one_more : (before middle : LedgerState) (planned : Planned) → StoresParts before middle → IsPartOn middle planned
       → StoresParts before (with_event middle (Commit planned))
 
--- it is planned on what the book shows, and adds the snapshot of an archive, with these facts and tags
-pub record IsLastOn (now : LedgerState) (facts : FactsData) (tags : List (List ℕ)) (planned : Planned) : Type 0 where
-  pub archive : ArchiveData
+-- it is planned on what the book shows, and adds the snapshot of this archive, with these facts and tags
+pub record IsLastOn (now : LedgerState) (archive : ArchiveData) (facts : FactsData) (tags : List (List ℕ)) (planned : Planned)
+    : Type 0 where
   pub last : last_change (shown_by now).repo facts tags archive ≡ Ok planned.change
   pub seen : planned.seen ≡ length_of now.events
 
 -- just that change is committed
-pub record AddsSnapshot (before after : LedgerState) (facts : FactsData) (tags : List (List ℕ)) : Type 0 where
+pub record AddsSnapshot (before after : LedgerState) (archive : ArchiveData) (facts : FactsData) (tags : List (List ℕ))
+    : Type 0 where
   pub planned : Planned
-  pub last : IsLastOn before facts tags planned
+  pub last : IsLastOn before archive facts tags planned
   pub made : after ≡ with_event before (Commit planned)
 
--- parts are committed one after another, and then the change that adds the snapshot
-pub record BacksUp (before after : LedgerState) (facts : FactsData) (tags : List (List ℕ)) : Type 0 where
+-- Parts are committed one after another, and then the change that adds the snapshot. Its tree has just the nodes of what
+-- a walk over the source met, and what isn't among them is named. Each blob that a node names is one that this change
+-- asks for, or stores where it has no place.
+pub record BacksUp (told : Told) (job : Job) (cut : ℕ) (facts : FactsData) (tags : List (List ℕ)) (before after : LedgerState)
+    (skips : List Skipped) : Type 0 where
   pub stored : LedgerState
   pub parts : StoresParts before stored
-  pub adds : AddsSnapshot stored after facts tags
+  pub archive : ArchiveData
+  pub tree : IsTreeOf told job cut (kept_in archive.blobs) archive.place.nodes skips
+  pub adds : AddsSnapshot stored after archive facts tags

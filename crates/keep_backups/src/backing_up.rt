@@ -1,9 +1,13 @@
-ghost use Rattle.std.specs.Prelude.{◌≡◌, IfErr, IfOk, map, string_bytes};
+ghost use Rattle.std.specs.Prelude.{◌≡◌, IfErr, IfOk, IfSome, Some, map, string_bytes};
+ghost use Rattle.keep_archive.specs.Archive.{ArchiveData, archive_view};
 ghost use Rattle.keep_backup.specs.Backup.{facts_view};
 ghost use Rattle.keep_book.specs.Armed.{HasSums, ledger_of};
 ghost use Rattle.keep_ledger.specs.Sums.{AreSums};
-ghost use Rattle.keep_sources.specs.Took.{skip_view};
+ghost use Rattle.keep_sources.specs.Took.{TookAll, skip_view};
+ghost use Rattle.keep_sources.specs.Walked.{archive_of, skipped_of};
 ghost use Rattle.keep_backups.specs.Parts.{AddsSnapshot, BacksUp, StoresParts};
+ghost use Rattle.keep_backups.specs.Taken.{Gives, kept_in, taken_of};
+ghost use Rattle.keep_backups.specs.Trees.{IsTreeOf};
 
 use crate::backed_up::BackedUp;
 use crate::begun::Begun;
@@ -28,7 +32,8 @@ pub struct Wish<'a> {
 }
 
 /// Backs up what the job asks for of the source: parts of 64 MiB and more are committed one after another, and then the
-/// change that adds the snapshot, with these facts and tags.
+/// change that adds the snapshot, with these facts and tags. What isn't in the snapshot's tree, or not as it was seen, is
+/// named.
 ///
 /// Where no snapshot is added the parts that were committed stay.
 pub fn back_up<S: Shelf, R: Source>(
@@ -38,14 +43,16 @@ pub fn back_up<S: Shelf, R: Source>(
     wish: &Wish<'_>,
 ) -> Result<BackedUp, NotBackedUp>
     requires { HasSums book.old }
-    ensures backed_up { IfOk result (λ _. ∥ BacksUp (ledger_of book.old) (ledger_of book.new)
-        (facts_view wish.now.facts.now) (map string_bytes wish.now.tags.now) ∥₁) }
+    ensures backed_up { IfOk result (λ done. ∥ BacksUp R.told wish.now.job.now wish.now.cut.bytes
+        (facts_view wish.now.facts.now) (map string_bytes wish.now.tags.now)
+        (ledger_of book.old) (ledger_of book.new) done.skipped.items ∥₁) }
     ensures refused { IfErr result (λ _. ∥ StoresParts (ledger_of book.old) (ledger_of book.new) ∥₁) }
     ensures sums { HasSums book.new }
 {
     let (given, filled) = filled::<Brand, Book<S>, R>(alloc, Given { book }, source, wish);
     let Given { book } = given;
-    add_snapshot(alloc, book, filled?, wish)
+    let filled = filled?;
+    add_snapshot(alloc, book, filled, wish)
 }
 
 /// Takes what the job asks for, and commits parts of it. It hands the book back.
@@ -61,6 +68,9 @@ fn filled<'b, B: Begun, K: Keeps, R: Source>(
     ensures same_reference { result.0.book.ghost_name ≡ given.entry.book.ghost_name }
     ensures sums { let k = result.0.book.now in AreSums (K.ledger k).events (K.hooks k).watches (K.tallies k) }
     ensures parts { ∥ StoresParts B.before (K.ledger result.0.book.now) ∥₁ }
+    ensures tree { IfOk result.1 (λ filled. IfSome (archive_view filled.archive) (λ archive.
+        IsTreeOf R.told wish.now.job.now wish.now.cut.bytes (kept_in archive.blobs) archive.place.nodes
+        filled.skipped.items)) }
 {
     let Given { book } = given;
     let mut lent: Lent<'b, B, K> = Lent {
@@ -80,8 +90,10 @@ fn add_snapshot<K: Keeps>(
     wish: &Wish<'_>,
 ) -> Result<BackedUp, NotBackedUp>
     requires { AreSums (K.ledger book.old).events (K.hooks book.old).watches (K.tallies book.old) }
-    ensures added { IfOk result (λ _. AddsSnapshot (K.ledger book.old) (K.ledger book.new)
+    ensures added { IfOk result (λ _. (archive : ArchiveData) × (archive_view filled.archive ≡ Some archive)
+        × AddsSnapshot (K.ledger book.old) (K.ledger book.new) archive
         (facts_view wish.now.facts.now) (map string_bytes wish.now.tags.now)) }
+    ensures skipped { IfOk result (λ done. done.skipped ≡ filled.skipped) }
     ensures refused { IfErr result (λ _. K.ledger book.new ≡ K.ledger book.old) }
     ensures sums { AreSums (K.ledger book.new).events (K.hooks book.new).watches (K.tallies book.new) }
 {
@@ -110,6 +122,9 @@ fn fill<B: Begun, K: Keeps, R: Source>(
     wish: &Wish<'_>,
 ) -> Result<Filled, NotBackedUp>
     ensures same_reference { lent.new.book.ghost_name ≡ lent.old.book.ghost_name }
+    ensures tree { IfOk result (λ filled. IfSome (archive_view filled.archive) (λ archive.
+        IsTreeOf R.told wish.now.job.now wish.now.cut.bytes (kept_in archive.blobs) archive.place.nodes
+        filled.skipped.items)) }
 {
     let intake = Intake::new(alloc, lent, wish.cut);
     let taking = Taking::new(alloc, source, intake)?;
@@ -121,7 +136,11 @@ fn walk<B: Begun, K: Keeps, R: Source>(
     alloc: Global,
     mut taking: Taking<R, Intake<'_, '_, B, K>>,
     job: &Job,
-) -> Result<Filled, NotBackedUp> {
+) -> Result<Filled, NotBackedUp>
+    ensures { IfOk result (λ filled. TookAll R.told Gives job.now
+        (taken_of (archive_view (archive_of taking.entry).archive)) (taken_of (archive_view filled.archive))
+        (skipped_of taking.entry) filled.skipped.items) }
+{
     let done = take(alloc, &mut taking, job);
     let (_source, intake) = taking.into_parts();
     intake.filled(done)
@@ -132,9 +151,13 @@ fn take<A: Receives, R: Source>(
     alloc: Global,
     taking: &mut Taking<R, A>,
     job: &Job,
-) -> Result<Vec<Skipped>, Stop> {
+) -> Result<Vec<Skipped>, Stop>
+    ensures { IfOk result (λ skipped. TookAll R.told A.gives job.now
+        (A.seen (archive_of taking.old)) (A.seen (archive_of taking.new)) (skipped_of taking.old) skipped.items) }
+{
     taking.take(job)?;
-    Ok(copies(alloc, taking.skipped())?)
+    let skipped = copies(alloc, taking.skipped())?;
+    Ok(skipped)
 }
 
 /// A copy of the list.

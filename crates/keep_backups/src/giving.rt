@@ -11,12 +11,13 @@ use keep_sources::{Receives, Sight, Stop};
 impl<B: Begun, K: Keeps> Receives for Intake<'_, '_, B, K> {
     ghost use Rattle.keep_archive.specs.Archive.{archive_view};
     ghost use Rattle.keep_backups.specs.Holding.{held_of};
+    ghost use Rattle.keep_backups.specs.Taken.{Gives, TakenData, taken_of};
 
-    ghost Seen = { Unit {0} };
+    ghost Seen = { TakenData };
 
-    ghost seen = { λ _. tt };
+    ghost seen = { λ intake. taken_of (archive_view intake.archive) };
 
-    ghost after = { λ _ _. tt };
+    ghost gives = { Gives };
 
     ghost holds = { λ intake. held_of (archive_view intake.archive) };
 

@@ -1,5 +1,6 @@
-ghost use Rattle.std.specs.Prelude.{◌≡◌, IfOk, string_bytes};
-ghost use Rattle.keep_archive.specs.Archive.{carried_view};
+ghost use Rattle.std.specs.Prelude.{◌≡◌, IfOk, Ok, OnOk, Some, string_bytes};
+ghost use Rattle.keep_archive.specs.Archive.{archive_view, carried_view};
+ghost use Rattle.keep_archive.specs.Walked.{nothing};
 ghost use Rattle.keep_members.specs.Carried.{IsCarried};
 ghost use Rattle.keep_quoted.specs.Quote as spec;
 ghost use Rattle.keep_backups.specs.Sighted.{sighted};
@@ -41,11 +42,9 @@ pub(crate) struct Filled {
 
 impl<'a, 'b, B: Begun, K: Keeps> Intake<'a, 'b, B, K> {
     /// Nothing is given yet.
-    pub(crate) fn new(
-        alloc: Global,
-        lent: &'a mut Lent<'b, B, K>,
-        cut: Cut,
-    ) -> Intake<'a, 'b, B, K> {
+    pub(crate) fn new(alloc: Global, lent: &'a mut Lent<'b, B, K>, cut: Cut) -> Intake<'a, 'b, B, K>
+        ensures { archive_view result.archive ≡ Some (nothing cut.bytes) }
+    {
         Intake {
             alloc,
             lent,
@@ -56,7 +55,10 @@ impl<'a, 'b, B: Begun, K: Keeps> Intake<'a, 'b, B, K> {
     }
 
     /// What was taken, or why not all of it was. That is kept, unless memory ran out.
-    pub(crate) fn filled(self, done: Result<Vec<Skipped>, Stop>) -> Result<Filled, NotBackedUp> {
+    pub(crate) fn filled(self, done: Result<Vec<Skipped>, Stop>) -> Result<Filled, NotBackedUp>
+        ensures archive { IfOk result (λ filled. filled.archive ≡ self.entry.archive) }
+        ensures skipped { IfOk result (λ filled. done ≡ Ok filled.skipped) }
+    {
         let Intake {
             alloc: _,
             lent: _,
@@ -75,13 +77,18 @@ impl<'a, 'b, B: Begun, K: Keeps> Intake<'a, 'b, B, K> {
     }
 
     /// Nothing more is taken for this cause.
-    pub(crate) fn stop(&mut self, cause: NotBackedUp) -> Stop {
+    pub(crate) fn stop(&mut self, cause: NotBackedUp) -> Stop
+        ensures { self.new.archive ≡ self.old.archive }
+    {
         self.refusal = Some(cause);
         Stop::Refused
     }
 
     /// What the archive answered.
-    pub(crate) fn told(&mut self, done: Result<(), PlanError>) -> Result<(), Stop> {
+    pub(crate) fn told(&mut self, done: Result<(), PlanError>) -> Result<(), Stop>
+        ensures done { OnOk result (done ≡ Ok tt) }
+        ensures archive { self.new.archive ≡ self.old.archive }
+    {
         match done {
             Ok(()) => Ok(()),
             Err(error) => Err(self.stop(NotBackedUp::Unplanned(error))),

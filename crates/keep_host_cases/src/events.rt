@@ -61,7 +61,7 @@ impl Receives for Events {
 
     ghost seen = { λ _. tt };
 
-    ghost after = { λ _ _. tt };
+    ghost gives = { λ _ _ _. Unit {0} };
 
     ghost holds = { λ _. 0 };
 

@@ -1,18 +1,16 @@
 -- What was met of some names, and then of others.
 use Rattle.std.proofs.Common.{◌≡◌, ℕ, ◌-◌, ◌≤◌, List, [], ◌∷◌, ◌++◌, map, true, refl, sym, ap, ◌∙◌, subst}
-use Rattle.std.specs.Prelude.{fold}
 use Rattle.std.proofs.lemmas.List.{append-nil, append_assoc}
-use Rattle.std.proofs.lemmas.List.Sums.{fold-append}
-use Rattle.keep_sources.specs.Given.{Given, ClosedFolder, OpenedFolder}
+use Rattle.keep_sources.proofs.GivenAll.{gives-append, gives-one}
+use Rattle.keep_sources.specs.Given.{Given, GivesAll, ClosedFolder, OpenedFolder}
 use Rattle.keep_sources.specs.Job.{is_asked}
 use Rattle.keep_sources.specs.Met.{Met, End, Then, Inside, below, given_of, given_of_leaf, names_of, skips_of, skips_of_leaf, unsaid}
 use Rattle.keep_sources.specs.Told.{Told}
-use Rattle.keep_sources.specs.Took.{IsFolder, IsMet, Took, TookLeaf, TookListed, listed_names, skip_view}
+use Rattle.keep_sources.specs.Took.{IsMet, Took, TookLeaf, TookListed, listed_names, skip_view}
 use Rattle.keep_sources.specs.declared.job.Job.{Job}
 use Rattle.keep_sources.specs.declared.sight.Kind.TheVariants.{Folder}
 use Rattle.keep_sources.specs.declared.sight.Sight.{Sight}
 use Rattle.keep_sources.specs.declared.skipped.Skipped.{Skipped}
-use Rattle.keep_sources.specs.declared.skipped.Why.{Why}
 use Rattle.keep_sources.specs.declared.source.Listing.{Listing}
 
 join : Met → Met → Met
@@ -51,41 +49,40 @@ met-join t j k f End b ha hb = hb
 met-join t j k f (Then n l r) b ha hb = (ha.0, met-join t j k f r b ha.1 hb)
 met-join t j k f (Inside n s u i r) b ha hb = (ha.0, ha.1, met-join t j k f r b ha.2 hb)
 
-module _ {X : Type 0} (after : X → Given → X) (t : Told) (j : Job) (k : ℕ) (f : List ℕ) where
+module _ {X : Type 0} (gives : X → Given → X → Type 0) (t : Told) (j : Job) (k : ℕ) (f : List ℕ) where
   -- no name was taken
-  pub took_none : (g : X) (s : List Skipped) → Took t after j k f [] g g s s
+  pub took_none : (g : X) (s : List Skipped) → Took t gives j k f [] g g s s
   took_none g s = record { met = End; is = tt; all = refl; gave = refl; named = sym (append-nil (map skip_view s)) }
 
   -- some names were taken, and then others
   pub took_more : (ns ms : List (List ℕ)) (g g' g'' : X) (s s' s'' : List Skipped)
-      → Took t after j k f ns g g' s s' → Took t after j k f ms g' g'' s' s'' → Took t after j k f (ns ++ ms) g g'' s s''
+      → Took t gives j k f ns g g' s s' → Took t gives j k f ms g' g'' s' s'' → Took t gives j k f (ns ++ ms) g g'' s s''
   took_more ns ms g g' g'' s s' s'' a b = record {
     met = join a.met b.met;
     is = met-join t j k f a.met b.met a.is b.is;
     all = names-join a.met b.met ∙ (λ i. a.all i ++ b.all i);
-    gave = b.gave ∙ ap (λ x. fold after x (given_of b.met)) a.gave ∙ sym (fold-append after g (given_of a.met) (given_of b.met))
-        ∙ ap (fold after g) (sym (given-join a.met b.met));
+    gave = subst (λ all. GivesAll gives g all g'') (sym (given-join a.met b.met)) (gives-append gives g g' g'' (given_of a.met) (given_of b.met) a.gave b.gave);
     named = b.named ∙ ap (λ l. l ++ skips_of f b.met) a.named ∙ append_assoc (map skip_view s) (skips_of f a.met) (skips_of f b.met)
         ∙ ap (λ l. map skip_view s ++ l) (sym (skips-join f a.met b.met));
   }
 
   -- a name that isn't a folder's was taken
   pub took_leaf : (n path : List ℕ) (g g' : X) (s s' : List Skipped)
-      → path ≡ below f n → TookLeaf t after j k path n g g' s s' → Took t after j k f (n ∷ []) g g' s s'
+      → path ≡ below f n → TookLeaf t gives j k path n g g' s s' → Took t gives j k f (n ∷ []) g g' s s'
   took_leaf n path g g' s s' is a =
-      let h : TookLeaf t after j k (below f n) n g g' s s' = subst (λ p. TookLeaf t after j k p n g g' s s') is a in
+      let h : TookLeaf t gives j k (below f n) n g g' s s' = subst (λ p. TookLeaf t gives j k p n g g' s s') is a in
       record {
         met = Then n h.leaf End;
         is = (h.is, tt);
         all = refl;
-        gave = h.gave ∙ ap (fold after g) (sym (append-nil (given_of_leaf n h.leaf)));
+        gave = subst (λ all. GivesAll gives g all g') (sym (append-nil (given_of_leaf n h.leaf))) h.gave;
         named = h.named ∙ ap (λ l. map skip_view s ++ l) (sym (append-nil (skips_of_leaf (below f n) h.leaf)));
       }
 
   -- the names of a listing were taken, behind those that can't be said
   pub took_listed : (listing : Listing) (g g' : X) (s s' s'' : List Skipped)
-      → map skip_view s' ≡ map skip_view s ++ unsaid f listing.unsayable → Took t after j k f (listed_names listing) g g' s' s''
-      → TookListed t after j k f listing g g' s s''
+      → map skip_view s' ≡ map skip_view s ++ unsaid f listing.unsayable → Took t gives j k f (listed_names listing) g g' s' s''
+      → TookListed t gives j k f listing g g' s s''
   took_listed listing g g' s s' s'' un a = record {
     met = a.met;
     is = a.is;
@@ -95,13 +92,12 @@ module _ {X : Type 0} (after : X → Given → X) (t : Told) (j : Job) (k : ℕ)
   }
 
   -- a folder was taken, with all below it
-  pub took_folder : (n path : List ℕ) (sight : Sight) (listing : Listing) (g g' : X) (s s' : List Skipped)
+  pub took_folder : (n path : List ℕ) (sight : Sight) (listing : Listing) (g g1 g2 g' : X) (s s' : List Skipped)
       → path ≡ below f n → is_asked j path ≡ true → t.saw path sight → sight.kind ≡ Folder → 1 ≤ k → t.listed path listing
-      → TookListed t after j (k - 1) path listing (after g (OpenedFolder n)) g' s s'
-      → Took t after j k f (n ∷ []) g (after g' (ClosedFolder sight)) s s'
-  took_folder n path sight listing g g' s s' is asked saw kind reached told a =
-      let h : TookListed t after j (k - 1) (below f n) listing (after g (OpenedFolder n)) g' s s' =
-      subst (λ p. TookListed t after j (k - 1) p listing (after g (OpenedFolder n)) g' s s') is a in
+      → gives g (OpenedFolder n) g1 → TookListed t gives j (k - 1) path listing g1 g2 s s' → gives g2 (ClosedFolder sight) g'
+      → Took t gives j k f (n ∷ []) g g' s s'
+  took_folder n path sight listing g g1 g2 g' s s' is asked saw kind reached told opened a closed =
+      let h : TookListed t gives j (k - 1) (below f n) listing g1 g2 s s' = subst (λ p. TookListed t gives j (k - 1) p listing g1 g2 s s') is a in
       record {
         met = Inside n sight listing.unsayable h.met End;
         is = (
@@ -119,6 +115,6 @@ module _ {X : Type 0} (after : X → Given → X) (t : Told) (j : Job) (k : ℕ)
           tt,
         );
         all = refl;
-        gave = ap (λ x. after x (ClosedFolder sight)) h.gave ∙ sym (fold-append after (after g (OpenedFolder n)) (given_of h.met) (ClosedFolder sight ∷ []));
+        gave = (g1, opened, gives-append gives g1 g2 g' (given_of h.met) (ClosedFolder sight ∷ []) h.gave (gives-one gives g2 g' (ClosedFolder sight) closed));
         named = h.named ∙ ap (λ l. map skip_view s ++ l) (sym (append-nil (unsaid (below f n) listing.unsayable ++ skips_of (below f n) h.met)));
       }

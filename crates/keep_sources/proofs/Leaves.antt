@@ -1,13 +1,12 @@
 -- What became of a name that isn't a folder's, and of a folder.
-use Rattle.std.proofs.Common.{◌≡◌, ℕ, ◌-◌, ◌≤◌, ◌⊎◌, true, false, inl, inr, Option, None, Some, Result, Ok, Err, OnOk, List, [], ◌∷◌, ◌++◌, map, refl, sym, ap, ◌∙◌, subst}
-use Rattle.std.specs.Prelude.{fold}
+use Rattle.std.proofs.Common.{◌≡◌, ℕ, ◌-◌, ◌≤◌, true, false, inl, inr, Option, None, Some, Result, Ok, Err, OnOk, List, [], ◌∷◌, ◌++◌, map, refl, sym, ap, ◌∙◌, subst}
 use Rattle.std.proofs.lemmas.List.{append-nil}
-use Rattle.std.proofs.lemmas.List.Sums.{fold-append}
 use Rattle.keep_names.specs.declared.id.Id.{Id}
-use Rattle.keep_sources.proofs.Joined.{took_folder, took_leaf}
+use Rattle.keep_sources.proofs.GivenAll.{gives-append, gives-one}
+use Rattle.keep_sources.proofs.Joined.{took_folder}
 use Rattle.keep_sources.specs.Given.{Given, ClosedFolder, DroppedFile, EndedFile, GotOther, GotSame, OpenedFolder, Wrote}
 use Rattle.keep_sources.specs.Job.{IsUnchanged, is_asked}
-use Rattle.keep_sources.specs.Met.{Excluded, Missed, Other, Same, Whole, Broken, below, change_of, given_of_leaf, named, sized, total}
+use Rattle.keep_sources.specs.Met.{Excluded, Missed, Other, Same, Whole, Broken, below, change_of, named, sized, total}
 use Rattle.keep_sources.specs.Told.{Told}
 use Rattle.keep_sources.specs.Took.{CopiedFile, IsNewFile, Took, TookLeaf, TookListed, is_other, skip_view}
 use Rattle.keep_sources.specs.declared.job.Job.{Job}
@@ -22,16 +21,16 @@ pub on_ok : {A E P Q : Type 0} (r : Result A E) → (P → Q) → OnOk r P → O
 on_ok (Ok x) f h = f h
 on_ok (Err e) f h = tt
 
-module _ {X : Type 0} (after : X → Given → X) (t : Told) (j : Job) (k : ℕ) (path n : List ℕ) where
-  pub left_out : (g : X) (s : List Skipped) → is_asked j path ≡ false → TookLeaf t after j k path n g g s s
+module _ {X : Type 0} (gives : X → Given → X → Type 0) (t : Told) (j : Job) (k : ℕ) (path n : List ℕ) where
+  pub left_out : (g : X) (s : List Skipped) → is_asked j path ≡ false → TookLeaf t gives j k path n g g s s
   left_out g s out = record { leaf = Excluded; is = out; gave = refl; named = sym (append-nil (map skip_view s)) }
 
   pub missed : (g g' : X) (s s' : List Skipped) (why : Why) → is_asked j path ≡ true → t.lost path why → g' ≡ g
-      → map skip_view s' ≡ map skip_view s ++ (path, why) ∷ [] → TookLeaf t after j k path n g g' s s'
+      → map skip_view s' ≡ map skip_view s ++ (path, why) ∷ [] → TookLeaf t gives j k path n g g' s s'
   missed g g' s s' why asked lost same says = record { leaf = Missed why; is = (asked, inl lost); gave = same; named = says }
 
   pub too_deep : (g g' : X) (s s' : List Skipped) (sight : Sight) → is_asked j path ≡ true → k ≡ 0 → t.saw path sight → sight.kind ≡ Folder → g' ≡ g
-      → map skip_view s' ≡ map skip_view s ++ (path, TooDeep) ∷ [] → TookLeaf t after j k path n g g' s s'
+      → map skip_view s' ≡ map skip_view s ++ (path, TooDeep) ∷ [] → TookLeaf t gives j k path n g g' s s'
   too_deep g g' s s' sight asked deep saw kind same says = record {
     leaf = Missed TooDeep;
     is = (asked, inr (refl, deep, (sight, saw, kind)));
@@ -40,56 +39,60 @@ module _ {X : Type 0} (after : X → Given → X) (t : Told) (j : Job) (k : ℕ)
   }
 
   pub other : (g g' : X) (s : List Skipped) (sight : Sight) → is_asked j path ≡ true → t.saw path sight → is_other sight.kind ≡ true
-      → g' ≡ after g (GotOther n sight) → TookLeaf t after j k path n g g' s s
-  other g g' s sight asked saw is gave = record { leaf = Other sight; is = (asked, saw, is); gave = gave; named = sym (append-nil (map skip_view s)) }
+      → gives g (GotOther n sight) g' → TookLeaf t gives j k path n g g' s s
+  other g g' s sight asked saw is gave = record {
+    leaf = Other sight;
+    is = (asked, saw, is);
+    gave = gives-one gives g g' (GotOther n sight) gave;
+    named = sym (append-nil (map skip_view s));
+  }
 
   pub same : (g g' : X) (s : List Skipped) (sight : Sight) (content : List Id) → is_asked j path ≡ true → t.saw path sight → sight.kind ≡ File
-      → IsUnchanged j path sight content → g' ≡ after g (GotSame n content sight) → TookLeaf t after j k path n g g' s s
+      → IsUnchanged j path sight content → gives g (GotSame n content sight) g' → TookLeaf t gives j k path n g g' s s
   same g g' s sight content asked saw is known gave = record {
     leaf = Same sight content;
     is = (asked, saw, is, known);
-    gave = gave;
+    gave = gives-one gives g g' (GotSame n content sight) gave;
     named = sym (append-nil (map skip_view s));
   }
 
   pub broken : (g g' g'' : X) (s s' : List Skipped) (sight : Sight) (size : ℕ) (failure : Option Why) (why : Why) → is_asked j path ≡ true
-      → IsNewFile t j path sight → CopiedFile t after path sight.size g g' size failure → failure ≡ Some why → g'' ≡ after g' DroppedFile
-      → map skip_view s' ≡ map skip_view s ++ (path, why) ∷ [] → TookLeaf t after j k path n g g'' s s'
+      → IsNewFile t j path sight → CopiedFile t gives path sight.size g g' size failure → failure ≡ Some why → gives g' DroppedFile g''
+      → map skip_view s' ≡ map skip_view s ++ (path, why) ∷ [] → TookLeaf t gives j k path n g g'' s s'
   broken g g' g'' s s' sight size failure why asked new copied is gave says =
-      let h : CopiedFile t after path sight.size g g' size (Some why) = subst (CopiedFile t after path sight.size g g' size) is copied in
+      let h : CopiedFile t gives path sight.size g g' size (Some why) = subst (CopiedFile t gives path sight.size g g' size) is copied in
       record {
         leaf = Broken sight h.pieces why;
         is = (asked, new, h.read, h.ended);
-        gave = gave ∙ ap (λ x. after x DroppedFile) h.gave ∙ sym (fold-append after g (map Wrote h.pieces) (DroppedFile ∷ []));
+        gave = gives-append gives g g' g'' (map Wrote h.pieces) (DroppedFile ∷ []) h.gave (gives-one gives g' g'' DroppedFile gave);
         named = says;
       }
 
   pub whole : (g g' g'' : X) (s s' : List Skipped) (sight : Sight) (size : ℕ) (failure : Option Why) → is_asked j path ≡ true
-      → IsNewFile t j path sight → CopiedFile t after path sight.size g g' size failure → failure ≡ None
-      → g'' ≡ after g' (EndedFile n (sized sight size)) → map skip_view s' ≡ map skip_view s ++ named path (change_of size sight.size)
-      → TookLeaf t after j k path n g g'' s s'
+      → IsNewFile t j path sight → CopiedFile t gives path sight.size g g' size failure → failure ≡ None
+      → gives g' (EndedFile n (sized sight size)) g'' → map skip_view s' ≡ map skip_view s ++ named path (change_of size sight.size)
+      → TookLeaf t gives j k path n g g'' s s'
   whole g g' g'' s s' sight size failure asked new copied is gave says =
-      let h : CopiedFile t after path sight.size g g' size None = subst (CopiedFile t after path sight.size g g' size) is copied in
+      let h : CopiedFile t gives path sight.size g g' size None = subst (CopiedFile t gives path sight.size g g' size) is copied in
       let e = h.bytes in
+      let ended : gives g' (EndedFile n (sized sight (total h.pieces))) g'' = subst (λ m. gives g' (EndedFile n (sized sight m)) g'') e gave in
       record {
         leaf = Whole sight h.pieces;
         is = (asked, new, h.read, rw e at h.ended);
-        gave = gave ∙ ap (λ x. after x (EndedFile n (sized sight size))) h.gave
-            ∙ sym (fold-append after g (map Wrote h.pieces) (EndedFile n (sized sight size) ∷ []))
-            ∙ ap (λ m. fold after g (map Wrote h.pieces ++ EndedFile n (sized sight m) ∷ [])) e;
+        gave = gives-append gives g g' g'' (map Wrote h.pieces) (EndedFile n (sized sight (total h.pieces)) ∷ []) h.gave
+            (gives-one gives g' g'' (EndedFile n (sized sight (total h.pieces))) ended);
         named = says ∙ ap (λ m. map skip_view s ++ named path (change_of m sight.size)) e;
       }
 
 -- a folder was taken, by the calls that it takes
-pub folder_ends : {X : Type 0} (after : X → Given → X) (t : Told) (j : Job) (k : ℕ) (f n path text : List ℕ) (sight : Sight) (listing : Listing)
+pub folder_ends : {X : Type 0} (gives : X → Given → X → Type 0) (t : Told) (j : Job) (k : ℕ) (f n path text : List ℕ) (sight : Sight) (listing : Listing)
     (g g1 g2 g3 g4 : X) (s s1 s2 : List Skipped)
     → path ≡ below f n → text ≡ path → is_asked j path ≡ true → t.saw path sight → sight.kind ≡ Folder → 1 ≤ k → t.listed text listing
-    → g1 ≡ after g (OpenedFolder n) → TookListed t after j (k - 1) text listing g1 g2 s s1 → g3 ≡ g2 → s2 ≡ s1
-    → g4 ≡ after g3 (ClosedFolder sight) → Took t after j k f (n ∷ []) g g4 s s2
-folder_ends after t j k f n path text sight listing g g1 g2 g3 g4 s s1 s2 is spelt asked saw kind reached listed opened took room same closed =
-    let a : TookListed t after j (k - 1) path listing (after g (OpenedFolder n)) g2 s s1 =
-    subst (λ x. TookListed t after j (k - 1) path listing x g2 s s1) opened (subst (λ p. TookListed t after j (k - 1) p listing g1 g2 s s1) spelt took) in
+    → gives g (OpenedFolder n) g1 → TookListed t gives j (k - 1) text listing g1 g2 s s1 → g3 ≡ g2 → s2 ≡ s1
+    → gives g3 (ClosedFolder sight) g4 → Took t gives j k f (n ∷ []) g g4 s s2
+folder_ends gives t j k f n path text sight listing g g1 g2 g3 g4 s s1 s2 is spelt asked saw kind reached listed opened took room same closed =
+    let a : TookListed t gives j (k - 1) path listing g1 g2 s s1 = subst (λ p. TookListed t gives j (k - 1) p listing g1 g2 s s1) spelt took in
     let told : t.listed path listing = subst (λ p. t.listed p listing) spelt listed in
-    let ends = took_folder after t j k f n path sight listing g g2 s s1 is asked saw kind reached told a in
-    let shut : after g2 (ClosedFolder sight) ≡ g4 = ap (λ x. after x (ClosedFolder sight)) (sym room) ∙ sym closed in
-    subst (λ x. Took t after j k f (n ∷ []) g x s s2) shut (subst (λ l. Took t after j k f (n ∷ []) g (after g2 (ClosedFolder sight)) s l) (sym same) ends)
+    let shut : gives g2 (ClosedFolder sight) g4 = subst (λ x. gives x (ClosedFolder sight) g4) room closed in
+    let ends = took_folder gives t j k f n path sight listing g g1 g2 g4 s s1 is asked saw kind reached told opened a shut in
+    subst (λ l. Took t gives j k f (n ∷ []) g g4 s l) (sym same) ends

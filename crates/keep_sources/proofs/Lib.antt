@@ -1,3 +1,4 @@
+pub mod GivenAll
 pub mod Joined
 pub mod Leaves
 pub mod Pieces

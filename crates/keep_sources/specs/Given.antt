@@ -1,5 +1,5 @@
 -- What is given to an archive.
-use Rattle.std.specs.Prelude.{ℕ, List}
+use Rattle.std.specs.Prelude.{◌≡◌, ℕ, List, [], ◌∷◌}
 use Rattle.keep_names.specs.declared.id.Id.{Id}
 use Rattle.keep_sources.specs.declared.sight.Sight.{Sight}
 
@@ -18,3 +18,8 @@ pub data Given : Type 0 where
   GotSame : List ℕ → List Id → Sight → Given
   -- something else of this name, which was seen so
   GotOther : List ℕ → Sight → Given
+
+-- all of these are given, one after another, where this tells what one makes of what was so before it
+abbrev pub GivesAll : {X : Type 0} → (X → Given → X → Type 0) → X → List Given → X → Type 0
+GivesAll {X} gives before [] now = now ≡ before
+GivesAll {X} gives before (given ∷ more) now = (next : X) × gives before given next × GivesAll gives next more now

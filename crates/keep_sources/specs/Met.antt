@@ -1,5 +1,5 @@
 -- What was met of a folder's names, one behind another, and what became of each.
-use Rattle.std.specs.Prelude.{◌≡◌, ℕ, ◌+◌, ◌==◌, Option, None, Some, List, [], ◌∷◌, ◌++◌, map, length, codes, if◌then◌else◌, nat_lt}
+use Rattle.std.specs.Prelude.{ℕ, ◌+◌, ◌==◌, Option, None, Some, List, [], ◌∷◌, ◌++◌, map, length, codes, if◌then◌else◌, nat_lt}
 use Rattle.keep_names.specs.declared.id.Id.{Id}
 use Rattle.keep_sources.specs.Given.{Given, ClosedFolder, DroppedFile, EndedFile, GotOther, GotSame, OpenedFolder, Wrote}
 use Rattle.keep_sources.specs.declared.sight.Sight.{Sight}

@@ -1,7 +1,7 @@
 -- That what was met is what the source told, and what is given and named is just that.
-use Rattle.std.specs.Prelude.{◌≡◌, ℕ, ◌+◌, ◌-◌, ◌≤◌, ◌⊎◌, Bool, true, false, Option, None, Some, List, [], ◌∷◌, ◌++◌, map, fold, length, string_bytes, MatchOption}
+use Rattle.std.specs.Prelude.{◌≡◌, ℕ, ◌+◌, ◌-◌, ◌≤◌, ◌⊎◌, Bool, true, false, Option, List, [], ◌∷◌, ◌++◌, map, length, string_bytes, MatchOption}
 use Rattle.keep_names.specs.declared.id.Id.{Id}
-use Rattle.keep_sources.specs.Given.{Given, Wrote}
+use Rattle.keep_sources.specs.Given.{Given, GivesAll, Wrote}
 use Rattle.keep_sources.specs.Job.{IsUnchanged, is_asked}
 use Rattle.keep_sources.specs.Limits.{most_levels, read_limit}
 use Rattle.keep_sources.specs.Met.{Leaf, Excluded, Missed, Other, Same, Whole, Broken, Met, End, Then, Inside, below, given_of, given_of_leaf, names_of, skips_of, skips_of_leaf, total, unsaid}
@@ -80,41 +80,41 @@ IsMet told job levels folder (Inside name sight unsayable inside rest) =
     × IsMet told job (levels - 1) (below folder name) inside × IsMet told job levels folder rest
 
 -- these names of a folder were taken: something was met of each, and that alone is given and named behind what was so before
-pub record Took {X : Type 0} (told : Told) (after : X → Given → X) (job : Job) (levels : ℕ) (folder : List ℕ) (names : List (List ℕ)) (given given_now : X)
+pub record Took {X : Type 0} (told : Told) (gives : X → Given → X → Type 0) (job : Job) (levels : ℕ) (folder : List ℕ) (names : List (List ℕ)) (given given_now : X)
     (skips skips_now : List Skipped) : Type 0 where
   pub met : Met
   pub is : IsMet told job levels folder met
   pub all : names_of met ≡ names
-  pub gave : given_now ≡ fold after given (given_of met)
+  pub gave : GivesAll gives given (given_of met) given_now
   pub named : map skip_view skips_now ≡ map skip_view skips ++ skips_of folder met
 
 -- one of these became of a name, told so, and that alone is given and named
-pub record TookLeaf {X : Type 0} (told : Told) (after : X → Given → X) (job : Job) (levels : ℕ) (path name : List ℕ) (given given_now : X)
+pub record TookLeaf {X : Type 0} (told : Told) (gives : X → Given → X → Type 0) (job : Job) (levels : ℕ) (path name : List ℕ) (given given_now : X)
     (skips skips_now : List Skipped) : Type 0 where
   pub leaf : Leaf
   pub is : IsLeaf told job levels path leaf
-  pub gave : given_now ≡ fold after given (given_of_leaf name leaf)
+  pub gave : GivesAll gives given (given_of_leaf name leaf) given_now
   pub named : map skip_view skips_now ≡ map skip_view skips ++ skips_of_leaf path leaf
 
 -- the names of a listing were taken, and those that can't be said are named
-pub record TookListed {X : Type 0} (told : Told) (after : X → Given → X) (job : Job) (levels : ℕ) (folder : List ℕ) (listing : Listing) (given given_now : X)
+pub record TookListed {X : Type 0} (told : Told) (gives : X → Given → X → Type 0) (job : Job) (levels : ℕ) (folder : List ℕ) (listing : Listing) (given given_now : X)
     (skips skips_now : List Skipped) : Type 0 where
   pub met : Met
   pub is : IsMet told job levels folder met
   pub all : names_of met ≡ listed_names listing
-  pub gave : given_now ≡ fold after given (given_of met)
+  pub gave : GivesAll gives given (given_of met) given_now
   pub named : map skip_view skips_now ≡ map skip_view skips ++ (unsaid folder listing.unsayable ++ skips_of folder met)
 
 -- all below the root was taken, or the root can't be listed and is named
-abbrev pub TookAll : {X : Type 0} → Told → (X → Given → X) → Job → X → X → List Skipped → List Skipped → Type 0
-TookAll told after job given given_now skips skips_now =
-    ((listing : Listing) × told.listed [] listing × TookListed told after job most_levels [] listing given given_now skips skips_now)
+abbrev pub TookAll : {X : Type 0} → Told → (X → Given → X → Type 0) → Job → X → X → List Skipped → List Skipped → Type 0
+TookAll told gives job given given_now skips skips_now =
+    ((listing : Listing) × told.listed [] listing × TookListed told gives job most_levels [] listing given given_now skips skips_now)
     ⊎ ((why : Why) × told.lost [] why × (given_now ≡ given) × (map skip_view skips_now ≡ map skip_view skips ++ ([], why) ∷ []))
 
 -- pieces of a file were read and given, up to its end or to a failure
-pub record CopiedFile {X : Type 0} (told : Told) (after : X → Given → X) (path : List ℕ) (seen : ℕ) (given given_now : X) (size : ℕ) (failure : Option Why) : Type 0 where
+pub record CopiedFile {X : Type 0} (told : Told) (gives : X → Given → X → Type 0) (path : List ℕ) (seen : ℕ) (given given_now : X) (size : ℕ) (failure : Option Why) : Type 0 where
   pub pieces : List (List ℕ)
-  pub gave : given_now ≡ fold after given (map Wrote pieces)
+  pub gave : GivesAll gives given (map Wrote pieces) given_now
   pub read : AreRead told path 0 pieces
   pub bytes : size ≡ total pieces
   pub ended : MatchOption failure (IsReadOut told path seen size) (λ why. told.lost path why)

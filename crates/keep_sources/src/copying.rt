@@ -20,7 +20,7 @@ pub(crate) struct Copied {
 impl<S: Source, A: Receives> Taking<S, A> {
     /// Gives the archive what the open file of this path holds, piece by piece.
     pub(crate) fn copy(&mut self, path: &str, seen: u64) -> Result<Copied, Stop>
-        ensures copied { IfOk result (λ copied. CopiedFile S.told A.after path.now seen
+        ensures copied { IfOk result (λ copied. CopiedFile S.told A.gives path.now seen
             (A.seen self.old.archive) (A.seen self.new.archive) copied.size copied.failure) }
         ensures skipped { OnOk result (self.new.skipped ≡ self.old.skipped) }
     {

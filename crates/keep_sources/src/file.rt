@@ -27,7 +27,7 @@ impl<S: Source, A: Receives> Taking<S, A> {
         requires asked { asking.is_asked job.now (string_bytes path) ≡ true }
         requires seen { S.told.saw (string_bytes path) sight }
         requires file { sight.kind ≡ the_kind.File }
-        ensures { OnOk result (TookLeaf S.told A.after job.now levels (string_bytes path) name.now
+        ensures { OnOk result (TookLeaf S.told A.gives job.now levels (string_bytes path) name.now
             (A.seen self.old.archive) (A.seen self.new.archive) self.old.skipped.items self.new.skipped.items) }
     {
         match unchanged(job, path.as_str(), &sight) {
@@ -47,7 +47,7 @@ impl<S: Source, A: Receives> Taking<S, A> {
     ) -> Result<(), Stop>
         requires asked { asking.is_asked job.now (string_bytes path) ≡ true }
         requires new { IsNewFile S.told job.now (string_bytes path) sight }
-        ensures { OnOk result (TookLeaf S.told A.after job.now levels (string_bytes path) name.now
+        ensures { OnOk result (TookLeaf S.told A.gives job.now levels (string_bytes path) name.now
             (A.seen self.old.archive) (A.seen self.new.archive) self.old.skipped.items self.new.skipped.items) }
     {
         match self.source.open(path.as_str(), &sight) {

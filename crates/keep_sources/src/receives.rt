@@ -36,40 +36,40 @@ pub trait Receives: Drop {
 
     ghost seen: { Self → Seen };
 
-    /// What is seen once this is given.
-    ghost after: { Seen → Given → Seen };
+    /// What is seen before and after this is given.
+    ghost gives: { Seen → Given → Seen → Type 0 };
 
     /// How many bytes are held in memory until they are stored.
     ghost holds: { Self → ℕ };
 
     fn open_folder(&mut self, name: &str) -> Result<(), Stop>
-        ensures { OnOk result (seen self.new ≡ after (seen self.old) (OpenedFolder name.now)) };
+        ensures { OnOk result (gives (seen self.old) (OpenedFolder name.now) (seen self.new)) };
 
     /// Ends the folder that was opened last and isn't closed.
     fn close_folder(&mut self, sight: &Sight) -> Result<(), Stop>
         requires room { holds self.old ≤ most_held }
-        ensures { OnOk result (seen self.new ≡ after (seen self.old) (ClosedFolder sight.now)) };
+        ensures { OnOk result (gives (seen self.old) (ClosedFolder sight.now) (seen self.new)) };
 
     /// Bytes of a file whose end comes later.
     fn write(&mut self, bytes: &[u8]) -> Result<(), Stop>
         requires room { holds self.old ≤ most_held }
-        ensures { OnOk result (seen self.new ≡ after (seen self.old) (Wrote bytes.now)) };
+        ensures { OnOk result (gives (seen self.old) (Wrote bytes.now) (seen self.new)) };
 
     /// A file of the bytes that were written since the last one. Its size is how many they are.
     fn end_file(&mut self, name: &str, sight: &Sight) -> Result<(), Stop>
-        ensures { OnOk result (seen self.new ≡ after (seen self.old) (EndedFile name.now sight.now)) };
+        ensures { OnOk result (gives (seen self.old) (EndedFile name.now sight.now) (seen self.new)) };
 
     /// The bytes that were written since the last file are of none.
     fn drop_file(&mut self) -> Result<(), Stop>
-        ensures { OnOk result (seen self.new ≡ after (seen self.old) DroppedFile) };
+        ensures { OnOk result (gives (seen self.old) DroppedFile (seen self.new)) };
 
     /// A file of blobs that are stored.
     fn same_file(&mut self, name: &str, content: &[Id], sight: &Sight) -> Result<(), Stop>
-        ensures { OnOk result (seen self.new ≡ after (seen self.old) (GotSame name.now content.now sight.now)) };
+        ensures { OnOk result (gives (seen self.old) (GotSame name.now content.now sight.now) (seen self.new)) };
 
     /// What is neither a file nor a folder.
     fn add_other(&mut self, name: &str, sight: &Sight) -> Result<(), Stop>
-        ensures { OnOk result (seen self.new ≡ after (seen self.old) (GotOther name.now sight.now)) };
+        ensures { OnOk result (gives (seen self.old) (GotOther name.now sight.now) (seen self.new)) };
 
     /// How many bytes are held in memory until they are stored.
     fn held(&self) -> u64

@@ -43,7 +43,7 @@ impl<S: Source, A: Receives> Taking<S, A> {
 
     /// Takes all that lies below the root of the source, depth first, in the order of the names.
     pub fn take(&mut self, job: &Job) -> Result<(), Stop>
-        ensures { OnOk result (TookAll S.told A.after job.now (A.seen (archive_of self.old)) (A.seen (archive_of self.new))
+        ensures { OnOk result (TookAll S.told A.gives job.now (A.seen (archive_of self.old)) (A.seen (archive_of self.new))
             (skipped_of self.old) (skipped_of self.new)) }
     {
         match self.list_root() {

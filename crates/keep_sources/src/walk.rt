@@ -23,7 +23,7 @@ impl<S: Source, A: Receives> Taking<S, A> {
         listing: &Listing,
         levels: u16,
     ) -> Result<(), Stop>
-        ensures { OnOk result (TookListed S.told A.after job.now levels folder.now listing.now
+        ensures { OnOk result (TookListed S.told A.gives job.now levels folder.now listing.now
             (A.seen self.old.archive) (A.seen self.new.archive) self.old.skipped.items self.new.skipped.items) }
     {
         self.name_unsaid(folder, listing.unsayable)?;
@@ -39,7 +39,7 @@ impl<S: Source, A: Receives> Taking<S, A> {
         names: &[String],
         levels: u16,
     ) -> Result<(), Stop>
-        ensures { OnOk result (Took S.told A.after job.now levels folder.now (map string_bytes names.now)
+        ensures { OnOk result (Took S.told A.gives job.now levels folder.now (map string_bytes names.now)
             (A.seen self.old.archive) (A.seen self.new.archive) self.old.skipped.items self.new.skipped.items) }
     {
         for name in names {
@@ -51,7 +51,7 @@ impl<S: Source, A: Receives> Taking<S, A> {
     /// Takes what a name of a folder leads to.
     #[cycle(walking)]
     fn take_name(&mut self, job: &Job, folder: &str, name: &str, levels: u16) -> Result<(), Stop>
-        ensures { OnOk result (Took S.told A.after job.now levels folder.now (name.now ∷ [])
+        ensures { OnOk result (Took S.told A.gives job.now levels folder.now (name.now ∷ [])
             (A.seen self.old.archive) (A.seen self.new.archive) self.old.skipped.items self.new.skipped.items) }
     {
         let path = path_of(self.alloc, folder, name)?;
@@ -86,7 +86,7 @@ impl<S: Source, A: Receives> Taking<S, A> {
         requires asked { asking.is_asked job.now (string_bytes path) ≡ true }
         requires seen { S.told.saw (string_bytes path) sight.now }
         requires folder { sight.now.kind ≡ the_kind.Folder }
-        ensures { OnOk result (Took S.told A.after job.now levels folder.now (name.now ∷ [])
+        ensures { OnOk result (Took S.told A.gives job.now levels folder.now (name.now ∷ [])
             (A.seen self.old.archive) (A.seen self.new.archive) self.old.skipped.items self.new.skipped.items) }
     {
         if levels == 0 {

@@ -6,10 +6,8 @@ use Rattle.keep_backups.proofs.Storing.{is_last}
 use Rattle.keep_backups.proofs.backing_up.add_snapshot.Goals as goal
 
 pub returns-in-Ok-clause-added : goal.returns-in-Ok-clause-added
-returns-in-Ok-clause-added g c = record {
-  planned = c.in_ok-planned.planned;
-  last = is_last (archive_view c.args.filled.archive) (g.K.Keeps.ledger c.args.book.now) (facts_view c.args.wish.now.facts.now)
-      (map string_bytes c.args.wish.now.tags.now) c.in_ok-planned.planned
-      (rw c.view-view.ensures at c.in_ok-planned.ensures.change) (rw c.view-view.ensures at c.in_ok-planned.ensures.seen);
-  made = c.in-Ok.ensures.made;
-}
+returns-in-Ok-clause-added g c =
+    let last = is_last (archive_view c.args.filled.archive) (g.K.Keeps.ledger c.args.book.now) (facts_view c.args.wish.now.facts.now)
+    (map string_bytes c.args.wish.now.tags.now) c.in_ok-planned.planned
+    (rw c.view-view.ensures at c.in_ok-planned.ensures.change) (rw c.view-view.ensures at c.in_ok-planned.ensures.seen) in
+    (last.0, last.1, record { planned = c.in_ok-planned.planned; last = last.2; made = c.in-Ok.ensures.made })

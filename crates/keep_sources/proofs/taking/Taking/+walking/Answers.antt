@@ -1,9 +1,8 @@
 use Rattle.std.proofs.Common.{rules, ◌≡◌, ◌∙◌, ◌+◌, ◌≤◌, true, false, [], ◌∷◌, ◌++◌, map, take, string_bytes, ap, sym, subst, arith}
 use Rattle.std.proofs.lemmas.Grind.{common_steps}
-use Rattle.keep_sources.proofs.Joined.{took_leaf, took_listed, took_more}
+use Rattle.keep_sources.proofs.Joined.{took_leaf, took_more}
 use Rattle.keep_sources.proofs.Leaves.{folder_ends, left_out, missed, on_ok, other, too_deep}
 use Rattle.keep_sources.specs.Job.{is_asked}
-use Rattle.keep_sources.specs.Met.{below}
 use Rattle.keep_sources.specs.Took.{Took, is_other}
 use Rattle.keep_sources.proofs.taking.Taking.+walking.Goals as goal
 
@@ -11,7 +10,7 @@ pub take_folder-returns-then-levels-eq0 : goal.take_folder-returns-then-levels-e
 take_folder-returns-then-levels-eq0 g t c =
     let needs = c.requires.1.1.1.1 in
     let told = g.S.Source.told in
-    let after = g.A.Receives.after in
+    let gives = g.A.Receives.gives in
     let seen = g.A.Receives.seen in
     let path = string_bytes c.args.path in
     let s = c.args.self.now.skipped.items in
@@ -19,8 +18,8 @@ take_folder-returns-then-levels-eq0 g t c =
     let g0 = seen c.args.self.now.archive in
     let g1 = seen c.skip.new.self.archive in
     on_ok c.skip.result
-    (λ says. took_leaf after told c.args.job.now c.args.levels c.args.folder.now c.args.name.now path g0 g1 s s' needs.0
-    (too_deep after told c.args.job.now c.args.levels path c.args.name.now g0 g1 s s' c.args.sight.now needs.1.0 c.if-levels-eq0.true needs.1.1.0 needs.1.1.1
+    (λ says. took_leaf gives told c.args.job.now c.args.levels c.args.folder.now c.args.name.now path g0 g1 s s' needs.0
+    (too_deep gives told c.args.job.now c.args.levels path c.args.name.now g0 g1 s s' c.args.sight.now needs.1.0 c.if-levels-eq0.true needs.1.1.0 needs.1.1.1
     (ap seen c.skip.ensures.archive) says))
     c.skip.ensures.named
 
@@ -28,7 +27,7 @@ pub take_folder-returns-in-Err : goal.take_folder-returns-in-Err
 take_folder-returns-in-Err g t c =
     let needs = c.requires.1.1.1.1 in
     let told = g.S.Source.told in
-    let after = g.A.Receives.after in
+    let gives = g.A.Receives.gives in
     let seen = g.A.Receives.seen in
     let path = string_bytes c.args.path in
     let s = c.args.self.now.skipped.items in
@@ -37,8 +36,8 @@ take_folder-returns-in-Err g t c =
     let g1 = seen c.skip-in-Err.new.self.archive in
     let lost : told.lost path c.in-Err.why = subst (λ p. told.lost p c.in-Err.why) c.as_str.ensures.value c.in-Err.ensures.lost in
     on_ok c.skip-in-Err.result
-    (λ says. took_leaf after told c.args.job.now c.args.levels c.args.folder.now c.args.name.now path g0 g1 s s' needs.0
-    (missed after told c.args.job.now c.args.levels path c.args.name.now g0 g1 s s' c.in-Err.why needs.1.0 lost (ap seen c.skip-in-Err.ensures.archive) says))
+    (λ says. took_leaf gives told c.args.job.now c.args.levels c.args.folder.now c.args.name.now path g0 g1 s s' needs.0
+    (missed gives told c.args.job.now c.args.levels path c.args.name.now g0 g1 s s' c.in-Err.why needs.1.0 lost (ap seen c.skip-in-Err.ensures.archive) says))
     c.skip-in-Err.ensures.named
 
 pub take_folder-returns : goal.take_folder-returns
@@ -52,7 +51,7 @@ take_folder-returns g t c =
     let took = c.in_ok-take_listed.ensures in
     let reached : 1 ≤ c.args.levels = omega (arith, c.if-levels-eq0.false) in
     on_ok c.close_folder.result
-    (λ closed. folder_ends g.A.Receives.after told c.args.job.now c.args.levels c.args.folder.now c.args.name.now path c.as_str-2.result.now c.args.sight.now c.in-Ok.listing
+    (λ closed. folder_ends g.A.Receives.gives told c.args.job.now c.args.levels c.args.folder.now c.args.name.now path c.as_str-2.result.now c.args.sight.now c.in-Ok.listing
     (seen c.args.self.now.archive) (seen c.open_folder.new.self) (seen c.take_listed.new.self.archive) (seen c.make_room.new.self.archive) (seen c.close_folder.new.self)
     c.args.self.now.skipped.items c.take_listed.new.self.skipped.items c.make_room.new.self.skipped.items
     needs.0 c.as_str-2.ensures.value needs.1.0 needs.1.1.0 needs.1.1.1 reached (subst (λ p. told.listed p c.in-Ok.listing) (sym same) c.in-Ok.ensures.listed)
@@ -65,13 +64,13 @@ take_name-returns-then-not-branch g t c =
     let out : is_asked c.args.job.now path ≡ false = subst (λ p. is_asked c.args.job.now p ≡ false) c.as_str.ensures.value (sym c.in_ok-is_asked.ensures ∙ c.if-not-branch.true) in
     let g0 = g.A.Receives.seen c.args.self.now.archive in
     let s = c.args.self.now.skipped.items in
-    took_leaf g.A.Receives.after g.S.Source.told c.args.job.now c.args.levels c.args.folder.now c.args.name.now path g0 g0 s s c.in_ok-path.ensures
-    (left_out g.A.Receives.after g.S.Source.told c.args.job.now c.args.levels path c.args.name.now g0 s out)
+    took_leaf g.A.Receives.gives g.S.Source.told c.args.job.now c.args.levels c.args.folder.now c.args.name.now path g0 g0 s s c.in_ok-path.ensures
+    (left_out g.A.Receives.gives g.S.Source.told c.args.job.now c.args.levels path c.args.name.now g0 s out)
 
 pub take_name-returns-in-Err : goal.take_name-returns-in-Err
 take_name-returns-in-Err g t c =
     let told = g.S.Source.told in
-    let after = g.A.Receives.after in
+    let gives = g.A.Receives.gives in
     let seen = g.A.Receives.seen in
     let path = string_bytes c.in_ok-path.path in
     let s = c.args.self.now.skipped.items in
@@ -81,8 +80,8 @@ take_name-returns-in-Err g t c =
     let asked : is_asked c.args.job.now path ≡ true = subst (λ p. is_asked c.args.job.now p ≡ true) c.as_str.ensures.value (sym c.in_ok-is_asked.ensures ∙ c.if-not-branch.false) in
     let lost : told.lost path c.in-Err.why = subst (λ p. told.lost p c.in-Err.why) c.as_str-2.ensures.value c.in-Err.ensures.lost in
     on_ok c.skip.result
-    (λ says. took_leaf after told c.args.job.now c.args.levels c.args.folder.now c.args.name.now path g0 g1 s s' c.in_ok-path.ensures
-    (missed after told c.args.job.now c.args.levels path c.args.name.now g0 g1 s s' c.in-Err.why asked lost (ap seen c.skip.ensures.archive) says))
+    (λ says. took_leaf gives told c.args.job.now c.args.levels c.args.folder.now c.args.name.now path g0 g1 s s' c.in_ok-path.ensures
+    (missed gives told c.args.job.now c.args.levels path c.args.name.now g0 g1 s s' c.in-Err.why asked lost (ap seen c.skip.ensures.archive) says))
     c.skip.ensures.named
 
 pub take_name-returns-in-File : goal.take_name-returns-in-File
@@ -90,14 +89,14 @@ take_name-returns-in-File g t c =
     let seen = g.A.Receives.seen in
     let path = string_bytes c.in_ok-path.path in
     on_ok c.take_file.result
-    (took_leaf g.A.Receives.after g.S.Source.told c.args.job.now c.args.levels c.args.folder.now c.args.name.now path (seen c.args.self.now.archive) (seen c.take_file.new.self.archive)
+    (took_leaf g.A.Receives.gives g.S.Source.told c.args.job.now c.args.levels c.args.folder.now c.args.name.now path (seen c.args.self.now.archive) (seen c.take_file.new.self.archive)
     c.args.self.now.skipped.items c.take_file.new.self.skipped.items c.in_ok-path.ensures)
     c.take_file.ensures
 
 pub take_name-returns-in-Link : goal.take_name-returns-in-Link
 take_name-returns-in-Link g t c =
     let told = g.S.Source.told in
-    let after = g.A.Receives.after in
+    let gives = g.A.Receives.gives in
     let seen = g.A.Receives.seen in
     let path = string_bytes c.in_ok-path.path in
     let s = c.args.self.now.skipped.items in
@@ -107,13 +106,13 @@ take_name-returns-in-Link g t c =
     let saw : told.saw path c.in-Ok.sight = subst (λ p. told.saw p c.in-Ok.sight) c.as_str-2.ensures.value c.in-Ok.ensures.seen in
     let is : is_other c.in-Ok.sight.kind ≡ true = search rules in
     on_ok c.add_other.result
-    (λ gave. took_leaf after told c.args.job.now c.args.levels c.args.folder.now c.args.name.now path g0 g1 s s c.in_ok-path.ensures
-    (other after told c.args.job.now c.args.levels path c.args.name.now g0 g1 s c.in-Ok.sight asked saw is gave))
+    (λ gave. took_leaf gives told c.args.job.now c.args.levels c.args.folder.now c.args.name.now path g0 g1 s s c.in_ok-path.ensures
+    (other gives told c.args.job.now c.args.levels path c.args.name.now g0 g1 s c.in-Ok.sight asked saw is gave))
     c.add_other.ensures
 
 pub take_names-loop-name-preserved : goal.take_names-loop-name-preserved
 take_names-loop-name-preserved g t c =
-    let after = g.A.Receives.after in
+    let gives = g.A.Receives.gives in
     let seen = g.A.Receives.seen in
     let told = g.S.Source.told in
     let names = c.args.names.now in
@@ -122,8 +121,8 @@ take_names-loop-name-preserved g t c =
     let before = map string_bytes (take i names) in
     let more : map string_bytes (take (i + 1) names) ≡ before ++ name ∷ [] = grind (arith, common_steps, c.name-item.is, c.as_str.ensures.value, c.loop-name-test.true) in
     subst
-    (λ ns. Took told after c.args.job.now c.args.levels c.args.folder.now ns (seen c.args.self.now.archive) (seen c.take_name.new.self.archive) c.args.self.now.skipped.items
+    (λ ns. Took told gives c.args.job.now c.args.levels c.args.folder.now ns (seen c.args.self.now.archive) (seen c.take_name.new.self.archive) c.args.self.now.skipped.items
     c.take_name.new.self.skipped.items)
     (sym more)
-    (took_more after told c.args.job.now c.args.levels c.args.folder.now before (name ∷ []) (seen c.args.self.now.archive) (seen c.loop-name.self.archive) (seen c.take_name.new.self.archive)
+    (took_more gives told c.args.job.now c.args.levels c.args.folder.now before (name ∷ []) (seen c.args.self.now.archive) (seen c.loop-name.self.archive) (seen c.take_name.new.self.archive)
     c.args.self.now.skipped.items c.loop-name.self.skipped.items c.take_name.new.self.skipped.items c.loop-name.invariant c.in_ok-take_name.ensures)

@@ -17,5 +17,5 @@ decreases-take_folder g l = 4 * l.levels
 -- the names so far were taken
 abbrev pub invariant-take_names-loop-name : goal.invariant-take_names-loop-name
 invariant-take_names-loop-name g l =
-    Took g.S.Source.told g.A.Receives.after l.job l.levels l.folder (map string_bytes (take l.name-index l.names))
+    Took g.S.Source.told g.A.Receives.gives l.job l.levels l.folder (map string_bytes (take l.name-index l.names))
     (g.A.Receives.seen l.initial.self.archive) (g.A.Receives.seen l.self.archive) l.initial.self.skipped.items l.self.skipped.items

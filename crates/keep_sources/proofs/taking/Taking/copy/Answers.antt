@@ -1,4 +1,4 @@
-use Rattle.std.proofs.Common.{◌≡◌, ◌∙◌, ◌+◌, ◌≤◌, take, length, ap, sym, subst, arith}
+use Rattle.std.proofs.Common.{◌≡◌, ◌∙◌, ◌+◌, take, length, ap, sym, subst, arith}
 use Rattle.std.proofs.lemmas.List.{length-take}
 use Rattle.keep_sources.proofs.Pieces.{copied_more}
 use Rattle.keep_sources.specs.Given.{Wrote}
@@ -7,13 +7,13 @@ use Rattle.keep_sources.proofs.taking.Taking.copy.Goals as goal
 pub reading-preserved : goal.reading-preserved
 reading-preserved g c =
     let seen = g.A.Receives.seen in
-    let after = g.A.Receives.after in
+    let gives = g.A.Receives.gives in
     let count = c.in-Ok.count in
     let piece = take count c.read.new.piece in
     let long : length piece ≡ count = grind (arith, length-take, c.in-Ok.ensures.fits) in
-    let gave : seen c.write.new.self ≡ after (seen c.reading.self.archive) (Wrote piece) =
-    c.in_ok-write-in-Ok.ensures ∙ (λ i. after (c.in_ok-make_room.ensures.same i) (Wrote piece)) in (
-      copied_more g.S.Source.told after c.args.path.now (seen c.args.self.now.archive) (seen c.reading.self.archive) (seen c.write.new.self) c.reading.size (c.reading.size + count) piece
+    let gave : gives (seen c.reading.self.archive) (Wrote piece) (seen c.write.new.self) =
+    subst (λ x. gives x (Wrote piece) (seen c.write.new.self)) c.in_ok-make_room.ensures.same c.in_ok-write-in-Ok.ensures in (
+      copied_more g.S.Source.told gives c.args.path.now (seen c.args.self.now.archive) (seen c.reading.self.archive) (seen c.write.new.self) c.reading.size (c.reading.size + count) piece
           c.reading.invariant.0 c.in-Ok.ensures.read gave (ap (λ m. c.reading.size + m) (sym long)),
       c.in_ok-make_room.ensures.skipped ∙ c.reading.invariant.1,
     )

@@ -1,4 +1,4 @@
-use Rattle.std.proofs.Common.{◌≡◌, [], inl, ap, subst}
+use Rattle.std.proofs.Common.{[], inl, subst}
 use Rattle.keep_sources.proofs.Leaves.{on_ok}
 use Rattle.keep_sources.specs.Limits.{most_levels}
 use Rattle.keep_sources.specs.Took.{TookListed}
@@ -7,13 +7,13 @@ use Rattle.keep_sources.proofs.taking.Taking.take.Goals as goal
 pub returns-in-Ok : goal.returns-in-Ok
 returns-in-Ok g c =
     let told = g.S.Source.told in
-    let after = g.A.Receives.after in
+    let gives = g.A.Receives.gives in
     let seen = g.A.Receives.seen in
     let listing = c.in-Ok.listing in
     let now = c.take_listed.new.self in
     on_ok c.take_listed.result
     (λ took.
-    let a = subst (λ x. TookListed told after c.args.job.now most_levels [] listing (seen x) (seen now.archive) c.list_root.new.self.skipped.items now.skipped.items) c.in-Ok.ensures.archive took in
-    let b = subst (λ v. TookListed told after c.args.job.now most_levels [] listing (seen c.args.self.now.archive) (seen now.archive) v.items now.skipped.items) c.in-Ok.ensures.skipped a in
+    let a = subst (λ x. TookListed told gives c.args.job.now most_levels [] listing (seen x) (seen now.archive) c.list_root.new.self.skipped.items now.skipped.items) c.in-Ok.ensures.archive took in
+    let b = subst (λ v. TookListed told gives c.args.job.now most_levels [] listing (seen c.args.self.now.archive) (seen now.archive) v.items now.skipped.items) c.in-Ok.ensures.skipped a in
     inl (listing, c.in-Ok.ensures.listed, b))
     c.take_listed.ensures

@@ -18,6 +18,6 @@ returns-in-Some g c =
     let known : IsUnchanged c.args.job.now path c.args.sight content =
     subst (λ p. IsUnchanged c.args.job.now p c.args.sight content) c.as_str.ensures.value c.in-Some.ensures in
     on_ok c.same_file.result
-    (λ gave. same g.A.Receives.after g.S.Source.told c.args.job.now c.args.levels path c.args.name.now (seen c.args.self.now.archive) (seen c.same_file.new.self)
+    (λ gave. same g.A.Receives.gives g.S.Source.told c.args.job.now c.args.levels path c.args.name.now (seen c.args.self.now.archive) (seen c.same_file.new.self)
     c.args.self.now.skipped.items c.args.sight content c.requires.asked c.requires.seen c.requires.file known gave)
     c.same_file.ensures
