@@ -9,6 +9,7 @@ use keep_book::Book;
 use keep_host_source::{HostSource, host_name, user_name};
 use keep_ledger::Refusal;
 use keep_plan::PlanError;
+use keep_progress::{CountedSource, Meter};
 use keep_run::{Failure, Left, Run, left_value, patterns_of, refused, tell_left};
 use keep_shelf::Shelf;
 use keep_sources::{Job, Known, Why};
@@ -52,6 +53,7 @@ fn taken<S: Shelf>(
     let tags = texts_of(run, words.tags.as_slice())?;
     let job = job_of(run, words, facts.paths.as_slice(), known)?;
     let source = HostSource::new(run.rt, "/")?;
+    let source = CountedSource::new(source, Meter::new(run.rt, "backup"));
     let wish = Wish {
         job: &job,
         facts,

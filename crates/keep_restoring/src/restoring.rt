@@ -1,5 +1,6 @@
 use keep_book::Book;
 use keep_host_target::{caller, open_target};
+use keep_progress::{CountedTarget, Meter};
 use keep_putting::{Restored, Why};
 use keep_restores::restore;
 use keep_run::{Failure, Left, Run, left_value, meant, patterns_of, tell_left};
@@ -25,21 +26,23 @@ pub fn restore_snapshot<S: Shelf>(
     };
     let folder = words.target;
     let mut target = match open_target(run.rt, folder) {
-        Ok(target) => target,
+        Ok(target) => CountedTarget::new(target, Meter::new(run.rt, "restore")),
         Err(refusal) => {
             let cause = format!(in run.alloc; "cannot restore to {folder}: {refusal}")?;
             return Err(Failure::Refused(cause));
         }
     };
     let view = book.ledger().view();
-    match restore(
+    let came = restore(
         run.alloc,
         &view,
         snapshot,
         include.as_slice(),
         owner,
         &mut target,
-    ) {
+    );
+    drop(target);
+    match came {
         Ok(restored) => tell_restored(run, &restored),
         Err(error) => {
             let cause = format!(in run.alloc; "cannot restore to {folder}: {error}")?;
