@@ -2,6 +2,7 @@
 //! opened, with what to do then.
 #![tactic(auto)]
 
+mod advice;
 mod copying;
 mod refusal;
 mod unopened;

@@ -1,3 +1,4 @@
+use crate::advice::folder_advice;
 use keep_disk::FolderError;
 use keep_opening::OpenError;
 use std::fmt;
@@ -31,7 +32,7 @@ impl fmt::Display for Unopened {
                 f.write_str("another run has it: wait for its end, or longer with --wait")
             }
             Unopened::Folder(FolderError::Fault(cause)) => {
-                write!(f, "{cause}: see that all in it can be read")
+                write!(f, "{cause}: {}", folder_advice(*cause))
             }
             Unopened::Folder(FolderError::Memory) => f.write_str("no memory: run it with more"),
             Unopened::Unread(OpenError::BadEntry(number)) => {
