@@ -1,5 +1,6 @@
 use keep_book::Book;
 use keep_looks::{Unlisted, difference_rows, found_rows, node_rows, snapshot_rows};
+use keep_names::Kind;
 use keep_read::RestoreError;
 use keep_run::{Failure, Run, meant, pattern_of, print_rows};
 use keep_shelf::Shelf;
@@ -16,7 +17,7 @@ pub fn list_snapshots<S: Shelf>(
     let history = book.ledger().history();
     let shown = snapshot_rows(run.alloc, &view, history, chosen, latest, run.zone)?;
     print_rows(run, shown.rows.as_slice())?;
-    tell_unlisted(run, shown.unlisted.as_slice())
+    tell_left_out(run, book, shown.unlisted.as_slice())
 }
 
 /// `keep ls`
@@ -66,19 +67,46 @@ pub fn find<S: Shelf>(run: &Run<'_>, book: &Book<S>, pattern: &str) -> Result<()
     let view = book.ledger().view();
     let found = found_rows(run.alloc, &view, book.ledger().history(), &pattern)?;
     print_rows(run, found.rows.as_slice())?;
-    tell_unlisted(run, found.unlisted.as_slice())
+    tell_left_out(run, book, found.unlisted.as_slice())
 }
 
-/// Names the snapshots that can't be listed on standard error.
-fn tell_unlisted(run: &Run<'_>, unlisted: &[Unlisted]) -> Result<(), Failure> {
-    for one in unlisted {
-        let _said = eprintln!(run.rt; "keep: {one}");
-    }
-    if unlisted.is_empty() {
+/// Names the snapshots that can't be read on standard error, and those whose trees can't be listed.
+fn tell_left_out<S: Shelf>(
+    run: &Run<'_>,
+    book: &Book<S>,
+    unlisted: &[Unlisted],
+) -> Result<(), Failure> {
+    let unread = unread_snapshots(run, book)?;
+    tell_unlisted(run, unread.as_slice());
+    tell_unlisted(run, unlisted);
+    if unread.is_empty() && unlisted.is_empty() {
         Ok(())
     } else {
         Err(Failure::Partly)
     }
+}
+
+fn tell_unlisted(run: &Run<'_>, unlisted: &[Unlisted]) {
+    for one in unlisted {
+        let _said = eprintln!(run.rt; "keep: {one}");
+    }
+}
+
+/// The snapshots that can't be read, whatever host, tags and paths they may have.
+fn unread_snapshots<S: Shelf>(run: &Run<'_>, book: &Book<S>) -> Result<Vec<Unlisted>, Failure> {
+    let view = book.ledger().view();
+    let catalog = view.read_past(run.alloc)?;
+    let files = catalog.unread(run.alloc)?;
+    let mut unread = Vec::new(run.alloc);
+    for file in &files {
+        if file.name.kind == Kind::Snapshot {
+            unread.push(Unlisted {
+                snapshot: file.name.id,
+                why: RestoreError::Unread(*file),
+            })?;
+        }
+    }
+    Ok(unread)
 }
 
 /// Says why the snapshot can't be listed.
