@@ -5,9 +5,9 @@ use Rattle.std.specs.List.{find}
 use Rattle.keep_names.specs.declared.blob.BlobId.{BlobId}
 use Rattle.keep_repo.specs.Repository.{Repository}
 use Rattle.keep_catalog.specs.Places.{chosen_listing}
-use Rattle.keep_backup.specs.Blobs.{BlobData}
-use Rattle.keep_backup.specs.Storing.{Keeps}
-use Rattle.keep_backup.specs.declared.storing.Storing.{Storing}
+use Rattle.keep_build.specs.Blobs.{BlobData}
+use Rattle.keep_build.specs.Storing.{Keeps}
+use Rattle.keep_build.specs.declared.storing.Storing.{Storing}
 use Rattle.keep_archive.specs.Archive.{held_view}
 use Rattle.keep_archive.specs.Plans.{has_no_place}
 use Rattle.keep_archive.specs.declared.held.HeldBlob.{HeldBlob}

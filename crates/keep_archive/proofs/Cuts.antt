@@ -2,7 +2,7 @@
 use Rattle.std.proofs.Common.{◌≡◌, ◌<◌, ℕ, List, [], ◌∷◌, ◌++◌, length, map, refl, sym, ap, subst, ◌∙◌, append_assoc, append-nil}
 use Rattle.std.proofs.lemmas.List.{map-append}
 use Rattle.std.specs.List.{AllByRecursion, flat_map}
-use Rattle.keep_backup.specs.Walk.{id_of}
+use Rattle.keep_build.specs.Blobs.{id_of}
 use Rattle.keep_archive.specs.Archive.{BegunData, BlobsData}
 use Rattle.keep_archive.specs.Steps.{Writes, holding, piece}
 

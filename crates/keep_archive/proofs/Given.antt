@@ -10,17 +10,17 @@ use Rattle.keep_plan.specs.Refusal.{unless, unread_first}
 use Rattle.keep_plan.specs.declared.plan_error.PlanError.{PlanError}
 use Rattle.keep_plan.specs.declared.plan_error.PlanError.TheVariants.{Full, TooDeep}
 use Rattle.keep_plan.specs.declared.stored.Stored.{Stored}
-use Rattle.keep_backup.proofs.Answering.{none_named}
+use Rattle.keep_build.proofs.Answering.{none_named}
 use Rattle.keep_backup.proofs.Offering.{full_last}
 use Rattle.keep_backup.proofs.Pieces.{no_pieces, piece_more}
 use Rattle.keep_backup.proofs.Planning.{untagged}
 use Rattle.keep_backup.specs.Backup.{FactsData, backup_change, backup_of, bad_time, planned, stored_files_of}
 use Rattle.keep_backup.specs.Backup.{planned_of as backup_planned_of}
-use Rattle.keep_backup.specs.Blobs.{BlobData, is_full}
+use Rattle.keep_build.specs.Blobs.{BlobData, id_of, is_full, tree_blob}
 use Rattle.keep_backup.specs.Folders.{Folder, file_node, folder_node, no_nodes, root_folder}
 use Rattle.keep_backup.specs.Paths.{FileData, files_in_order, is_too_deep, path_of}
-use Rattle.keep_backup.specs.Stored.{stored_of}
-use Rattle.keep_backup.specs.Walk.{blobs_below, blobs_of, id_of, nodes_of, pieces_of, root_tree, tree_blob, walk_refusal}
+use Rattle.keep_build.specs.Stored.{stored_of}
+use Rattle.keep_backup.specs.Walk.{blobs_below, blobs_of, nodes_of, pieces_of, root_tree, walk_refusal}
 use Rattle.keep_archive.specs.Archive.{ArchiveData, BegunData, PlaceData}
 use Rattle.keep_archive.specs.Plans.{last_change, last_stored, planned_of}
 use Rattle.keep_archive.specs.Steps.{Closes, EndsFile, Opens, Writes, WritesFile, content_of, ended, holding, last_of, piece}

@@ -24,12 +24,12 @@ use Rattle.keep_plan.specs.Settling.{CanBeMade, is_there, settled}
 use Rattle.keep_plan.specs.declared.plan_error.PlanError.{PlanError}
 use Rattle.keep_plan.specs.declared.plan_error.PlanError.TheVariants.{SnapshotThere}
 use Rattle.keep_plan.specs.declared.stored.Stored.{Stored}
-use Rattle.keep_backup.proofs.Answering.{none_named}
-use Rattle.keep_backup.proofs.Committed.{IsBelow, IsOwn, absent_present, apart_so, asked_so, built_own, built_so, index_below, is_some_of, marked_unmarked, no_file, none_sorted, pack_below, well_formed_so}
+use Rattle.keep_build.proofs.Answering.{none_named}
+use Rattle.keep_build.proofs.Built.{IsBelow, IsOwn, built_own, built_so, index_below, pack_below}
+use Rattle.keep_backup.proofs.Committed.{absent_present, apart_so, asked_so, is_some_of, marked_unmarked, no_file, none_sorted, well_formed_so}
 use Rattle.keep_backup.specs.Backup.{FactsData, bad_time, change_of, planned, tagged_file}
-use Rattle.keep_backup.specs.Blobs.{BlobData, names_once}
-use Rattle.keep_backup.specs.Stored.{built, packs_built, stored_of, stored_with}
-use Rattle.keep_backup.specs.Walk.{id_of, tree_blob}
+use Rattle.keep_build.specs.Blobs.{BlobData, id_of, names_once, tree_blob}
+use Rattle.keep_build.specs.Stored.{built, packs_built, stored_of, stored_with}
 use Rattle.keep_archive.specs.Archive.{ArchiveData}
 use Rattle.keep_archive.specs.Plans.{is_idle, last_blobs, last_change, last_stored, missing_first, part_change, part_if_any, part_of, planned_of, unclosed}
 use Rattle.keep_archive.specs.Steps.{full_refusal}

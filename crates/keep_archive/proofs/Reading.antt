@@ -12,9 +12,8 @@ use Rattle.keep_plan.specs.declared.plan_error.PlanError.{PlanError}
 use Rattle.keep_plan.specs.declared.plan_error.PlanError.TheVariants as the_error
 use Rattle.keep_plan.specs.declared.stored.Stored.{Stored}
 use Rattle.keep_plan.specs.declared.unreached.Unreached.TheVariants.{MissingBlob}
-use Rattle.keep_backup.specs.Blobs.{BlobData, is_full}
-use Rattle.keep_backup.specs.Stored.{stored_of, stored_with}
-use Rattle.keep_backup.specs.Walk.{id_of, tree_blob}
+use Rattle.keep_build.specs.Blobs.{BlobData, id_of, is_full, tree_blob}
+use Rattle.keep_build.specs.Stored.{stored_of, stored_with}
 use Rattle.keep_archive.specs.Archive.{ArchiveData}
 use Rattle.keep_archive.specs.Plans.{has_no_place, is_idle, last_blobs, last_stored, part_change, part_if_any, part_of}
 

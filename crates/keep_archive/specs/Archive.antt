@@ -5,7 +5,7 @@ use Rattle.serde_json.specs.View.{members_view}
 use Rattle.keep_names.specs.declared.blob.BlobId.{BlobId}
 use Rattle.keep_names.specs.declared.id.Id.{Id}
 use Rattle.keep_tree.specs.Tree.{NodeData, tree_view}
-use Rattle.keep_backup.specs.Blobs.{BlobData}
+use Rattle.keep_build.specs.Blobs.{BlobData}
 use Rattle.keep_archive.specs.declared.archive.Archive.{Archive}
 use Rattle.keep_archive.specs.declared.blobs.Blobs.{Blobs}
 use Rattle.keep_archive.specs.declared.carried.Carried.{Carried}

@@ -12,9 +12,8 @@ use Rattle.keep_plan.specs.declared.plan_error.PlanError.TheVariants.{BadPath, M
 use Rattle.keep_plan.specs.declared.stored.Stored.{Stored}
 use Rattle.keep_plan.specs.declared.unreached.Unreached.TheVariants.{MissingBlob}
 use Rattle.keep_backup.specs.Backup.{FactsData, bad_time, planned, tagged_file}
-use Rattle.keep_backup.specs.Blobs.{BlobData}
-use Rattle.keep_backup.specs.Stored.{stored_of, stored_with}
-use Rattle.keep_backup.specs.Walk.{id_of, tree_blob}
+use Rattle.keep_build.specs.Blobs.{BlobData, id_of, tree_blob}
+use Rattle.keep_build.specs.Stored.{stored_of, stored_with}
 use Rattle.keep_archive.specs.Archive.{ArchiveData, PlaceData}
 use Rattle.keep_archive.specs.Steps.{full_refusal}
 

@@ -11,8 +11,7 @@ use Rattle.keep_tree.specs.Names.{is_name}
 use Rattle.keep_tree.specs.Tree.{NodeData, dir, file, other, names_of}
 use Rattle.keep_plan.specs.declared.plan_error.PlanError.{PlanError}
 use Rattle.keep_plan.specs.declared.plan_error.PlanError.TheVariants.{BadPath, Full, Memory, SamePathTwice, TooDeep}
-use Rattle.keep_backup.specs.Blobs.{BlobData, blob_id_of, is_full}
-use Rattle.keep_backup.specs.Walk.{id_of, tree_blob}
+use Rattle.keep_build.specs.Blobs.{BlobData, blob_id_of, id_of, is_full, tree_blob}
 use Rattle.keep_archive.specs.Archive.{ArchiveData, AroundData, BegunData, BlobsData, PlaceData}
 
 -- ---- what a call leaves

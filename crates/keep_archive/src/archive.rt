@@ -2,7 +2,7 @@ use crate::carried::Carried;
 use crate::going::Going;
 use crate::held::HeldBlob;
 use crate::node::{kind_of_file, kind_of_other, node_of};
-use keep_backup::Cut;
+use keep_build::Cut;
 use keep_names::{BlobType, Id};
 use keep_plan::PlanError;
 use std::alloc::Global;
@@ -18,7 +18,7 @@ pub struct Archive {
 
 impl Archive {
     ghost use Rattle.std.specs.Prelude.{◌≡◌, ◌-◌, ◌^◌, [], None, Some, IfSome, min, string_bytes};
-    ghost use Rattle.keep_backup.specs.Packs.{bytes_in};
+    ghost use Rattle.keep_build.specs.Packs.{bytes_in};
     ghost use Rattle.keep_archive.specs.Archive.{archive_view, carried_view};
     ghost use Rattle.keep_archive.specs.Steps.{AddsOther, Closes, DropsFile, EndsFile, Leaves, LetsGo, Opens, SamesFile, WritesFile, close_refusal, never, node_refusal, open_refusal, other_refusal};
 

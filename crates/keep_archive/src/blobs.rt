@@ -20,10 +20,10 @@ pub(crate) struct Blobs {
 
 impl Blobs {
     ghost use Rattle.std.specs.Prelude.{[], ◌∷◌, ◌++◌, IfOk};
-    ghost use Rattle.keep_backup.specs.Packs.{bytes_in};
+    ghost use Rattle.keep_build.specs.Packs.{bytes_in};
     ghost use Rattle.keep_archive.specs.Archive.{blobs_view, held_view};
     ghost use Rattle.keep_archive.specs.Steps.{holding, naming};
-    ghost use Rattle.keep_backup.specs.Blobs.{blob_id_of};
+    ghost use Rattle.keep_build.specs.Blobs.{blob_id_of};
 
     // None yet.
     pub(crate) fn new(alloc: Global) -> Blobs

@@ -3,7 +3,7 @@ ghost use Rattle.std.specs.Vec.{vec_len};
 
 use crate::blobs::Blobs;
 use crate::held::HeldBlob;
-use keep_backup::Cut;
+use keep_build::Cut;
 use keep_names::{BlobType, Id};
 use std::alloc::{AllocError, Global};
 

@@ -29,7 +29,7 @@ impl Folder {
     ghost use Rattle.keep_names.specs.declared.blob.BlobType.TheVariants as the_type;
     ghost use Rattle.keep_tree.specs.Shape.{IsNode};
     ghost use Rattle.keep_tree.specs.Tree.{node_view};
-    ghost use Rattle.keep_backup.specs.Walk.{tree_blob};
+    ghost use Rattle.keep_build.specs.Blobs.{tree_blob};
     ghost use Rattle.keep_archive.specs.Archive.{folder_view};
     ghost use Rattle.keep_archive.specs.Steps.{has_name, name_refusal};
 

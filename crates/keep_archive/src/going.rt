@@ -1,7 +1,7 @@
 use crate::blobs::Blobs;
 use crate::file::Begun;
 use crate::place::Place;
-use keep_backup::Cut;
+use keep_build::Cut;
 use std::alloc::Global;
 
 // An archive that isn't shut.

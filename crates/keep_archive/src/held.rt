@@ -1,6 +1,6 @@
 ghost use Rattle.std.specs.Prelude.{◌≡◌, false};
 ghost use Rattle.keep_names.specs.Sha256.{sha256};
-ghost use Rattle.keep_backup.specs.Blobs.{is_full};
+ghost use Rattle.keep_build.specs.Blobs.{is_full};
 
 use keep_names::{BlobId, BlobType, id_of};
 
@@ -15,7 +15,7 @@ pub(crate) struct HeldBlob {
 
 impl HeldBlob {
     ghost use Rattle.keep_archive.specs.Archive.{held_view};
-    ghost use Rattle.keep_backup.specs.Blobs.{blob_id_of};
+    ghost use Rattle.keep_build.specs.Blobs.{blob_id_of};
 
     // The blob of these bytes. They are hashed here, and never again.
     pub(crate) fn of(blob_type: BlobType, bytes: Vec<u8>) -> HeldBlob

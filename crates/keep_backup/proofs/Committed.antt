@@ -4,74 +4,36 @@ use Rattle.std.specs.FinMap.{IsAntisymmetric, get}
 use Rattle.std.specs.List.{AllByRecursion, list_any}
 use Rattle.std.specs.List.Sorted.{IsStrictlySortedBy}
 use Rattle.std.specs.Ordering.{eq_by_cmp}
-use Rattle.std.proofs.lemmas.List.Elements.{All-from_recursion, All-nil, All-push, recursion_from_All}
+use Rattle.std.proofs.lemmas.List.Elements.{All-nil, All-push, recursion_from_All}
 use Rattle.std.proofs.lemmas.Map.Views.{tells_apart}
 use Rattle.keep_names.proofs.Orders.{id_exact, name_exact}
 use Rattle.keep_names.specs.FileName.{named}
 use Rattle.keep_names.specs.Orders.{name_cmp}
-use Rattle.keep_names.specs.Sha256.{sha256}
 use Rattle.keep_names.specs.declared.file_name.FileName.{FileName}
-use Rattle.keep_names.specs.declared.file_name.Kind.TheVariants.{Snapshot}
 use Rattle.keep_names.specs.declared.id.Id.{Id}
 use Rattle.keep_repo.specs.Repository.{Repository, held}
 use Rattle.keep_change.proofs.Apart.{sorted_lists_are_well_formed_lem}
 use Rattle.keep_change.proofs.Asking.{what_is_asked_is_met_lem}
 use Rattle.keep_change.specs.Change.{Written, added, is_met}
-use Rattle.keep_change.specs.Form.{AreNamedByBytes, IsWellFormed}
+use Rattle.keep_change.specs.Form.{IsWellFormed}
 use Rattle.keep_change.specs.Lists.{AreApart, HasWhatIsAsked, file_names, marked_packs}
 use Rattle.keep_change.specs.NamedBytes.{NamedBytes}
 use Rattle.keep_change.specs.declared.change.Change.{Change}
 use Rattle.keep_change.specs.declared.change.PackMark.{PackMark}
-use Rattle.keep_plan.proofs.Made.{added_so, settled_made}
+use Rattle.keep_plan.proofs.Made.{settled_made}
 use Rattle.keep_plan.proofs.Ordered.{All-of_map, each_so}
 use Rattle.keep_plan.specs.Refusal.{unless, unread_first}
-use Rattle.keep_plan.specs.Settling.{CanBeMade, is_there, settled}
+use Rattle.keep_plan.specs.Settling.{CanBeMade, is_there}
 use Rattle.keep_plan.specs.declared.plan_error.PlanError.{PlanError}
 use Rattle.keep_plan.specs.declared.plan_error.PlanError.TheVariants.{SnapshotThere}
 use Rattle.keep_plan.specs.declared.stored.Stored.{Stored}
 use Rattle.keep_backup.specs.Backup.{FactsData, backup_change, backup_of, bad_time, change_of, planned, planned_of, snapshot_file, stored_files_of}
-use Rattle.keep_backup.specs.Blobs.{BlobData, names_once}
+use Rattle.keep_build.proofs.Built.{IsBelow, IsOwn, adds_so, built_own, built_so, index_below, pack_below}
+use Rattle.keep_build.specs.Blobs.{BlobData, id_of, names_once}
 use Rattle.keep_backup.specs.Folders.{root_folder}
 use Rattle.keep_backup.specs.Paths.{FileData, files_in_order}
-use Rattle.keep_backup.specs.Stored.{built, index_file, pack_file, packs_and_index, packs_built, stored_of}
-use Rattle.keep_backup.specs.Walk.{blobs_of, id_of, root_tree, walk_refusal}
-
--- ---- what is built
-
-module _ (P : NamedBytes → Type 0) (pack : (blobs : List BlobData) → P (pack_file blobs)) (index : (packs : List (List BlobData)) → P (index_file packs)) where
-  packs_so : (packs : List (List BlobData)) (rest : List NamedBytes) → AllByRecursion P rest → AllByRecursion P (map pack_file packs ++ rest)
-  packs_so [] rest h = h
-  packs_so (p ∷ ps) rest h = (pack p, packs_so ps rest h)
-
-  pub built_so : (packs : List (List BlobData)) → AllByRecursion P (packs_and_index packs)
-  built_so [] = tt
-  built_so (p ∷ ps) = packs_so (p ∷ ps) (index_file (p ∷ ps) ∷ []) (index (p ∷ ps), tt)
-
-abbrev pub IsOwn : NamedBytes → Type 0
-IsOwn f = f.name.id.0 ≡ sha256 f.bytes
-
-pack_own : (blobs : List BlobData) → IsOwn (pack_file blobs)
-unfolding pack_file
-pack_own blobs = refl
-
-index_own : (packs : List (List BlobData)) → IsOwn (index_file packs)
-unfolding index_file
-index_own packs = refl
-
-pub built_own : (r : Repository) (blobs : List BlobData) → AreNamedByBytes (built r blobs)
-built_own r blobs = All-from_recursion IsOwn (built r blobs) (built_so IsOwn pack_own index_own (packs_built r blobs))
-
--- packs and indexes stand before each snapshot
-abbrev pub IsBelow : Id → NamedBytes → Type 0
-IsBelow id f = name_cmp f.name (named Snapshot id) ≡ Less
-
-pub pack_below : (id : Id) (blobs : List BlobData) → IsBelow id (pack_file blobs)
-unfolding pack_file
-pack_below id blobs = refl
-
-pub index_below : (id : Id) (packs : List (List BlobData)) → IsBelow id (index_file packs)
-unfolding index_file
-index_below id packs = refl
+use Rattle.keep_build.specs.Stored.{built, packs_built, stored_of}
+use Rattle.keep_backup.specs.Walk.{blobs_of, root_tree, walk_refusal}
 
 -- ---- lists
 
@@ -194,11 +156,6 @@ module _ (r : Repository) (stored : Stored) (snapshot : NamedBytes) (can : CanBe
     marked = All-nil HasMark;
     unmarked = can.unmarked;
   }
-
--- what all built files are, those that are added are
-pub adds_so : (r : Repository) (P : NamedBytes → Type 0) (blobs : List BlobData) → AllByRecursion P (built r blobs) → AllByRecursion P (stored_of r blobs).adds
-unfolding stored_of settled
-adds_so r P blobs all = added_so r P (built r blobs) all
 
 -- ---- the plan
 

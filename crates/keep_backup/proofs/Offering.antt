@@ -3,12 +3,12 @@ use Rattle.std.proofs.Common.{◌≡◌, ◌≢◌, Bool, true, false, ◌||◌,
 use Rattle.std.specs.List.{list_any}
 use Rattle.keep_names.specs.declared.blob.BlobId.{BlobId}
 use Rattle.keep_repo.specs.Repository.{Repository}
-use Rattle.keep_backup.specs.Blobs.{BlobData, is_full}
-use Rattle.keep_backup.specs.Storing.{Keeps}
+use Rattle.keep_build.specs.Blobs.{BlobData, is_full}
+use Rattle.keep_build.specs.Storing.{Keeps}
 use Rattle.keep_backup.specs.Walk.{Took}
 use Rattle.keep_plan.specs.declared.plan_error.PlanError.{PlanError}
 use Rattle.keep_plan.specs.declared.plan_error.PlanError.TheVariants.{Full, Memory}
-use Rattle.keep_backup.specs.declared.storing.Storing.{Storing}
+use Rattle.keep_build.specs.declared.storing.Storing.{Storing}
 
 -- of all that is to be offered just this rest is left
 pub record HasTaken (all rest : List BlobData) (old now : Storing) : Type 0 where

@@ -7,9 +7,9 @@ use Rattle.std.proofs.lemmas.Nat.{div_below, le-div}
 use Rattle.std.specs.Simd.{first_chunks}
 use Rattle.std.specs.Slice.Iter.{chunk_count}
 use Rattle.keep_names.specs.declared.blob.BlobType.TheVariants.{Content}
-use Rattle.keep_backup.specs.Blobs.{BlobData}
+use Rattle.keep_build.specs.Blobs.{BlobData, id_of}
 use Rattle.keep_names.specs.declared.id.Id.{Id}
-use Rattle.keep_backup.specs.Walk.{id_of, pieces_of}
+use Rattle.keep_backup.specs.Walk.{pieces_of}
 
 -- ---- how many there are
 

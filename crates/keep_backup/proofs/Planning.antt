@@ -15,16 +15,16 @@ use Rattle.keep_catalog.specs.Files.{unread_in}
 use Rattle.keep_catalog.specs.declared.catalog_error.CatalogError.{CatalogError}
 use Rattle.keep_catalog.specs.declared.catalog_error.CatalogError.TheVariants as the_catalog_error
 use Rattle.keep_catalog.specs.declared.unread.Unread.{Unread}
-use Rattle.keep_backup.specs.Backup.{FactsData, backup_change, backup_of, change_of, planned, planned_of, snapshot_file, snapshot_of, stored_files_of, tagged_file, tagged_snapshot}
-use Rattle.keep_backup.specs.Blobs.{is_full}
+use Rattle.keep_backup.specs.Backup.{FactsData, backup_change, backup_of, change_of, planned, planned_of, snapshot_file, stored_files_of, tagged_file, tagged_snapshot}
+use Rattle.keep_build.specs.Blobs.{id_of, is_full}
 use Rattle.keep_backup.specs.Files.{given_view}
 use Rattle.keep_backup.specs.Folders.{root_folder}
 use Rattle.keep_backup.specs.Paths.{FileData, by_path, files_in_order, is_too_deep, path_of}
 use Rattle.keep_plan.specs.Refusal.{of_catalog}
 use Rattle.keep_plan.specs.Refusal.{unless, unread_first}
 use Rattle.keep_plan.specs.Settling.{is_there}
-use Rattle.keep_backup.specs.Stored.{stored_of}
-use Rattle.keep_backup.specs.Walk.{blobs_of, id_of, walk_refusal, root_tree}
+use Rattle.keep_build.specs.Stored.{stored_of}
+use Rattle.keep_backup.specs.Walk.{blobs_of, walk_refusal, root_tree}
 use Rattle.keep_plan.specs.declared.plan_error.PlanError.{PlanError}
 use Rattle.keep_plan.specs.declared.plan_error.PlanError.TheVariants as the_error
 use Rattle.keep_plan.specs.declared.stored.Stored.{Stored}

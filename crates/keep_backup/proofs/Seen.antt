@@ -7,11 +7,11 @@ use Rattle.std.specs.List.{AllByRecursion}
 use Rattle.std.specs.Ordering.{match_ordering}
 use Rattle.serde_json.specs.Data.{no_members}
 use Rattle.keep_tree.specs.Tree.{dir, file, NodeData}
-use Rattle.keep_backup.specs.Blobs.{BlobData}
+use Rattle.keep_build.specs.Blobs.{BlobData, id_of}
 use Rattle.keep_backup.specs.Files.{names_view, paths_seen, seen}
 use Rattle.keep_backup.specs.Folders.{folder_at}
 use Rattle.keep_backup.specs.Paths.{FileData, HasOtherName, HaveNames, HaveOneName, Path, StandInOrder, path_of, stands_before}
-use Rattle.keep_backup.specs.Walk.{blobs_below, blobs_of, id_of, nodes_of, pieces_of, root_tree}
+use Rattle.keep_backup.specs.Walk.{blobs_below, blobs_of, nodes_of, pieces_of, root_tree}
 use Rattle.keep_backup.specs.declared.paths.PathFile.{PathFile}
 use Rattle.keep_backup.proofs.Groups.{Begins, BeginsAfter, Name, blobs_split, group_alone, name_cmp, nodes_split, same_name, tail_of}
 

@@ -6,7 +6,8 @@ use Rattle.keep_names.specs.declared.id.Id.{Id}
 use Rattle.keep_docs.specs.Fields.{id_data}
 use Rattle.keep_tree.specs.Written.{node_data, tree_data}
 use Rattle.keep_backup.specs.Folders.{Folder, no_nodes, file_node, folder_node}
-use Rattle.keep_backup.specs.Walk.{id_of, nodes_of, pieces_of}
+use Rattle.keep_build.specs.Blobs.{id_of}
+use Rattle.keep_backup.specs.Walk.{nodes_of, pieces_of}
 
 no_float_ids : (ids : List Id) → items_have_float (items_of (map id_data ids)) ≡ false
 no_float_ids [] = refl

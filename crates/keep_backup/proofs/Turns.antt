@@ -8,7 +8,8 @@ use Rattle.keep_tree.specs.Tree.{dir, file, NodeData}
 use Rattle.keep_backup.specs.Files.{names_view, paths_seen, seen}
 use Rattle.keep_backup.specs.Folders.{no_nodes, folder_at}
 use Rattle.keep_backup.specs.Paths.{FileData, HasOtherName, HaveNames, HaveOneName, Path, StandInOrder, path_of}
-use Rattle.keep_backup.specs.Walk.{blobs_below, blobs_of, id_of, nodes_of, pieces_of, root_tree}
+use Rattle.keep_build.specs.Blobs.{id_of}
+use Rattle.keep_backup.specs.Walk.{blobs_below, blobs_of, nodes_of, pieces_of, root_tree}
 use Rattle.keep_backup.specs.declared.paths.PathFile.{PathFile}
 use Rattle.keep_backup.proofs.Components.{texts}
 use Rattle.keep_backup.proofs.Fronts.{path_at}

@@ -17,8 +17,9 @@ use Rattle.keep_plan.specs.declared.plan_error.PlanError.TheVariants.{BadTime, S
 use Rattle.keep_plan.specs.declared.stored.Stored.{Stored}
 use Rattle.keep_backup.specs.Folders.{root_folder}
 use Rattle.keep_backup.specs.Paths.{FileData, files_in_order}
-use Rattle.keep_backup.specs.Stored.{stored_of}
-use Rattle.keep_backup.specs.Walk.{blobs_of, id_of, walk_refusal, root_tree}
+use Rattle.keep_build.specs.Stored.{stored_of}
+use Rattle.keep_build.specs.Blobs.{id_of}
+use Rattle.keep_backup.specs.Walk.{blobs_of, walk_refusal, root_tree}
 use Rattle.keep_backup.specs.declared.snapshot.BackupFacts.{BackupFacts}
 
 -- ---- the snapshot

@@ -1,9 +1,5 @@
 pub mod Backup
-pub mod Blobs
 pub mod Files
 pub mod Folders
-pub mod Packs
 pub mod Paths
-pub mod Stored
-pub mod Storing
 pub mod Walk

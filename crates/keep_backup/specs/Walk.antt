@@ -4,33 +4,22 @@ use Rattle.std.specs.List.{list_any}
 use Rattle.std.specs.Simd.{first_chunks}
 use Rattle.std.specs.Slice.Iter.{chunk_count}
 use Rattle.serde_json.specs.Data.{no_members}
-use Rattle.serde_json.specs.Written.{compact_text}
 use Rattle.keep_names.specs.declared.blob.BlobId.{BlobId}
-use Rattle.keep_names.specs.declared.blob.BlobType.TheVariants.{Content, Tree}
-use Rattle.keep_names.specs.declared.id.Id.{Id}
+use Rattle.keep_names.specs.declared.blob.BlobType.TheVariants.{Content}
 use Rattle.keep_repo.specs.Repository.{Repository}
 use Rattle.keep_tree.specs.Tree.{dir, file, NodeData}
-use Rattle.keep_tree.specs.Written.{tree_data}
-use Rattle.keep_backup.specs.Blobs.{BlobData, blob_id_of, is_full}
+use Rattle.keep_build.specs.Blobs.{BlobData, id_of, is_full, tree_blob}
 use Rattle.keep_backup.specs.Folders.{Folder, no_nodes, file_node, folder_node, root_folder}
 use Rattle.keep_backup.specs.Paths.{FileData, is_too_deep, path_of}
-use Rattle.keep_backup.specs.Storing.{Keeps}
+use Rattle.keep_build.specs.Storing.{Keeps}
 use Rattle.keep_plan.specs.declared.plan_error.PlanError.{PlanError}
 use Rattle.keep_plan.specs.declared.plan_error.PlanError.TheVariants.{Full, TooDeep}
-use Rattle.keep_backup.specs.declared.storing.Storing.{Storing}
+use Rattle.keep_build.specs.declared.storing.Storing.{Storing}
 
 -- the pieces of a file that is cut every so many bytes. The last may be shorter
 unfoldable pub pieces_of : ℕ → List ℕ → List BlobData
 pieces_of cut bytes =
     map (λ piece. (Content, piece)) (first_chunks cut (chunk_count (length bytes) cut) bytes)
-
--- its id
-abbrev pub id_of : BlobData → Id
-id_of blob = (blob_id_of blob).id
-
--- the tree of nodes: its document
-unfoldable pub tree_blob : List NodeData → BlobData
-tree_blob nodes = (Tree, compact_text (tree_data nodes))
 
 -- the nodes of a folder: a file with the ids of its pieces, a folder with its tree's
 abbrev pub nodes_of : ℕ → Folder → List NodeData

@@ -1,7 +1,7 @@
 -- How much an intake holds.
 use Rattle.std.specs.Prelude.{ℕ, ◌-◌, ◌^◌, Option, None, Some, min}
 use Rattle.keep_archive.specs.Archive.{ArchiveData}
-use Rattle.keep_backup.specs.Packs.{bytes_in}
+use Rattle.keep_build.specs.Packs.{bytes_in}
 
 -- how many bytes of an archive wait to be stored, as it says so
 abbrev pub held_of : Option ArchiveData → ℕ

@@ -11,7 +11,7 @@ use crate::lent::Lent;
 use crate::members::members_of;
 use crate::not_backed_up::NotBackedUp;
 use keep_archive::{Archive, Carried};
-use keep_backup::Cut;
+use keep_build::Cut;
 use keep_members::carried;
 use keep_plan::PlanError;
 use keep_quoted::quote;

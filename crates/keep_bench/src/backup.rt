@@ -7,7 +7,8 @@ ghost use Rattle.keep_plan.specs.declared.plan_error.PlanError.TheVariants.{Memo
 ghost use Rattle.keep_bench.specs.Backup.{backed_up_of, bench_facts, bench_file};
 ghost use Rattle.keep_bench.specs.Backup as spec;
 
-use keep_backup::{BackupFacts, Cut, plan_backup};
+use keep_backup::{BackupFacts, plan_backup};
+use keep_build::Cut;
 use keep_catalog::LiveRepo;
 use keep_change::{Change, Planned};
 use keep_journal::History;

@@ -1,4 +1,5 @@
-use keep_backup::{BackupFacts, Cut, plan_backup};
+use keep_backup::{BackupFacts, plan_backup};
+use keep_build::Cut;
 use keep_change::{Change, Listed, Planned, StoredFile};
 use keep_desk::{Desk, Pass};
 use keep_names::{FileName, Kind};

@@ -1,4 +1,5 @@
-use keep_backup::{BackupFacts, Cut};
+use keep_backup::BackupFacts;
+use keep_build::Cut;
 use keep_labels::{Edit, Policy};
 
 /// What all jobs of a run go by.

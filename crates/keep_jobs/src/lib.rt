@@ -11,7 +11,8 @@ mod task;
 
 pub use holds_filter::HoldsFilter;
 pub use job::{Job, Settings, Task};
-pub use keep_backup::{BackupFacts, Cut};
+pub use keep_backup::BackupFacts;
+pub use keep_build::Cut;
 pub use kit::Kit;
 pub use planning::plan;
 pub use resolving::resolve;

@@ -23,7 +23,7 @@ use Rattle.keep_sound.specs.Plans.{AreMet}
 use Rattle.keep_view.specs.Shown.{Shown}
 use Rattle.keep_backup.proofs.Planning.{with_files}
 use Rattle.keep_backup.specs.Backup.{FactsData, backup_change}
-use Rattle.keep_backup.specs.Blobs.{BlobData, blob_id_of}
+use Rattle.keep_build.specs.Blobs.{BlobData, blob_id_of}
 use Rattle.keep_backup.specs.Paths.{FileData, files_in_order}
 use Rattle.keep_rewrite.specs.Rewriting.{rewrite_change}
 use Rattle.keep_jobs.specs.Job.{Backup, Filtered, Forget, JobData, Mark, Repair, Rewrite, SettingsData, Sweep, Tag, TaskData, job_change, rewriting, task_change}

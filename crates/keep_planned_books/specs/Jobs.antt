@@ -14,11 +14,11 @@ use Rattle.keep_sound.specs.Careful.{Keeps}
 use Rattle.keep_sound.specs.Met.{AddsPart, IsIn}
 use Rattle.keep_view.specs.Shown.{Shown}
 use Rattle.keep_backup.specs.Backup.{snapshot_file}
-use Rattle.keep_backup.specs.Blobs.{BlobData}
+use Rattle.keep_build.specs.Blobs.{BlobData, id_of}
 use Rattle.keep_backup.specs.Folders.{Folder, root_folder}
 use Rattle.keep_backup.specs.Paths.{files_in_order}
-use Rattle.keep_backup.specs.Stored.{built}
-use Rattle.keep_backup.specs.Walk.{blobs_of, id_of, root_tree}
+use Rattle.keep_build.specs.Stored.{built}
+use Rattle.keep_backup.specs.Walk.{blobs_of, root_tree}
 use Rattle.keep_rewrite.specs.Rewriting.{finished_for}
 use Rattle.keep_upkeep.specs.Repair.{whole_files}
 use Rattle.keep_upkeep.specs.Sweep.{left_files, waited_marks}

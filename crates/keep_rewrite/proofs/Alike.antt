@@ -14,8 +14,7 @@ use Rattle.keep_tree.specs.Tree.{KindData, dir, file, other, NodeData}
 use Rattle.keep_tree.specs.Without.{is_matched, without}
 use Rattle.keep_catalog.specs.Naming.{named_by, named_in}
 use Rattle.keep_reach.specs.Reach.{first_of, refusal_at}
-use Rattle.keep_backup.specs.Blobs.{BlobData}
-use Rattle.keep_backup.specs.Walk.{id_of, tree_blob}
+use Rattle.keep_build.specs.Blobs.{BlobData, id_of, tree_blob}
 use Rattle.keep_rewrite.specs.Leaving.{Path, finished, goes, kind_finished, kind_left, kind_loses, loses, node_left, node_loses, nodes_finished, nodes_in, nodes_left, path_below, tree_left}
 use Rattle.keep_rewrite.proofs.Nodes.{AreHad, below_had, first_had, none_first, rest_had}
 

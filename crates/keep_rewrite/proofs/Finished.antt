@@ -7,7 +7,7 @@ use Rattle.std.specs.List.{list_any}
 use Rattle.keep_names.proofs.Orders.{blob_total}
 use Rattle.keep_index.proofs.Firsts.{any_firsts, firsts_more}
 use Rattle.keep_index.specs.Joining.{first_of_each}
-use Rattle.keep_backup.specs.Blobs.{BlobData, blob_id_of, is_full, is_same}
+use Rattle.keep_build.specs.Blobs.{BlobData, blob_id_of, is_full, is_same}
 use Rattle.keep_rewrite.specs.Finishing.{Finishes, HasBlobData, StandsFor}
 
 -- ---- what is among blobs

@@ -27,7 +27,7 @@ use Rattle.keep_catalog.specs.Naming.{nodes_chosen, nodes_read, nodes_under, rea
 use Rattle.keep_catalog.specs.Places.{bytes_at, chosen_listing}
 use Rattle.keep_catalog.specs.declared.reach_error.ReachError.TheVariants.{BadTree}
 use Rattle.keep_catalog.specs.declared.spot.Spot.{Spot}
-use Rattle.keep_backup.specs.Walk.{id_of, tree_blob}
+use Rattle.keep_build.specs.Blobs.{id_of, tree_blob}
 use Rattle.keep_rewrite.specs.Leaving.{Path, goes, kind_left, loses, node_left, nodes_in, nodes_left, path_below, tree_left}
 
 -- ---- names

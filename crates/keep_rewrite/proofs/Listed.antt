@@ -21,9 +21,9 @@ use Rattle.keep_plan.proofs.Ordered.{All-entries, All-of_map}
 use Rattle.keep_plan.specs.Files.{files_used}
 use Rattle.keep_plan.specs.Reuse.{reused_files, uses_of}
 use Rattle.keep_plan.specs.Settling.{is_there, names_there, settled}
-use Rattle.keep_backup.proofs.Committed.{adds_so, built_so}
-use Rattle.keep_backup.specs.Blobs.{BlobData, names_once}
-use Rattle.keep_backup.specs.Stored.{built, index_file, pack_file, packs_built, stored_of}
+use Rattle.keep_build.proofs.Built.{adds_so, built_so}
+use Rattle.keep_build.specs.Blobs.{BlobData, names_once}
+use Rattle.keep_build.specs.Stored.{built, index_file, pack_file, packs_built, stored_of}
 use Rattle.keep_rewrite.proofs.Kept.{passed}
 
 -- ---- in order

@@ -25,9 +25,9 @@ use Rattle.keep_plan.proofs.Made.{added_so, settled_made}
 use Rattle.keep_plan.proofs.Ordered.{All-of_map, each_so}
 use Rattle.keep_plan.specs.Settling.{CanBeMade, absent_files, settled}
 use Rattle.keep_plan.specs.declared.stored.Stored.{Stored}
-use Rattle.keep_backup.proofs.Committed.{built_so}
-use Rattle.keep_backup.specs.Blobs.{BlobData, names_once}
-use Rattle.keep_backup.specs.Stored.{built, index_file, pack_file, packs_built, stored_of}
+use Rattle.keep_build.proofs.Built.{built_so}
+use Rattle.keep_build.specs.Blobs.{BlobData, names_once}
+use Rattle.keep_build.specs.Stored.{built, index_file, pack_file, packs_built, stored_of}
 use Rattle.keep_rewrite.specs.Rewriting.{Retreed, change_of, new_files, old_file, old_files, old_names, retreed_file}
 use Rattle.keep_rewrite.proofs.Listed.{IsBefore, IsOfSnapshot, absent_present, adds_before, all_append, all_by, apart_so, before_snapshots, names_both, never_both, none_sorted, present_before, sorted_both}
 use Rattle.keep_plan.proofs.Rising.{rise_made}

@@ -13,7 +13,7 @@ use Rattle.keep_catalog.specs.declared.reach_error.ReachError.{ReachError}
 use Rattle.keep_catalog.specs.declared.reach_error.ReachError.TheVariants as reach
 use Rattle.keep_plan.specs.Refusal.{of_reach}
 use Rattle.keep_plan.specs.declared.plan_error.PlanError.TheVariants.{Memory}
-use Rattle.keep_backup.specs.Blobs.{BlobData}
+use Rattle.keep_build.specs.Blobs.{BlobData}
 use Rattle.keep_rewrite.specs.Finishing.{Finishes}
 use Rattle.keep_rewrite.specs.Leaving.{Path, goes, kind_finished, kind_loses, node_left, node_loses, nodes_finished, nodes_left, path_below}
 use Rattle.keep_rewrite.specs.Walking.{Leaves}

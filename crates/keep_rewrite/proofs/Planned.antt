@@ -30,9 +30,9 @@ use Rattle.keep_plan.specs.declared.plan_error.PlanError.TheVariants.{Full, Memo
 use Rattle.keep_plan.specs.declared.stored.Stored.{Stored}
 use Rattle.keep_names.specs.declared.blob.BlobType.TheVariants.{Content, Tree}
 use Rattle.keep_plan.specs.Settling.{settled}
-use Rattle.keep_backup.specs.Blobs.{BlobData, blob_id_of, is_full, is_new, is_of, new_of}
-use Rattle.keep_backup.specs.Packs.{packs_of}
-use Rattle.keep_backup.specs.Stored.{packs_and_index, store_of, stored_of}
+use Rattle.keep_build.specs.Blobs.{BlobData, blob_id_of, is_full, is_new, is_of, new_of}
+use Rattle.keep_build.specs.Packs.{packs_of}
+use Rattle.keep_build.specs.Stored.{packs_and_index, store_of, stored_of}
 use Rattle.keep_rewrite.specs.Finishing.{StandsFor}
 use Rattle.keep_rewrite.specs.Leaving.{tree_left}
 use Rattle.keep_rewrite.specs.Rewriting.{Retreed, change_of, finished_for, new_files, retreed_file, retreed_of, rewrite_change, rewrite_of, rewriting, rewriting_of, snapshot_loses, unreached_first}

@@ -19,8 +19,8 @@ use Rattle.keep_tree.specs.RestOrder.{rests_cmp}
 use Rattle.keep_tree.specs.declared.rest.Rest.{Rest}
 use Rattle.keep_catalog.specs.Naming.{named_by}
 use Rattle.keep_reach.specs.Reach.{refusal_at}
-use Rattle.keep_backup.specs.Blobs.{BlobData}
-use Rattle.keep_backup.specs.Storing.{given}
+use Rattle.keep_build.specs.Blobs.{BlobData}
+use Rattle.keep_build.specs.Storing.{given}
 use Rattle.keep_rewrite.specs.Finishing.{Finishes, HasBlobData}
 use Rattle.keep_rewrite.specs.Leaving.{Path, finished}
 use Rattle.keep_rewrite.specs.Walking.{Asked, IsKnown, IsLeft, IsRight, Leaves, asked_cmp, trees_of}

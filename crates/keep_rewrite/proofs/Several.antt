@@ -6,7 +6,7 @@ use Rattle.keep_repo.specs.Repository.{Repository}
 use Rattle.keep_tree.specs.Parsing.{PatternData}
 use Rattle.keep_snap.specs.Facts.{FactsData}
 use Rattle.keep_reach.specs.Reach.{most_levels}
-use Rattle.keep_backup.specs.Blobs.{BlobData}
+use Rattle.keep_build.specs.Blobs.{BlobData}
 use Rattle.keep_rewrite.specs.Finishing.{Finishes, StandsFor}
 use Rattle.keep_rewrite.specs.Leaving.{finished, tree_left}
 use Rattle.keep_rewrite.specs.Rewriting.{Retreed, finished_for, retreed_of, snapshot_loses}

@@ -10,8 +10,7 @@ use Rattle.keep_tree.specs.Parsing.{PatternData}
 use Rattle.keep_tree.specs.Tree.{NodeData}
 use Rattle.keep_tree.specs.Without.{without}
 use Rattle.keep_tree.specs.declared.rest.Rest.{Rest}
-use Rattle.keep_backup.specs.Blobs.{BlobData}
-use Rattle.keep_backup.specs.Walk.{id_of, tree_blob}
+use Rattle.keep_build.specs.Blobs.{BlobData, id_of, tree_blob}
 use Rattle.keep_rewrite.specs.Finishing.{Finishes}
 use Rattle.keep_rewrite.specs.Leaving.{Path, finished, goes, kind_finished, loses, node_left, node_loses, nodes_finished, nodes_in, nodes_left, path_below, tree_left}
 use Rattle.keep_rewrite.specs.Walking.{IsLeft, IsRight, Leaves, trees_of}

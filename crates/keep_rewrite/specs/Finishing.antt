@@ -2,7 +2,7 @@
 use Rattle.std.specs.Prelude.{◌≡◌, ◌⊎◌, List, [], ◌∷◌, ◌++◌}
 use Rattle.std.specs.List.{list_any}
 use Rattle.keep_index.specs.Joining.{first_of_each}
-use Rattle.keep_backup.specs.Blobs.{BlobData, is_full, is_same}
+use Rattle.keep_build.specs.Blobs.{BlobData, is_full, is_same}
 
 -- the blob is one of these
 abbrev pub HasBlobData : List BlobData → BlobData → Type 0

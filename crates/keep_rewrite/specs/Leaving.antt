@@ -9,8 +9,7 @@ use Rattle.keep_tree.specs.Parsing.{PatternData}
 use Rattle.keep_tree.specs.Tree.{KindData, dir, file, other, NodeData}
 use Rattle.keep_tree.specs.Without.{is_matched, without}
 use Rattle.keep_catalog.specs.Naming.{nodes_under}
-use Rattle.keep_backup.specs.Blobs.{BlobData}
-use Rattle.keep_backup.specs.Walk.{id_of, tree_blob}
+use Rattle.keep_build.specs.Blobs.{BlobData, id_of, tree_blob}
 
 -- a path: the names from the root on
 abbrev pub Path : Type 0

@@ -26,8 +26,8 @@ use Rattle.keep_plan.specs.Settling.{absent_files, is_any_taken}
 use Rattle.keep_plan.specs.declared.plan_error.PlanError.{PlanError}
 use Rattle.keep_plan.specs.declared.plan_error.PlanError.TheVariants.{NothingToDo, SnapshotThere}
 use Rattle.keep_plan.specs.declared.stored.Stored.{Stored}
-use Rattle.keep_backup.specs.Blobs.{BlobData}
-use Rattle.keep_backup.specs.Stored.{store_of}
+use Rattle.keep_build.specs.Blobs.{BlobData}
+use Rattle.keep_build.specs.Stored.{store_of}
 use Rattle.keep_rewrite.specs.Leaving.{finished, loses, tree_left}
 
 -- ---- the snapshots

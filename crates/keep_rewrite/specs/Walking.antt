@@ -17,8 +17,8 @@ use Rattle.keep_snap.specs.Facts.{FactsData}
 use Rattle.keep_catalog.specs.Naming.{named_by}
 use Rattle.keep_reach.specs.Reach.{refusal_at}
 use Rattle.keep_reach.specs.Snapshots.{refusal_from}
-use Rattle.keep_backup.specs.Blobs.{BlobData}
-use Rattle.keep_backup.specs.Storing.{given}
+use Rattle.keep_build.specs.Blobs.{BlobData}
+use Rattle.keep_build.specs.Storing.{given}
 use Rattle.keep_rewrite.specs.Finishing.{HasBlobData}
 use Rattle.keep_rewrite.specs.Leaving.{Path, finished, loses, tree_left}
 use Rattle.keep_rewrite.specs.declared.left.Left.{Left}

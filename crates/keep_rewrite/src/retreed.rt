@@ -4,7 +4,7 @@ ghost use Rattle.keep_reach.specs.Snapshots.{refusal_from};
 ghost use Rattle.keep_tree.specs.Parsing.{pattern_view};
 ghost use Rattle.keep_snap.specs.Facts.{facts_view};
 ghost use Rattle.keep_plan.specs.declared.plan_error.PlanError.TheVariants.{Memory};
-ghost use Rattle.keep_backup.specs.Storing.{given};
+ghost use Rattle.keep_build.specs.Storing.{given};
 ghost use Rattle.keep_rewrite.specs.Finishing.{Finishes, StandsFor};
 ghost use Rattle.keep_rewrite.specs.Rewriting.{finished_for, retreed_of};
 ghost use Rattle.keep_rewrite.specs.Walking.{AreReached, IsRight, trees_of};

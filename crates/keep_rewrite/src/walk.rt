@@ -6,7 +6,7 @@ ghost use Rattle.keep_reach.specs.Reach.{first_of, refusal_at};
 ghost use Rattle.keep_tree.specs.Parsing.{pattern_view};
 ghost use Rattle.keep_tree.specs.Tree.{dir, node_view};
 ghost use Rattle.keep_tree.specs.Written.{tree_data};
-ghost use Rattle.keep_backup.specs.Walk.{id_of, tree_blob};
+ghost use Rattle.keep_build.specs.Blobs.{id_of, tree_blob};
 ghost use Rattle.keep_plan.specs.declared.plan_error.PlanError.TheVariants.{Memory};
 ghost use Rattle.keep_rewrite.specs.Finishing.{Finishes};
 ghost use Rattle.keep_rewrite.specs.Leaving.{Path, finished, loses, node_loses, nodes_finished, nodes_left, tree_left};
@@ -130,7 +130,7 @@ fn keep_folder(node: Node, subtree: Id, kept: &mut Vec<Node>) -> Result<(), Allo
 
 // What is left of a tree: itself, or where something goes the tree of these nodes. That is written and put behind
 // those that are finished.
-#[tactic(auto, unfolding(keep_backup::specs::Walk::tree_blob))]
+#[tactic(auto, unfolding(keep_build::specs::Blobs::tree_blob))]
 fn finish(
     alloc: Global,
     tree: Id,

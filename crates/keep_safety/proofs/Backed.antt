@@ -34,16 +34,16 @@ use Rattle.keep_sound.specs.Careful.{GivesPlace, IsSafe}
 use Rattle.keep_sound.specs.Met.{AddsPart, IsIn, IsPartOf}
 use Rattle.keep_sound.specs.Plans.{BacksUp}
 use Rattle.keep_backup.specs.Backup.{FactsData, backup_change, backup_of, change_of, planned, planned_of, snapshot_file, snapshot_of, stored_files_of}
-use Rattle.keep_backup.specs.Blobs.{BlobData, is_full}
+use Rattle.keep_build.specs.Blobs.{BlobData, id_of, is_full}
 use Rattle.keep_backup.specs.Files.{given_view}
 use Rattle.keep_backup.specs.Folders.{root_folder}
 use Rattle.keep_backup.specs.Paths.{FileData, files_in_order, is_too_deep, path_of}
 use Rattle.keep_safety.specs.SafeBackup.{AreTexts, BackupIsSafe, BackupsAreTexts, HaveTextPaths, MeetsBackup, Takes, texts_of}
-use Rattle.keep_backup.specs.Stored.{built, index_file, pack_file, packs_built, stored_of}
-use Rattle.keep_backup.specs.Walk.{blobs_of, id_of, root_tree, walk_refusal}
+use Rattle.keep_build.specs.Stored.{built, index_file, pack_file, packs_built, stored_of}
+use Rattle.keep_backup.specs.Walk.{blobs_of, root_tree, walk_refusal}
 use Rattle.keep_safety.proofs.Texts.{all_strings}
 use Rattle.keep_safety.proofs.Closed.{root_there, texts_some, walk_closed}
-use Rattle.keep_backup.proofs.Committed.{adds_so, built_so}
+use Rattle.keep_build.proofs.Built.{adds_so, built_so}
 use Rattle.keep_safety.proofs.Entries.{index_name, pack_name}
 use Rattle.keep_safety.proofs.GoodNames.{ordered_good}
 use Rattle.keep_safety.proofs.KeptBlobs.{named_any}

@@ -19,10 +19,10 @@ use Rattle.keep_catalog.specs.Naming.{named_of, read_tree_of}
 use Rattle.keep_catalog.specs.Orders.{blob_eq}
 use Rattle.keep_reach.specs.Reach.{HasBlob}
 use Rattle.keep_sound.specs.Plans.{IsClosed}
-use Rattle.keep_backup.specs.Blobs.{BlobData, blob_id_of}
+use Rattle.keep_build.specs.Blobs.{BlobData, blob_id_of, id_of, tree_blob}
 use Rattle.keep_backup.specs.Folders.{Folder, file_node, folder_node, no_nodes}
 use Rattle.keep_safety.specs.SafeBackup.{texts_of}
-use Rattle.keep_backup.specs.Walk.{blobs_below, blobs_of, id_of, nodes_of, pieces_of, root_tree, tree_blob}
+use Rattle.keep_backup.specs.Walk.{blobs_below, blobs_of, nodes_of, pieces_of, root_tree}
 use Rattle.keep_safety.proofs.Positions.{both_so}
 use Rattle.keep_safety.proofs.WalkTrees.{AreTrees, AreTreesBelow}
 

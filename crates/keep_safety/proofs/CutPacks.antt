@@ -5,9 +5,9 @@ use Rattle.std.proofs.lemmas.Bool.Decides.{nat_tests}
 use Rattle.std.proofs.lemmas.List.Elements.{All-from_recursion}
 use Rattle.std.proofs.lemmas.List.Sums.{sum_by-cons}
 use Rattle.keep_plan.proofs.Ordered.{each_so}
-use Rattle.keep_backup.specs.Blobs.{BlobData}
+use Rattle.keep_build.specs.Blobs.{BlobData}
 use Rattle.keep_safety.specs.Cut.{AreCut}
-use Rattle.keep_backup.specs.Packs.{bytes_in, full_pack, packs_from, packs_of, put_before}
+use Rattle.keep_build.specs.Packs.{bytes_in, full_pack, packs_from, packs_of, put_before}
 
 abbrev Packed : Type 0
 Packed = List BlobData

@@ -30,8 +30,8 @@ use Rattle.keep_catalog.specs.declared.spot.PackedBlob.{PackedBlob}
 use Rattle.keep_catalog.specs.declared.spot.Spot.{Spot}
 use Rattle.keep_sound.specs.Met.{IsIn}
 use Rattle.keep_sound.specs.Standing.{Supports}
-use Rattle.keep_backup.specs.Blobs.{BlobData, blob_id_of}
-use Rattle.keep_backup.specs.Stored.{index_file, pack_file, pack_listed}
+use Rattle.keep_build.specs.Blobs.{BlobData, blob_id_of}
+use Rattle.keep_build.specs.Stored.{index_file, pack_file, pack_listed}
 use Rattle.keep_safety.proofs.Known.{Known}
 use Rattle.keep_safety.proofs.Packed.{IsPackable, honest_pack}
 use Rattle.keep_safety.proofs.Positions.{Found, any_joined, any_mapped, found, one_at}

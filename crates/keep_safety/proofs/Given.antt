@@ -29,10 +29,10 @@ use Rattle.keep_sound.specs.Careful.{GivesPlace}
 use Rattle.keep_sound.specs.Met.{IsIn, IsPartOf}
 use Rattle.keep_sound.specs.Plans.{Records, RecordsReuse}
 use Rattle.keep_sound.specs.Standing.{file_facet}
-use Rattle.keep_backup.specs.Blobs.{BlobData, blob_id_of, is_full, names_once}
+use Rattle.keep_build.specs.Blobs.{BlobData, blob_id_of, is_full, names_once}
 use Rattle.keep_safety.specs.Kept.{IsKept, is_built}
 use Rattle.keep_safety.specs.SafeBackup.{StoringGives, Takes}
-use Rattle.keep_backup.specs.Stored.{built, index_file, pack_file, pack_listed, packs_and_index, packs_built, stored_of}
+use Rattle.keep_build.specs.Stored.{built, index_file, pack_file, pack_listed, packs_and_index, packs_built, stored_of}
 use Rattle.keep_safety.proofs.Entries.{HasSpot, IsBuilt, index_bytes, index_name, pack_name, spot_in}
 use Rattle.keep_safety.proofs.KeptBlobs.{kept_so}
 use Rattle.keep_safety.proofs.Known.{Known}

@@ -14,10 +14,10 @@ use Rattle.keep_names.specs.declared.blob.BlobType.TheVariants.{Content, Tree}
 use Rattle.keep_names.specs.declared.id.Id.{Id}
 use Rattle.keep_repo.specs.Repository.{Repository}
 use Rattle.keep_plan.proofs.Recorded.{use_recorded}
-use Rattle.keep_backup.specs.Blobs.{BlobData, blob_id_of, is_new, is_of, is_same, is_tree_type, names_once, new_of}
+use Rattle.keep_build.specs.Blobs.{BlobData, blob_id_of, is_new, is_of, is_same, is_tree_type, names_once, new_of}
 use Rattle.keep_safety.specs.Kept.{IsKept, is_built}
-use Rattle.keep_backup.specs.Packs.{packs_of}
-use Rattle.keep_backup.specs.Stored.{built, stored_of}
+use Rattle.keep_build.specs.Packs.{packs_of}
+use Rattle.keep_build.specs.Stored.{built, stored_of}
 use Rattle.keep_safety.proofs.CutPacks.{are_cut}
 
 module _ (name : BlobId) where

@@ -27,7 +27,7 @@ use Rattle.keep_snap.specs.Written.{snap_data}
 use Rattle.keep_plan.specs.Settling.{Settles, settled}
 use Rattle.keep_sound.specs.Plans.{BuiltSupports, ReusedIsGiven, BackingUpIsSafe}
 use Rattle.keep_backup.specs.Backup.{FactsData, backup_change}
-use Rattle.keep_backup.specs.Blobs.{BlobData}
+use Rattle.keep_build.specs.Blobs.{BlobData}
 use Rattle.keep_safety.specs.SafeBackup.{StoringGives}
 
 -- the laws on which what is stored rests

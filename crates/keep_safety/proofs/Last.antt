@@ -1,12 +1,11 @@
 -- The last change of an archive is safe.
-use Rattle.std.proofs.Common.{◌≡◌, ◌⊎◌, inl, inr, ℕ, Bool, true, false, ◌||◌, cond, List, [], ◌∷◌, ◌++◌, map, All, IsSome, IsUtf8, Option, None, Some, is_none, is_some, option_map, Ok, Err, Result, lit<, refl, sym, ap, subst, ◌∙◌}
+use Rattle.std.proofs.Common.{◌≡◌, ℕ, Bool, true, false, ◌||◌, cond, List, [], ◌∷◌, ◌++◌, map, All, IsSome, IsUtf8, Option, None, Some, is_none, is_some, option_map, Ok, lit<, refl, sym, ap, subst, ◌∙◌}
 use Rattle.std.proofs.lemmas.Bool.{or_left, or_right}
 use Rattle.std.proofs.lemmas.Grind.{flat_map-append}
 use Rattle.std.proofs.lemmas.List.{map-append}
 use Rattle.std.proofs.lemmas.List.Elements.{All-from_recursion, All-push, filter_map-append, recursion_from_All}
 use Rattle.std.proofs.lemmas.List.Folds.{list_any-append}
 use Rattle.std.proofs.lemmas.Map.Views.{tells_apart}
-use Rattle.std.proofs.lemmas.Str.{IsUtf8-string_bytes}
 use Rattle.std.specs.Cmp.{IsTotalOrder}
 use Rattle.std.specs.List.{AllByRecursion, find, flat_map, list_any}
 use Rattle.std.specs.Ordering.{eq_by_cmp}
@@ -39,28 +38,24 @@ use Rattle.keep_catalog.specs.declared.spot.Spot.{Spot}
 use Rattle.keep_plan.specs.Reuse.{reused_files, reused_packs, uses_of}
 use Rattle.keep_plan.specs.Files.{files_used}
 use Rattle.keep_plan.specs.Settling.{RecordsUse, names_there, packs_among, settled, unmarked_of}
-use Rattle.keep_plan.specs.declared.plan_error.PlanError.{PlanError}
 use Rattle.keep_plan.specs.declared.plan_error.PlanError.TheVariants.{BadTime, Full, Reach}
-use Rattle.keep_plan.specs.declared.stored.Stored.{Stored}
 use Rattle.keep_plan.specs.declared.unreached.Unreached.TheVariants.{MissingBlob}
 use Rattle.keep_plan.proofs.Recorded.{use_recorded}
 use Rattle.keep_catalog.specs.Places.{reuse_of}
 use Rattle.keep_sound.specs.Careful.{GivesPlace, IsSafe}
 use Rattle.keep_sound.specs.Met.{AddsPart, IsIn, IsPartOf}
-use Rattle.keep_sound.specs.Plans.{BackingUpIsSafe, BacksUp, Records, RecordsReuse, ReusedIsGiven, Texts}
-use Rattle.keep_backup.proofs.Committed.{adds_so, built_so}
+use Rattle.keep_sound.specs.Plans.{BackingUpIsSafe, Records, RecordsReuse, ReusedIsGiven, Texts}
+use Rattle.keep_build.proofs.Built.{adds_so, built_so}
 use Rattle.keep_backup.specs.Backup.{FactsData, bad_time, change_of, tagged_file, tagged_snapshot}
-use Rattle.keep_backup.specs.Blobs.{BlobData, blob_id_of, is_full, names_once}
-use Rattle.keep_backup.specs.Stored.{built, index_file, pack_file, packs_built, stored_of, stored_with}
-use Rattle.keep_backup.specs.Walk.{id_of, tree_blob}
+use Rattle.keep_build.specs.Blobs.{BlobData, blob_id_of, id_of, is_full, names_once, tree_blob}
+use Rattle.keep_build.specs.Stored.{built, index_file, pack_file, packs_built, stored_of, stored_with}
 use Rattle.keep_safety.proofs.Entries.{index_name, pack_name}
 use Rattle.keep_safety.specs.Met.{IsMet}
 use Rattle.keep_safety.specs.SafeBackup.{AreTexts, StoringGives, Takes}
 use Rattle.keep_archive.specs.Archive.{ArchiveData}
 use Rattle.keep_archive.specs.Plans.{has_no_place, last_blobs, last_change, missing_first}
-use Rattle.keep_archive.specs.Steps.{full_refusal}
 use Rattle.keep_archive.proofs.Made.{IsLast, is_last, last_well_formed}
-use Rattle.keep_safety.specs.Safe.{AreWhole, LastIsSafe, MeetsLast, is_given, root_of}
+use Rattle.keep_safety.specs.Safe.{AreWhole, LastIsSafe, MeetsLast, root_of}
 
 -- the laws on which it rests
 pub record Known : Type 0 where

@@ -23,8 +23,7 @@ use Rattle.keep_sound.proofs.Places.{LeastIsChosen, chosen_of_support, open_of_c
 use Rattle.keep_sound.specs.Careful.{Gives, GivesPlace}
 use Rattle.keep_sound.specs.Met.{HasOneText, IsPartOf}
 use Rattle.keep_sound.specs.Standing.{file_facet}
-use Rattle.keep_backup.specs.Blobs.{blob_id_of}
-use Rattle.keep_backup.specs.Walk.{id_of, tree_blob}
+use Rattle.keep_build.specs.Blobs.{blob_id_of, id_of, tree_blob}
 use Rattle.keep_safety.specs.SafeRewrite.{IsOneText}
 
 -- a blob that can be had has a chosen place

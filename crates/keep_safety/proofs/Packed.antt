@@ -11,12 +11,12 @@ use Rattle.keep_names.specs.declared.blob.BlobType.TheVariants.{Content, Tree}
 use Rattle.keep_repo.specs.Repository.{Repository}
 use Rattle.keep_pack.specs.Pack.{Entry, HasEntry, IsHonestPackOf, entries_from, listing}
 use Rattle.keep_index.specs.Index.{Fits, FitsBlob, FitsPack}
-use Rattle.keep_backup.specs.Blobs.{BlobData, is_full, new_of}
-use Rattle.keep_backup.specs.Packs.{bytes_in, full_pack, packs_of}
-use Rattle.keep_backup.specs.Stored.{pack_file, pack_listed, packs_built}
+use Rattle.keep_build.specs.Blobs.{BlobData, is_full, new_of}
+use Rattle.keep_build.specs.Packs.{bytes_in, full_pack, packs_of}
+use Rattle.keep_build.specs.Stored.{pack_file, pack_listed, packs_built}
 use Rattle.keep_safety.proofs.CutPacks.{are_cut}
-use Rattle.keep_backup.proofs.Cutting.{header_fits, is_empty}
-use Rattle.keep_backup.proofs.Packable.{few_new, is_short, no_or, none_full}
+use Rattle.keep_build.proofs.Cutting.{header_fits, is_empty}
+use Rattle.keep_build.proofs.Packable.{few_new, is_short, no_or, none_full}
 use Rattle.keep_safety.proofs.Positions.{both_so}
 
 -- ---- each pack can be built

@@ -1,29 +1,26 @@
 -- The change of a part is safe.
-use Rattle.std.proofs.Common.{◌≡◌, ◌≢◌, Bool, true, false, List, [], ◌∷◌, All, Ok, Some, refl, sym, ap, subst, ◌∙◌}
+use Rattle.std.proofs.Common.{◌≡◌, ◌≢◌, true, false, List, All, sym, ap, subst, ◌∙◌}
 use Rattle.std.proofs.lemmas.List.Elements.{All-from_recursion, All-nil, recursion_from_All}
 use Rattle.std.specs.List.{AllByRecursion}
 use Rattle.keep_names.specs.FileName.{named}
 use Rattle.keep_names.specs.Laws.{TellsApart}
 use Rattle.keep_names.specs.Orders.{name_cmp}
 use Rattle.keep_names.specs.declared.file_name.FileName.{FileName}
-use Rattle.keep_names.specs.declared.file_name.Kind.{Kind}
 use Rattle.keep_names.specs.declared.file_name.Kind.TheVariants.{Index, Pack, Snapshot}
 use Rattle.keep_names.specs.declared.id.Id.{Id}
-use Rattle.keep_repo.specs.Repository.{Repository}
 use Rattle.keep_change.specs.Filling.{fills}
 use Rattle.keep_change.specs.NamedBytes.{NamedBytes}
 use Rattle.keep_change.specs.declared.change.Change.{Change}
-use Rattle.keep_sound.specs.Careful.{CarefulIsSafe, IsSafe}
+use Rattle.keep_sound.specs.Careful.{CarefulIsSafe}
 use Rattle.keep_sound.specs.Forms.{CoveringIsCareful}
 use Rattle.keep_sound.specs.Met.{AddsPart, IsIn}
 use Rattle.keep_sound.specs.Standing.{file_facet}
 use Rattle.keep_sound.proofs.Covering.{file_of_name}
-use Rattle.keep_backup.proofs.Committed.{adds_so, built_so}
-use Rattle.keep_backup.specs.Blobs.{BlobData}
-use Rattle.keep_backup.specs.Stored.{built, index_file, pack_file, packs_built, stored_of}
+use Rattle.keep_build.proofs.Built.{adds_so, built_so}
+use Rattle.keep_build.specs.Blobs.{BlobData}
+use Rattle.keep_build.specs.Stored.{built, index_file, pack_file, packs_built, stored_of}
 use Rattle.keep_safety.proofs.Entries.{index_name, pack_name}
-use Rattle.keep_archive.specs.Archive.{ArchiveData}
-use Rattle.keep_archive.specs.Plans.{is_idle, part_change, part_of}
+use Rattle.keep_archive.specs.Plans.{is_idle, part_of}
 use Rattle.keep_archive.proofs.Made.{is_part, part_well_formed}
 use Rattle.keep_safety.specs.Safe.{PartIsSafe}
 

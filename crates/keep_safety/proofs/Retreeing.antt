@@ -17,8 +17,7 @@ use Rattle.keep_sound.proofs.Places.{LeastIsChosen}
 use Rattle.keep_sound.specs.Careful.{GivesPlace}
 use Rattle.keep_sound.specs.Met.{HasOneText, IsPartOf}
 use Rattle.keep_sound.specs.Retreeing.{BuiltRetrees, KeptRetrees, Retrees}
-use Rattle.keep_backup.specs.Blobs.{BlobData, blob_id_of}
-use Rattle.keep_backup.specs.Walk.{id_of, tree_blob}
+use Rattle.keep_build.specs.Blobs.{BlobData, blob_id_of, id_of, tree_blob}
 use Rattle.keep_rewrite.specs.Finishing.{HasBlobData}
 use Rattle.keep_rewrite.specs.Leaving.{Path, finished, goes, kind_finished, kind_left, loses, node_left, nodes_finished, nodes_in, nodes_left, path_below, tree_left}
 use Rattle.keep_safety.specs.SafeRewrite.{IsOneText}

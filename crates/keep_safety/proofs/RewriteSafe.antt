@@ -43,9 +43,9 @@ use Rattle.keep_sound.specs.Careful.{IsSafe}
 use Rattle.keep_sound.specs.Forms.{AreOf}
 use Rattle.keep_sound.specs.Met.{AddsPart, IsIn, IsPartOf}
 use Rattle.keep_sound.specs.Retreeing.{Retrees, RetreesOne, Rewrites, RewritingIsSafe}
-use Rattle.keep_backup.specs.Blobs.{BlobData, blob_id_of}
+use Rattle.keep_build.specs.Blobs.{BlobData, blob_id_of}
 use Rattle.keep_safety.specs.SafeBackup.{StoringGives, Takes}
-use Rattle.keep_backup.specs.Stored.{stored_of}
+use Rattle.keep_build.specs.Stored.{stored_of}
 use Rattle.keep_rewrite.specs.Finishing.{HasBlobData}
 use Rattle.keep_rewrite.specs.Leaving.{finished, tree_left}
 use Rattle.keep_rewrite.specs.Rewriting.{Retreed, finished_for, new_file, new_files, old_file, old_files, old_names, retreed_file}

@@ -1,7 +1,7 @@
 -- What an archive holds is short, and tags are texts.
-use Rattle.std.proofs.Common.{◌≡◌, Bool, false, ◌||◌, List, [], ◌∷◌, map, All, IsUtf8, Option, None, Some, option_map, String, string_bytes, refl, sym, ap, subst, ◌∙◌}
+use Rattle.std.proofs.Common.{◌≡◌, false, ◌||◌, List, [], ◌∷◌, map, Option, None, Some, option_map, refl, sym, ap, ◌∙◌}
 use Rattle.std.specs.List.{list_any}
-use Rattle.keep_backup.specs.Blobs.{is_full}
+use Rattle.keep_build.specs.Blobs.{is_full}
 use Rattle.keep_safety.proofs.Texts.{all_strings}
 use Rattle.keep_archive.specs.Archive.{ArchiveData, going_view, held_view}
 use Rattle.keep_archive.specs.declared.going.Going.{Going}

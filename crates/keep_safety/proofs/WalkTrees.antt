@@ -20,10 +20,10 @@ use Rattle.keep_tree.specs.Shape.{IsNode, IsTree}
 use Rattle.keep_tree.specs.Tree.{dir, file, names_of}
 use Rattle.keep_catalog.specs.Ordered.{in_order, keyed}
 use Rattle.keep_reach.specs.Reach.{most_levels}
-use Rattle.keep_backup.specs.Blobs.{BlobData}
+use Rattle.keep_build.specs.Blobs.{BlobData, id_of, tree_blob}
 use Rattle.keep_backup.specs.Folders.{Folder, file_node, first_name, first_names, folder_at, folder_node, no_nodes, node_at, nodes_at, root_folder, seen_from}
 use Rattle.keep_backup.specs.Paths.{FileData}
-use Rattle.keep_backup.specs.Walk.{id_of, nodes_of, pieces_of, tree_blob}
+use Rattle.keep_backup.specs.Walk.{nodes_of, pieces_of}
 use Rattle.keep_safety.proofs.GoodNames.{HaveGoodNames, IsGood, first_names_good, seen_good}
 use Rattle.keep_backup.proofs.Groups.{Key, Name, name_cmp}
 

@@ -1,8 +1,8 @@
 -- What the packs are that new blobs are cut into.
 use Rattle.std.specs.Prelude.{◌≡◌, ◌≢◌, ℕ, ◌-◌, ◌<◌, ◌≤◌, List, [], length, take, All}
 use Rattle.std.specs.List.{flat_map}
-use Rattle.keep_backup.specs.Blobs.{BlobData}
-use Rattle.keep_backup.specs.Packs.{bytes_in, full_pack}
+use Rattle.keep_build.specs.Blobs.{BlobData}
+use Rattle.keep_build.specs.Packs.{bytes_in, full_pack}
 
 -- Together they are the blobs in their order; each has some, and only with its last blob, if at all, 16,777,216
 -- bytes; and each but the last has them.

@@ -8,8 +8,8 @@ use Rattle.keep_catalog.specs.Orders.{blob_eq}
 use Rattle.keep_catalog.specs.Places.{chosen_listing}
 use Rattle.keep_catalog.specs.declared.spot.Spot.{Spot}
 use Rattle.keep_plan.specs.Settling.{RecordsUse}
-use Rattle.keep_backup.specs.Blobs.{BlobData, blob_id_of}
-use Rattle.keep_backup.specs.Stored.{packs_built, stored_of}
+use Rattle.keep_build.specs.Blobs.{BlobData, blob_id_of}
+use Rattle.keep_build.specs.Stored.{packs_built, stored_of}
 
 -- whether one of the packs that are built of these blobs has one of this name
 abbrev pub is_built : Repository → List BlobData → BlobId → Bool

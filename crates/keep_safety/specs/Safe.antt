@@ -12,9 +12,8 @@ use Rattle.keep_sound.specs.Careful.{IsSafe}
 use Rattle.keep_sound.specs.Met.{IsIn}
 use Rattle.keep_sound.specs.Plans.{AreMet, IsClosed, Texts}
 use Rattle.keep_backup.specs.Backup.{FactsData, tagged_file}
-use Rattle.keep_backup.specs.Blobs.{blob_id_of, is_full}
-use Rattle.keep_backup.specs.Stored.{built}
-use Rattle.keep_backup.specs.Walk.{id_of, tree_blob}
+use Rattle.keep_build.specs.Blobs.{blob_id_of, id_of, is_full, tree_blob}
+use Rattle.keep_build.specs.Stored.{built}
 use Rattle.keep_safety.specs.Met.{IsMet}
 use Rattle.keep_safety.specs.SafeBackup.{AreTexts}
 use Rattle.keep_archive.specs.Archive.{ArchiveData, archive_view}

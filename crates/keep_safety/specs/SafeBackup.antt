@@ -16,12 +16,12 @@ use Rattle.keep_sound.specs.Careful.{GivesPlace, IsSafe}
 use Rattle.keep_sound.specs.Met.{IsIn, IsPartOf}
 use Rattle.keep_sound.specs.Plans.{AreMet, Texts}
 use Rattle.keep_backup.specs.Backup.{FactsData, backup_change, facts_view, snapshot_file}
-use Rattle.keep_backup.specs.Blobs.{BlobData, blob_id_of, is_full}
+use Rattle.keep_build.specs.Blobs.{BlobData, blob_id_of, id_of, is_full}
 use Rattle.keep_backup.specs.Files.{given_view}
 use Rattle.keep_backup.specs.Folders.{root_folder}
 use Rattle.keep_backup.specs.Paths.{FileData, files_in_order}
-use Rattle.keep_backup.specs.Stored.{built, stored_of}
-use Rattle.keep_backup.specs.Walk.{blobs_of, id_of, root_tree}
+use Rattle.keep_build.specs.Stored.{built, stored_of}
+use Rattle.keep_backup.specs.Walk.{blobs_of, root_tree}
 use Rattle.keep_backup.specs.declared.snapshot.BackupFacts.{BackupFacts}
 use Rattle.keep_safety.specs.Met.{IsMet}
 

@@ -10,8 +10,8 @@ use Rattle.keep_plan.specs.Taking.{taken_in}
 use Rattle.keep_plan.specs.declared.pick.Pick.{Pick}
 use Rattle.keep_sound.specs.Careful.{IsSafe}
 use Rattle.keep_sound.specs.Met.{AddsPart, IsIn}
-use Rattle.keep_backup.specs.Blobs.{BlobData, blob_id_of}
-use Rattle.keep_backup.specs.Stored.{built}
+use Rattle.keep_build.specs.Blobs.{BlobData, blob_id_of}
+use Rattle.keep_build.specs.Stored.{built}
 use Rattle.keep_rewrite.specs.Rewriting.{finished_for, rewrite_change}
 use Rattle.keep_safety.specs.Met.{AreFiles, IsMet}
 

@@ -1,7 +1,7 @@
 use Rattle.std.proofs.Common.{[], map, sym, ap, subst, ◌∙◌, Ok}
 use Rattle.keep_repo.specs.Repository.{Repository}
-use Rattle.keep_backup.proofs.Answering.{none_named}
-use Rattle.keep_backup.specs.Storing.{Keeps}
+use Rattle.keep_build.proofs.Answering.{none_named}
+use Rattle.keep_build.specs.Storing.{Keeps}
 use Rattle.keep_archive.specs.Archive.{held_view}
 use Rattle.keep_archive.proofs.Reading.{when_read}
 use Rattle.keep_archive.proofs.storing.store_held.Goals as goal

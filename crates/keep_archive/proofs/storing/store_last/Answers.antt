@@ -3,9 +3,9 @@ use borrow.Author.Tests.{tests}
 use Rattle.keep_names.specs.declared.blob.BlobId.{BlobId}
 use Rattle.keep_names.specs.declared.blob.BlobType.TheVariants.{Tree}
 use Rattle.keep_repo.specs.Repository.{Repository}
-use Rattle.keep_backup.specs.Blobs.{is_full}
-use Rattle.keep_backup.specs.Stored.{stored_with}
-use Rattle.keep_backup.specs.Storing.{Keeps}
+use Rattle.keep_build.specs.Blobs.{is_full}
+use Rattle.keep_build.specs.Stored.{stored_with}
+use Rattle.keep_build.specs.Storing.{Keeps}
 use Rattle.keep_archive.specs.Archive.{going_view, held_view}
 use Rattle.std.specs.List.{find}
 use Rattle.keep_archive.specs.Plans.{has_no_place}

@@ -4,9 +4,9 @@ use Rattle.keep_repo.specs.Repository.{Repository}
 use Rattle.keep_backup.specs.Files.{file_view}
 use Rattle.keep_backup.specs.Folders.{root_folder}
 use Rattle.keep_plan.specs.Refusal.{of_catalog}
-use Rattle.keep_backup.specs.Storing.{Keeps}
+use Rattle.keep_build.specs.Storing.{Keeps}
 use Rattle.keep_backup.specs.Walk.{blobs_of}
-use Rattle.keep_backup.proofs.Answering.{none_named}
+use Rattle.keep_build.proofs.Answering.{none_named}
 use Rattle.keep_backup.proofs.Planning.{files_refused, files_stored, files_unread}
 use Rattle.keep_backup.proofs.plan.store_files.Goals as goal
 

@@ -8,10 +8,10 @@ use Rattle.keep_names.specs.declared.id.Id.{Id}
 use Rattle.keep_reach.specs.Reach.{most_levels}
 use Rattle.keep_tree.specs.Tree.{NodeData, dir, file, node_view}
 use Rattle.keep_tree.specs.Written.{tree_data}
-use Rattle.keep_backup.specs.Blobs.{BlobData, is_full}
+use Rattle.keep_build.specs.Blobs.{BlobData, id_of, is_full, tree_blob}
 use Rattle.keep_backup.specs.Files.{seen}
 use Rattle.keep_backup.specs.Folders.{folder_at}
-use Rattle.keep_backup.specs.Walk.{Took, blobs_below, id_of, nodes_of, root_tree, tree_blob}
+use Rattle.keep_backup.specs.Walk.{Took, blobs_below, nodes_of, root_tree}
 use Rattle.keep_plan.specs.declared.plan_error.PlanError.TheVariants.{Full, Memory}
 use Rattle.keep_backup.specs.declared.paths.PathFile.{PathFile}
 use Rattle.keep_backup.proofs.Offering.{all_taken, both_took, full_first, full_left, more_taken, refused_after}

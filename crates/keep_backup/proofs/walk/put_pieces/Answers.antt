@@ -2,7 +2,8 @@ use Rattle.std.proofs.Common.{◌∷◌, [], ◌++◌, ◌||◌, false, length, 
 use Rattle.std.proofs.lemmas.Result.{err_from_is_err_and}
 use Rattle.std.specs.Slice.Iter.{chunks_rest}
 use Rattle.keep_names.specs.declared.blob.BlobType.TheVariants.{Content}
-use Rattle.keep_backup.specs.Walk.{id_of, pieces_of}
+use Rattle.keep_build.specs.Blobs.{id_of}
+use Rattle.keep_backup.specs.Walk.{pieces_of}
 use Rattle.keep_backup.proofs.Offering.{all_taken, full_left, more_taken}
 use Rattle.keep_backup.proofs.Pieces.{ids_more, no_pieces, piece_more}
 use Rattle.keep_backup.proofs.walk.put_pieces.Goals as goal

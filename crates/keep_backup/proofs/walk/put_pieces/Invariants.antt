@@ -1,6 +1,7 @@
 use Rattle.std.proofs.Common.{◌≡◌, ◌++◌, map}
 use Rattle.std.specs.Slice.Iter.{chunks_rest, chunks_size}
-use Rattle.keep_backup.specs.Walk.{id_of, pieces_of}
+use Rattle.keep_build.specs.Blobs.{id_of}
+use Rattle.keep_backup.specs.Walk.{pieces_of}
 use Rattle.keep_backup.proofs.Offering.{HasTaken}
 use Rattle.keep_backup.proofs.walk.put_pieces.Given as goal
 

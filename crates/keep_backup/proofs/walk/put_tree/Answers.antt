@@ -1,8 +1,8 @@
 use Rattle.std.proofs.Common.{◌≡◌, [], ◌∷◌, ap, subst, IfOk, OnOk, map}
 use Rattle.keep_names.specs.declared.blob.BlobType.TheVariants.{Tree}
 use Rattle.keep_tree.specs.Tree.{node_view}
-use Rattle.keep_backup.specs.Blobs.{BlobData}
-use Rattle.keep_backup.specs.Walk.{Took, id_of, tree_blob}
+use Rattle.keep_build.specs.Blobs.{BlobData, id_of, tree_blob}
+use Rattle.keep_backup.specs.Walk.{Took}
 use Rattle.keep_backup.proofs.Offering.{refused_as, took_one}
 use Rattle.keep_backup.proofs.walk.put_tree.Goals as goal
 

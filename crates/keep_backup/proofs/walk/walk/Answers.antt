@@ -3,11 +3,11 @@ use Rattle.std.proofs.lemmas.Iterator.{YieldsList-from_slice}
 use Rattle.std.proofs.lemmas.Iterator.Search.{any_from_yields_List}
 use Rattle.std.specs.List.{list_any}
 use Rattle.keep_reach.specs.Reach.{most_levels}
-use Rattle.keep_backup.specs.Blobs.{is_full}
+use Rattle.keep_build.specs.Blobs.{id_of, is_full}
 use Rattle.keep_backup.specs.Files.{file_view, paths_seen}
 use Rattle.keep_backup.specs.Folders.{Folder, root_folder}
 use Rattle.keep_backup.specs.Paths.{HaveNames, is_too_deep}
-use Rattle.keep_backup.specs.Walk.{Took, blobs_of, id_of, root_tree}
+use Rattle.keep_backup.specs.Walk.{Took, blobs_of, root_tree}
 use Rattle.keep_plan.specs.declared.plan_error.PlanError.{PlanError}
 use Rattle.keep_plan.specs.declared.plan_error.PlanError.TheVariants.{Full, Memory, TooDeep}
 use Rattle.keep_backup.proofs.Deep.{deep_files, names_within, no_less, root_is}

@@ -2,7 +2,7 @@ use Rattle.std.proofs.Common.{map, sym, ap, ◌∙◌}
 use Rattle.std.proofs.lemmas.Result.{err_from_is_err_and}
 use Rattle.keep_tree.specs.Parsing.{pattern_view}
 use Rattle.keep_snap.specs.Facts.{facts_view}
-use Rattle.keep_backup.specs.Storing.{given}
+use Rattle.keep_build.specs.Storing.{given}
 use Rattle.keep_rewrite.specs.Rewriting.{retreed_of, rewriting_of}
 use Rattle.keep_rewrite.proofs.Planned.{plan_due, stored_alike}
 use Rattle.keep_rewrite.proofs.plan.plan_of.Goals as goal

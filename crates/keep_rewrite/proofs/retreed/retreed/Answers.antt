@@ -3,8 +3,8 @@ use Rattle.std.proofs.lemmas.List.{append-nil, append_assoc, drop_all, drop_more
 use Rattle.keep_tree.specs.Parsing.{pattern_view}
 use Rattle.keep_snap.specs.Facts.{facts_view}
 use Rattle.keep_snap.specs.declared.fact.SnapFacts.{SnapFacts}
-use Rattle.keep_backup.specs.Blobs.{BlobData}
-use Rattle.keep_backup.specs.Storing.{given}
+use Rattle.keep_build.specs.Blobs.{BlobData}
+use Rattle.keep_build.specs.Storing.{given}
 use Rattle.keep_rewrite.specs.Finishing.{Finishes}
 use Rattle.keep_rewrite.specs.Rewriting.{Retreed, finished_for, retreed_of}
 use Rattle.keep_rewrite.specs.Walking.{AreReached, trees_of}

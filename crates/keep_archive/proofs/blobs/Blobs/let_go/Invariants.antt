@@ -1,5 +1,5 @@
 use Rattle.std.proofs.Common.{◌≡◌, ◌++◌, map, take}
-use Rattle.keep_backup.specs.Blobs.{blob_id_of}
+use Rattle.keep_build.specs.Blobs.{blob_id_of}
 use Rattle.keep_archive.specs.Archive.{held_view}
 use Rattle.keep_archive.proofs.blobs.Blobs.let_go.Given as goal
 

@@ -7,7 +7,7 @@ use Rattle.keep_tree.proofs.ReadBack.{has_float-tree_data}
 use Rattle.keep_tree.specs.Tree.{tree_view}
 use Rattle.keep_tree.specs.Written.{tree_data}
 use Rattle.keep_plan.proofs.Outcomes.{if_ok}
-use Rattle.keep_backup.specs.Walk.{tree_blob}
+use Rattle.keep_build.specs.Blobs.{tree_blob}
 use Rattle.keep_archive.proofs.folder.Folder.tree_text.Goals as goal
 
 pub returns : goal.returns

@@ -15,7 +15,7 @@ use Rattle.keep_tree.specs.Without.{is_matched}
 use Rattle.keep_tree.specs.declared.node.Node.{Node}
 use Rattle.keep_catalog.specs.Naming.{named_by, named_in, nodes_under}
 use Rattle.keep_reach.specs.Reach.{first_of, refusal_at}
-use Rattle.keep_backup.specs.Blobs.{BlobData}
+use Rattle.keep_build.specs.Blobs.{BlobData}
 use Rattle.keep_rewrite.specs.Finishing.{Finishes, HasBlobData}
 use Rattle.keep_rewrite.specs.Leaving.{finished, kind_finished, kind_left, nodes_in, path_below, tree_left}
 use Rattle.keep_rewrite.specs.Walking.{asked_cmp, trees_of}

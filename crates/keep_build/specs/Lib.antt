@@ -1,0 +1,4 @@
+pub mod Blobs
+pub mod Packs
+pub mod Stored
+pub mod Storing
