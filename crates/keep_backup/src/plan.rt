@@ -10,11 +10,10 @@ ghost use Rattle.keep_backup.specs.Files.{file_view, given_view, paths_seen};
 ghost use Rattle.keep_backup.specs.Paths.{AreNamed, StandInOrder};
 ghost use Rattle.keep_plan.specs.declared.plan_error.PlanError.TheVariants as the_error;
 
-use keep_build::Cut;
 use crate::paths::{PathFile, files_in_order};
 use crate::snapshot::{BackupFacts, snapshot_file};
-use keep_build::Storing;
 use crate::walk::walk;
+use keep_build::{Cut, Storing};
 use keep_change::{Change, Listed, Planned, StoredFile};
 use keep_names::Id;
 use keep_plan::{PlanError, Stored};

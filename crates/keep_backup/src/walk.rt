@@ -11,9 +11,8 @@ ghost use Rattle.keep_backup.specs.Paths.{AreNamed, HasOtherName, HaveNames, Hav
 ghost use Rattle.keep_backup.specs.Walk.{Took, blobs_below, blobs_of, nodes_of, pieces_of, walk_refusal, root_tree};
 ghost use Rattle.keep_plan.specs.declared.plan_error.PlanError.TheVariants.{Full, Memory};
 
-use keep_build::Cut;
 use crate::paths::PathFile;
-use keep_build::Storing;
+use keep_build::{Cut, Storing};
 use keep_names::{BlobType, Id};
 use keep_plan::PlanError;
 use keep_tree::{Node, Tree, write_tree};

@@ -2,8 +2,8 @@
 use Rattle.std.proofs.Common.{◌≡◌, ◌≢◌, ℕ, zero, suc, List, ◌∷◌, ◌++◌, codes, refl, sym, subst, arith}
 use Rattle.std.specs.Fmt.{decimal}
 use Rattle.std.specs.Str.Iter.{LacksByte}
-use Rattle.keep_paths.proofs.Numbers.{number_lacks}
-use Rattle.keep_paths.specs.KeyPath.{IsNumber}
+use Rattle.keep_names.proofs.Numbers.{number_lacks}
+use Rattle.keep_names.specs.Number.{IsNumber}
 use Rattle.keep_keyed_folder.specs.Tmp.{IsTmp}
 
 lacks_more : (b : ℕ) (bs : List ℕ) → b ≢ 47 → LacksByte 47 bs → LacksByte 47 (b ∷ bs)

@@ -10,7 +10,7 @@ use Rattle.keep_names.proofs.HexText.{AllPass-encode_lower}
 use Rattle.keep_names.specs.Id.{is_lower_hex_digit}
 use Rattle.keep_lines.proofs.WordLists.{all_lack, lacks-cons, lacks-nil, lacks-not, parts_lack, parts_of, split_joined, texts}
 use Rattle.keep_lines.specs.BackupLine.{IsBackup, IsFile, backup_text, backup_words, file_word}
-use Rattle.keep_lines.specs.Prints.{NonePrints}
+use Rattle.keep_names.specs.Parses.{NonePrints}
 use Rattle.keep_lines.specs.Word.{AreBytes, hex_text, hex_word}
 use Rattle.keep_lines.specs.WordList.{AreAll, AreSpaceless, words_for}
 use Rattle.keep_lines.specs.declared.backup_line.BackupLine.{BackupLine}

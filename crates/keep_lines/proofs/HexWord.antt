@@ -4,7 +4,7 @@ use Rattle.std.specs.Prelude.{IfOk}
 use Rattle.std.specs.Global.{Vec}
 use Rattle.hex.specs.Hex.{IsBytes, encode_lower, encode_with}
 use Rattle.keep_names.specs.HexDigit.{Reads}
-use Rattle.keep_lines.specs.Prints.{NonePrints, Parses}
+use Rattle.keep_names.specs.Parses.{NonePrints, Parses}
 use Rattle.keep_lines.specs.Word.{AreBytes, hex_text, hex_word}
 
 -- hex that isn't empty is the word for its bytes

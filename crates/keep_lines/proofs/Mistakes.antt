@@ -5,12 +5,12 @@ use Rattle.std.proofs.lemmas.List.{length-append}
 use Rattle.std.proofs.lemmas.Str.Pattern.{IsSplitOnceResult, split_once_first, split_parts}
 use Rattle.std.specs.List.{after_first, before_first}
 use Rattle.std.specs.Str.Iter.{LacksByte}
-use Rattle.keep_names.specs.FileName.{kind_text}
+use Rattle.keep_names.specs.FileName.{kind_text, IsKind}
 use Rattle.keep_names.specs.declared.file_name.Kind.{Kind}
 use Rattle.keep_lines.specs.Command.{IsCommand, IsNoCommand, command_text}
 use Rattle.keep_lines.specs.Mistake.{AsksHex, AsksKind, AsksMore, AsksName, AsksNumber, AsksTarget, AsksWords, BeginsAsNone, EndsInNo, HasNoKind}
-use Rattle.keep_lines.specs.Prints.{Parses}
-use Rattle.keep_lines.specs.Word.{AreBytes, IsKind, IsTarget, hex_word, target_text}
+use Rattle.keep_names.specs.Parses.{Parses}
+use Rattle.keep_lines.specs.Word.{AreBytes, IsTarget, hex_word, target_text}
 use Rattle.keep_lines.specs.declared.command.Command.{Command}
 use Rattle.keep_lines.specs.declared.command.Command.TheVariants.{RawFile}
 use Rattle.keep_lines.specs.declared.raw_file.RawFile.TheVariants.{Add, Drop}

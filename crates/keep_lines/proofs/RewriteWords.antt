@@ -6,7 +6,7 @@ use Rattle.std.specs.List.{AllByRecursion, join_with_byte}
 use Rattle.std.specs.Str.Iter.{LacksByte}
 use Rattle.keep_lines.specs.declared.rewrite_line.RewriteLine.{RewriteLine}
 use Rattle.keep_lines.proofs.WordLists.{all_lack, behind_one, lacks-cons, lacks-nil, one_and_more, parts_lack, parts_of, split_joined, texts}
-use Rattle.keep_lines.specs.Prints.{NonePrints}
+use Rattle.keep_names.specs.Parses.{NonePrints}
 use Rattle.keep_lines.specs.RewriteLine.{CutsFlag, IsClear, IsRewrite, flagged, rewrite_text}
 use Rattle.keep_lines.specs.WordList.{AreSpaceless, IsWord}
 

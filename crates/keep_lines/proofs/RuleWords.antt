@@ -17,8 +17,8 @@ use Rattle.keep_lines.specs.declared.forget_line.Span.TheVariants.{Last, Day, We
 use Rattle.keep_labels.specs.declared.count.Count.{Count}
 use Rattle.keep_lines.proofs.WordLists.{lacks-cons, lacks-nil, lacks-not, lacks-tail, parts_for_filter}
 use Rattle.keep_lines.specs.ForgetLine.{IsCounted, IsForget, IsRule, count_once, forget_text, rule_text, stands_once}
-use Rattle.keep_lines.specs.Prints.{NonePrints, Parses}
-use Rattle.keep_lines.specs.Word.{IsNumber}
+use Rattle.keep_names.specs.Parses.{NonePrints, Parses}
+use Rattle.keep_names.specs.Number.{IsNumber}
 use Rattle.keep_lines.specs.WordList.{IsForFilter, filter_text}
 
 -- ---- a word and its first `=`

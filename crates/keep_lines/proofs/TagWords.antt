@@ -1,6 +1,6 @@
 -- The words of a line that gives snapshots other tags.
 use Rattle.std.proofs.Common.{◌≢◌, ℕ, List, ◌∷◌, string_bytes, sym}
-use Rattle.keep_lines.specs.Prints.{NonePrints}
+use Rattle.keep_names.specs.Parses.{NonePrints}
 use Rattle.keep_lines.specs.TagLine.{IsTagWord, tag_word_text}
 use Rattle.keep_lines.specs.declared.tag_line.TagWord.TheVariants.{Add, Remove, Set}
 

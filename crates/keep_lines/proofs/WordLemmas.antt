@@ -1,52 +1,15 @@
--- Each word is the text of at most one value.
-use Rattle.std.proofs.Common.{◌≡◌, ◌≢◌, ℕ, ◌<◌, ◌^◌, inl, inr, List, ◌∷◌, length, slice_index, Result, Ok, Err, Some, None, true, refl, sym, ap, subst, ◌∙◌, arith}
-use Rattle.std.proofs.lemmas.Bool.{cases_lt}
-use Rattle.std.proofs.lemmas.Fmt.{decimal-digits_value, decimal_digit, decimal_nonempty, digits_decimal, first_decimal, parse-decimal}
+-- Each target is the text of at most one value.
+use Rattle.std.proofs.Common.{◌≡◌, ◌≢◌, ℕ, List, ◌∷◌, Result, Ok, Err, Some, None, true, sym, subst, ◌∙◌}
 use Rattle.std.proofs.lemmas.List.Elements.{All-head}
-use Rattle.std.proofs.lemmas.Str.Parse.{IsNumeralModel, not_in_digits, numerals_by_value, parse_plain, tells_digits}
 use Rattle.std.specs.Fmt.{decimal}
 use Rattle.std.specs.Result.{result_ok}
-use Rattle.std.specs.Str.Parse.{AllDigits, ParsesUnsigned, digits_value}
 use Rattle.keep_names.proofs.IdText.{IsIdText-id_text, id_of_text}
 use Rattle.keep_names.specs.Id.{IsDigest, IsIdText, id_text, is_lower_hex_digit}
 use Rattle.keep_names.specs.declared.id.Id.{Id}
-use Rattle.keep_lines.specs.Prints.{NonePrints, Parses}
-use Rattle.keep_lines.specs.Word.{HasPlainFront, IsNumber, IsTarget, target_text}
+use Rattle.keep_names.specs.Parses.{NonePrints}
+use Rattle.keep_names.specs.Number.{IsNumber}
+use Rattle.keep_lines.specs.Word.{IsTarget, target_text}
 use Rattle.keep_lines.specs.declared.word.Target.TheVariants.{Named, AddedBy}
-
--- ---- numbers
-
-own : IsNumeralModel (AllDigits 10) (digits_value 10)
-own = numerals_by_value (AllDigits 10) tells_digits
-
--- zero in front of a printed number is all of it
-zero_alone : (n : ℕ) → n < 2 ^ 64 → slice_index (decimal n) 0 ≡ 48 → length (decimal n) ≡ 1
-zero_alone n small e =
-    elim (cases_lt 0 n) [
-      | inl above ↦
-          let first = first_decimal n above small in
-          absurd (omega (arith, first, e))
-      | inr low ↦
-          let zero_is : n ≡ 0 = omega arith in
-          rw zero_is (rw (decimal_digit 0 (omega arith)) refl)
-    ]
-
--- a printed number has a plain front
-pub HasPlainFront-decimal : (n : ℕ) (word : List ℕ) → n < 2 ^ 64 → decimal n ≡ word → HasPlainFront word
-HasPlainFront-decimal n word small e =
-    rw (← e) (
-      not_in_digits own (decimal n) 43 (digits_decimal own n small) (λ r. omega arith) 0 (decimal_nonempty n small),
-      zero_alone n small,
-    )
-
--- what a word of plain front is read as prints as that word, and where it isn't read no number does
-pub number-parsed : {E : Type 0} (word : List ℕ) (r : Result ℕ E) → ParsesUnsigned 64 10 word r → HasPlainFront word → Parses IsNumber decimal word (result_ok r)
-number-parsed {E} word (Ok n) h front =
-    let read = parse_plain own {E = E} 64 word (Ok n) h front.0 in
-    rw read.1 (read.0.2, decimal-digits_value own word read.0.0 read.0.1 front.1 read.0.2)
-number-parsed {E} word (Err e) h front = λ n small same. cc (ap result_ok (parse-decimal 64 n word (Err e) small small (sym same) h))
-
--- ---- targets
 
 -- an id that is the only one with a text has 32 bytes
 pub IsDigest-parsed : (word : List ℕ) (id : Id) → IsIdText word → ((other : Id) → IsDigest other → id_text other ≡ word → id ≡ other) → IsDigest id

@@ -7,7 +7,7 @@ use Rattle.std.proofs.lemmas.List.Splits.{join_with_byte-slice_split, slice_spli
 use Rattle.std.specs.Global.{Global, Vec}
 use Rattle.std.specs.List.{All, AllByRecursion, join_with_byte, onto_first, slice_split}
 use Rattle.std.specs.Str.Iter.{LacksByte}
-use Rattle.keep_lines.specs.Prints.{NonePrints}
+use Rattle.keep_names.specs.Parses.{NonePrints}
 use Rattle.keep_lines.specs.WordList.{AreSpaceless, IsForFilter, filter_text}
 
 -- no values' words are these

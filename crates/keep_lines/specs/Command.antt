@@ -2,11 +2,12 @@
 use Rattle.std.specs.Prelude.{◌≡◌, ℕ, List, ◌++◌, codes}
 use Rattle.std.specs.Fmt.{decimal}
 use Rattle.keep_lines.specs.JobLine.{IsJob, job_text}
-use Rattle.keep_lines.specs.Prints.{NonePrints}
+use Rattle.keep_names.specs.Parses.{NonePrints}
 use Rattle.keep_lines.specs.Question.{IsQuestion, question_text}
 use Rattle.keep_lines.specs.RawFile.{IsRawFile, raw_file_text}
 use Rattle.keep_lines.specs.Revision.{IsRevision, revision_text}
-use Rattle.keep_lines.specs.Word.{IsName, IsNumber}
+use Rattle.keep_names.specs.Number.{IsNumber}
+use Rattle.keep_lines.specs.Word.{IsName}
 use Rattle.keep_lines.specs.declared.command.Command.{Command}
 use Rattle.keep_lines.specs.declared.command.Command.TheVariants.{Arm, Cascade, Job, Note, Question, RawFile, Revision}
 

@@ -7,7 +7,7 @@ use Rattle.keep_lines.specs.BackupLine.{IsBackup, backup_text}
 use Rattle.keep_lines.specs.ForgetLine.{IsForget, forget_text}
 use Rattle.keep_lines.specs.RewriteLine.{IsRewrite, rewrite_text}
 use Rattle.keep_lines.specs.TagLine.{IsTag, tag_text}
-use Rattle.keep_lines.specs.Word.{IsNumber}
+use Rattle.keep_names.specs.Number.{IsNumber}
 
 -- `backup HOST TIME PATH=HEX ..`, `tag FILTER WORD ..`, `forget FILTER RULE ..`, `rewrite FILTER PATTERN ..` or
 -- `rewrite FILTER forget PATTERN ..`, `repair`, `mark`, `sweep` or `sweep N`

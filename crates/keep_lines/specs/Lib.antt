@@ -6,7 +6,6 @@ pub mod JobLine
 pub mod Line
 pub mod Mistake
 pub mod Policies
-pub mod Prints
 pub mod Question
 pub mod RawFile
 pub mod Reply

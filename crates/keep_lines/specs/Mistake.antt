@@ -2,16 +2,17 @@
 use Rattle.std.specs.Prelude.{◌≡◌, ◌≢◌, ℕ, ◌<◌, ◌⊎◌, List, ◌++◌, codes, length}
 use Rattle.std.specs.Fmt.{decimal}
 use Rattle.std.specs.Str.Iter.{LacksByte}
-use Rattle.keep_names.specs.FileName.{kind_text}
+use Rattle.keep_names.specs.FileName.{kind_text, IsKind}
 use Rattle.keep_names.specs.declared.file_name.Kind.{Kind}
 use Rattle.keep_lines.specs.BackupLine.{IsBackup, backup_text}
 use Rattle.keep_lines.specs.Command.{IsNoCommand}
 use Rattle.keep_lines.specs.ForgetLine.{IsForget, forget_text}
 use Rattle.keep_lines.specs.Line.{IsPassedOver, IsText, longest_line}
-use Rattle.keep_lines.specs.Prints.{NonePrints}
+use Rattle.keep_names.specs.Parses.{NonePrints}
 use Rattle.keep_lines.specs.RewriteLine.{IsRewrite, rewrite_text}
 use Rattle.keep_lines.specs.TagLine.{IsTag, tag_text}
-use Rattle.keep_lines.specs.Word.{AreBytes, IsKind, IsName, IsNumber, IsTarget, hex_word, target_text}
+use Rattle.keep_names.specs.Number.{IsNumber}
+use Rattle.keep_lines.specs.Word.{AreBytes, IsName, IsTarget, hex_word, target_text}
 use Rattle.keep_lines.specs.declared.mistake.Mistake.{Mistake}
 use Rattle.keep_lines.specs.declared.mistake.Mistake.TheVariants.{TooLong, NotText, NoCommand, NotKind, NotHex, NotNumber, NotName, NotTarget, NotBackup, NotTag, NotForget, NotRewrite, NoFilter, NoFile, NoNote, NoHook}
 

@@ -3,7 +3,7 @@ use Rattle.std.specs.Prelude.{ℕ, List, ◌++◌, codes}
 use Rattle.std.specs.Fmt.{decimal}
 use Rattle.keep_journal.specs.declared.request.Request.{Request}
 use Rattle.keep_journal.specs.declared.request.Request.TheVariants as request
-use Rattle.keep_lines.specs.Word.{IsNumber}
+use Rattle.keep_names.specs.Number.{IsNumber}
 use Rattle.keep_lines.specs.declared.revision.Revision.{Revision}
 use Rattle.keep_lines.specs.declared.revision.Revision.TheVariants.{Undo, Redo, Empty}
 

@@ -1,17 +1,13 @@
 -- The words of a line: each is the text of a value.
-use Rattle.std.specs.Prelude.{◌≡◌, ℕ, ◌<◌, ◌≤◌, ◌==◌, ◌&&◌, ◌||◌, nat_le, Bool, List, [], ◌∷◌, ◌++◌, length, codes, ◌^◌, ◌≢◌, slice_index, ⊤}
+use Rattle.std.specs.Prelude.{ℕ, ◌<◌, ◌≤◌, ◌==◌, ◌&&◌, ◌||◌, nat_le, Bool, List, [], ◌∷◌, ◌++◌, length, codes}
 use Rattle.std.specs.Global.{Vec}
 use Rattle.std.specs.Fmt.{decimal}
 use Rattle.std.specs.List.{AllPass}
 use Rattle.hex.specs.Hex.{IsBytes, encode_lower}
+use Rattle.keep_names.specs.Number.{IsNumber}
 use Rattle.keep_names.specs.Id.{IsDigest, id_text}
-use Rattle.keep_names.specs.declared.file_name.Kind.{Kind}
 use Rattle.keep_lines.specs.declared.word.Target.{Target}
 use Rattle.keep_lines.specs.declared.word.Target.TheVariants.{Named, AddedBy}
-
--- no plus stands in front, and a zero stands there alone
-abbrev pub HasPlainFront : List ℕ → Type 0
-HasPlainFront word = (slice_index word 0 ≢ 43) × (slice_index word 0 ≡ 48 → length word ≡ 1)
 
 -- bytes in lower case hex, none of them as a dash
 abbrev pub hex_text : List ℕ → List ℕ
@@ -25,14 +21,6 @@ hex_word bytes = hex_text bytes.items
 -- a vector of bytes
 abbrev pub AreBytes : Vec ℕ → Type 0
 AreBytes bytes = IsBytes bytes.items
-
--- a number of 64 bits, as each number of a line is
-abbrev pub IsNumber : ℕ → Type 0
-IsNumber n = n < 2 ^ 64
-
--- each kind of file has a word
-abbrev pub IsKind : Kind → Type 0
-IsKind kind = ⊤
 
 -- whether c is an ASCII letter or digit, or a dash
 abbrev pub is_name_byte : ℕ → Bool

@@ -1,6 +1,6 @@
 ghost use Rattle.std.specs.Prelude.{IfOk};
 ghost use Rattle.keep_lines.specs.BackupLine.{IsBackup, backup_text};
-ghost use Rattle.keep_lines.specs.Prints.{Parses};
+ghost use Rattle.keep_names.specs.Parses.{Parses};
 
 use crate::word::parse_hex;
 use crate::word_list::{Word, parse_words};

@@ -2,8 +2,9 @@ ghost use Rattle.std.specs.Prelude.{◌≡◌, Err, IfOk, IfSome, None, Ok, OnOk
 ghost use Rattle.keep_lines.specs.Command.{Asks, IsCommand, arm_text, cascade_text, command_text, note_text};
 ghost use Rattle.keep_lines.specs.Line.{IsPassedOver, IsText};
 ghost use Rattle.keep_lines.specs.Mistake.{IsMistake};
-ghost use Rattle.keep_lines.specs.Prints.{Parses};
-ghost use Rattle.keep_lines.specs.Word.{IsName, IsNumber};
+ghost use Rattle.keep_names.specs.Parses.{Parses};
+ghost use Rattle.keep_names.specs.Number.{IsNumber};
+ghost use Rattle.keep_lines.specs.Word.{IsName};
 ghost use Rattle.keep_lines.specs.declared.command.LineError.TheVariants as the_error;
 ghost use Rattle.keep_lines.specs.declared.mistake.Mistake.{Mistake};
 
@@ -13,7 +14,8 @@ use crate::mistake::{Mistake, mistake_of};
 use crate::question::{Question, parse_question};
 use crate::raw_file::{RawFile, parse_raw_file};
 use crate::revision::{Revision, parse_revision};
-use crate::word::{is_name, parse_number};
+use crate::word::is_name;
+use keep_names::parse_number;
 use std::alloc::{AllocError, Global};
 
 /// What a line asks for.

@@ -4,11 +4,11 @@ ghost use Rattle.std.specs.Str.Iter.{LacksByte};
 ghost use Rattle.keep_lines.specs.Policies.{counted_by};
 ghost use Rattle.keep_labels.specs.declared.count.Count.{Count};
 ghost use Rattle.keep_lines.specs.ForgetLine.{IsCounted, IsForget, count_once, forget_text, rule_text, stands_once};
-ghost use Rattle.keep_lines.specs.Prints.{Parses};
+ghost use Rattle.keep_names.specs.Parses.{Parses};
 
-use crate::word::parse_number;
 use crate::word_list::{Word, parse_for_filter};
 use keep_labels::Count;
+use keep_names::parse_number;
 use std::alloc::{AllocError, Global};
 
 /// Snapshots to drop, of those that a filter takes: the ones that no rule keeps.

@@ -1,12 +1,12 @@
 ghost use Rattle.std.specs.Prelude.{◌≡◌, ◌≢◌, IfNone, IfOk, IfSome, codes};
 ghost use Rattle.keep_lines.specs.JobLine.{IsJob, job_text};
-ghost use Rattle.keep_lines.specs.Prints.{Parses};
+ghost use Rattle.keep_names.specs.Parses.{Parses};
 
 use crate::backup_line::{BackupLine, parse_backup};
 use crate::forget_line::{ForgetLine, parse_forget};
 use crate::rewrite_line::{RewriteLine, parse_rewrite};
 use crate::tag_line::{TagLine, parse_tag};
-use crate::word::parse_number;
+use keep_names::parse_number;
 use std::alloc::{AllocError, Global};
 
 /// What a line asks one planner for. Filters stand in it by their names.

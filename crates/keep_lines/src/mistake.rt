@@ -2,7 +2,7 @@ ghost use Rattle.std.specs.Prelude.{◌++◌, codes};
 ghost use Rattle.keep_lines.specs.Command.{IsNoCommand};
 ghost use Rattle.keep_lines.specs.Mistake.{AsksKind, Explains};
 
-use crate::word::parse_kind;
+use keep_names::parse_kind;
 use std::fmt;
 
 /// Why a line isn't one of the language. It prints as an operator is told.

@@ -1,5 +1,5 @@
 ghost use Rattle.std.specs.Prelude.{◌≡◌, ◌≢◌, IfNone, IfSome, codes};
-ghost use Rattle.keep_lines.specs.Prints.{Parses};
+ghost use Rattle.keep_names.specs.Parses.{Parses};
 ghost use Rattle.keep_lines.specs.Question.{IsQuestion, question_text};
 
 use crate::word::{Target, is_name, parse_target};

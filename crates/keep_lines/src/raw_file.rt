@@ -1,9 +1,9 @@
 ghost use Rattle.std.specs.Prelude.{IfOk};
-ghost use Rattle.keep_lines.specs.Prints.{Parses};
+ghost use Rattle.keep_names.specs.Parses.{Parses};
 ghost use Rattle.keep_lines.specs.RawFile.{IsRawFile, raw_file_text};
 
-use crate::word::{Target, parse_hex, parse_kind, parse_target};
-use keep_names::Kind;
+use crate::word::{Target, parse_hex, parse_target};
+use keep_names::{Kind, parse_kind};
 use std::alloc::{AllocError, Global};
 
 /// A file that a line adds or drops by itself, whatever is in it.

@@ -1,9 +1,9 @@
-ghost use Rattle.keep_lines.specs.Prints.{Parses};
+ghost use Rattle.keep_names.specs.Parses.{Parses};
 ghost use Rattle.std.specs.Prelude.{◌≡◌};
 ghost use Rattle.keep_lines.specs.Revision.{IsRevision, request_of, revision_text};
 
-use crate::word::parse_number;
 use keep_journal::Request;
+use keep_names::parse_number;
 
 /// What a line asks about the change of a number.
 #[derive(Clone, Copy, PartialEq, Eq)]

@@ -1,5 +1,5 @@
 ghost use Rattle.std.specs.Prelude.{IfOk, map};
-ghost use Rattle.keep_lines.specs.Prints.{Parses};
+ghost use Rattle.keep_names.specs.Parses.{Parses};
 ghost use Rattle.keep_lines.specs.RewriteLine.{CutsFlag, IsRewrite, rewrite_text};
 
 use crate::word_list::{Word, parse_words};

@@ -1,11 +1,9 @@
 ghost use Rattle.std.specs.Prelude.{◌≡◌, ◌↔◌, IfOk, IsTrue, string_bytes};
-ghost use Rattle.std.specs.Fmt.{decimal};
 ghost use Rattle.std.specs.List.{AllPass};
-ghost use Rattle.keep_names.specs.FileName.{kind_text};
-ghost use Rattle.keep_lines.specs.Prints.{Parses};
-ghost use Rattle.keep_lines.specs.Word.{AreBytes, HasPlainFront, IsKind, IsName, IsNumber, IsTarget, hex_text, hex_word, is_name_byte, target_text};
+ghost use Rattle.keep_names.specs.Parses.{Parses};
+ghost use Rattle.keep_lines.specs.Word.{AreBytes, IsName, IsTarget, hex_text, hex_word, is_name_byte, target_text};
 
-use keep_names::{Id, Kind, decode_hex, parse_id};
+use keep_names::{Id, decode_hex, parse_id, parse_number};
 use std::alloc::{AllocError, Global};
 
 /// Which file a line means: one by its name, or the one that a change added.
@@ -16,35 +14,6 @@ pub enum Target {
 }
 
 const MAX_NAME: usize = 64;
-
-/// The kind of this word.
-pub(crate) fn parse_kind(word: &str) -> Option<Kind>
-    ensures { Parses IsKind kind_text word.now result }
-{
-    match word {
-        "pack" => Some(Kind::Pack),
-        "index" => Some(Kind::Index),
-        "snapshot" => Some(Kind::Snapshot),
-        _ => None,
-    }
-}
-
-/// The number of these digits.
-pub(crate) fn parse_number(word: &str) -> Option<u64>
-    ensures { Parses IsNumber decimal word.now result }
-{
-    if !has_plain_front(word) {
-        return None;
-    }
-    word.parse().ok()
-}
-
-/// Whether no plus stands in front, and no zero that could be left out.
-fn has_plain_front(word: &str) -> bool
-    ensures { IsTrue result ↔ HasPlainFront word.now }
-{
-    !matches!(word.as_bytes(), [b'+', ..] | [b'0', _, ..])
-}
 
 /// Whether the word can name a note: 1 to 64 ASCII letters, digits or dashes.
 pub(crate) fn is_name(word: &str) -> bool

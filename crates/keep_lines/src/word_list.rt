@@ -1,6 +1,6 @@
 ghost use Rattle.std.specs.Prelude.{ℕ, List, IfOk, map};
 ghost use Rattle.std.specs.Str.Iter.{LacksByte};
-ghost use Rattle.keep_lines.specs.Prints.{Parses};
+ghost use Rattle.keep_names.specs.Parses.{Parses};
 ghost use Rattle.keep_lines.specs.WordList.{AreAll, AreSpaceless, IsForFilter, filter_text, words_for};
 
 use std::alloc::{AllocError, Global};

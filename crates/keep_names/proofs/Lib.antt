@@ -2,6 +2,7 @@ pub mod Digests
 pub mod HexPairs
 pub mod HexText
 pub mod IdText
+pub mod Numbers
 pub mod Orders
 pub mod OrdersSaid
 pub mod Paths

@@ -1,5 +1,5 @@
 -- The texts of kinds and names, and where files lie.
-use Rattle.std.specs.Prelude.{ℕ, List, ◌++◌, codes, take}
+use Rattle.std.specs.Prelude.{⊤, ℕ, List, ◌++◌, codes, take}
 use Rattle.keep_names.specs.declared.file_name.FileName.{FileName}
 use Rattle.keep_names.specs.declared.file_name.Kind.{Kind}
 use Rattle.keep_names.specs.declared.file_name.Kind.TheVariants.{Pack, Index, Snapshot}
@@ -15,6 +15,10 @@ abbrev pub kind_text : Kind → List ℕ
 kind_text Pack = codes "pack"
 kind_text Index = codes "index"
 kind_text Snapshot = codes "snapshot"
+
+-- each kind of file has a word
+abbrev pub IsKind : Kind → Type 0
+IsKind kind = ⊤
 
 -- the kind, a space, and the id's digits
 abbrev pub file_name_text : FileName → List ℕ

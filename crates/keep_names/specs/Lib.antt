@@ -3,5 +3,7 @@ pub mod FileName
 pub mod HexDigit
 pub mod Id
 pub mod Laws
+pub mod Number
 pub mod Orders
+pub mod Parses
 pub use Rattle.sha2.specs.Sha256

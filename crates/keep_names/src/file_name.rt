@@ -1,6 +1,7 @@
 ghost use Rattle.std.specs.Prelude.{◌≡◌, IfOk, Some, string_bytes, take};
-ghost use Rattle.keep_names.specs.FileName.{file_name_text, kind_text, path_text};
+ghost use Rattle.keep_names.specs.FileName.{IsKind, file_name_text, kind_text, path_text};
 ghost use Rattle.keep_names.specs.Id.{id_text};
+ghost use Rattle.keep_names.specs.Parses.{Parses};
 
 use crate::id::{Id, print_id};
 use std::alloc::{AllocError, Global};
@@ -12,6 +13,18 @@ pub enum Kind {
     Pack,
     Index,
     Snapshot,
+}
+
+/// The kind that prints as this word.
+pub fn parse_kind(word: &str) -> Option<Kind>
+    ensures { Parses IsKind kind_text word.now result }
+{
+    match word {
+        "pack" => Some(Kind::Pack),
+        "index" => Some(Kind::Index),
+        "snapshot" => Some(Kind::Snapshot),
+        _ => None,
+    }
 }
 
 impl fmt::Display for Kind {

@@ -14,9 +14,9 @@ use Rattle.keep_shelf.specs.declared.key.Key.{Key}
 use Rattle.keep_shelf.specs.declared.key.Key.TheVariants.{Live, Trash, Entry}
 use Rattle.keep_paths.proofs.Cutting.{one_cut}
 use Rattle.keep_paths.proofs.Digits.{front_lacks}
-use Rattle.keep_paths.proofs.Numbers.{number_lacks}
+use Rattle.keep_names.proofs.Numbers.{number_lacks}
 use Rattle.keep_paths.specs.KeyPath.{IsInTrash, IsKey, IsName, key_path, name_path, trash_path}
-use Rattle.keep_paths.specs.Parses.{NonePrints}
+use Rattle.keep_names.specs.Parses.{NonePrints}
 
 -- the first letter of a path
 abbrev letter : List ℕ → ℕ

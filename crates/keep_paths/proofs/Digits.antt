@@ -9,7 +9,7 @@ use Rattle.keep_names.proofs.IdText.{IsIdText-id_text, id_of_text}
 use Rattle.keep_names.specs.Id.{IsDigest, IsIdText, id_text, is_lower_hex_digit}
 use Rattle.keep_names.specs.declared.id.Id.{Id}
 use Rattle.keep_paths.specs.KeyPath.{IsFrontOf}
-use Rattle.keep_paths.specs.Parses.{Parses}
+use Rattle.keep_names.specs.Parses.{Parses}
 
 -- the fact of `AllPass is_lower_hex_digit`
 abbrev IsLower : ℕ → Type 0

@@ -17,10 +17,11 @@ use Rattle.keep_shelf.specs.declared.key.Key.{Key}
 use Rattle.keep_shelf.specs.declared.key.Key.TheVariants.{Live, Trash, Entry}
 use Rattle.keep_paths.proofs.Cutting.{lacks-tail, one_cut}
 use Rattle.keep_paths.proofs.Digits.{digits_lack, front_lacks}
-use Rattle.keep_paths.proofs.Numbers.{number_lacks}
+use Rattle.keep_names.proofs.Numbers.{number_lacks}
 use Rattle.keep_paths.specs.Folder.{HoldsKeys, HoldsTrash, IsPackFolder, IsTopFolder, LiesIn}
-use Rattle.keep_paths.specs.KeyPath.{IsInTrash, IsKey, IsNumber, key_path, name_path, trash_path}
-use Rattle.keep_paths.specs.Parses.{Parses}
+use Rattle.keep_names.specs.Number.{IsNumber}
+use Rattle.keep_paths.specs.KeyPath.{IsInTrash, IsKey, key_path, name_path, trash_path}
+use Rattle.keep_names.specs.Parses.{Parses}
 
 -- ---- texts without a slash
 

@@ -2,4 +2,3 @@ pub mod Apart
 pub mod Cutting
 pub mod Digits
 pub mod Folders
-pub mod Numbers

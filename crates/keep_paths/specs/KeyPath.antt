@@ -1,10 +1,10 @@
 -- Where what is under a key lies, below the folder of a shelf.
-use Rattle.std.specs.Prelude.{◌≡◌, ℕ, ◌<◌, ◌≤◌, ◌^◌, List, ◌++◌, codes, length, take, ⊤}
+use Rattle.std.specs.Prelude.{◌≡◌, ℕ, ◌≤◌, List, ◌++◌, codes, length, take}
 use Rattle.std.specs.Fmt.{decimal}
+use Rattle.keep_names.specs.Number.{IsNumber}
 use Rattle.keep_names.specs.FileName.{kind_text, path_text}
 use Rattle.keep_names.specs.Id.{IsDigest, id_text}
 use Rattle.keep_names.specs.declared.file_name.FileName.{FileName}
-use Rattle.keep_names.specs.declared.file_name.Kind.{Kind}
 use Rattle.keep_names.specs.declared.id.Id.{Id}
 use Rattle.keep_shelf.specs.declared.key.Key.{Key}
 use Rattle.keep_shelf.specs.declared.key.Key.TheVariants.{Live, Trash, Entry}
@@ -31,14 +31,6 @@ pack_path id = take 2 (id_text id) ++ (codes "/" ++ id_text id)
 -- the first two of these digits, and no fewer
 abbrev pub IsFrontOf : List ℕ → List ℕ → Type 0
 IsFrontOf front digits = (2 ≤ length digits) × (take 2 digits ≡ front)
-
--- a number of 64 bits, as each number of a key is
-abbrev pub IsNumber : ℕ → Type 0
-IsNumber n = n < 2 ^ 64
-
--- each kind of file has a word
-abbrev pub IsKind : Kind → Type 0
-IsKind kind = ⊤
 
 -- an id of 32 bytes, as each name has
 abbrev pub IsName : FileName → Type 0

@@ -1,4 +1,2 @@
 pub mod Folder
 pub mod KeyPath
-pub mod Number
-pub mod Parses

@@ -2,8 +2,7 @@ ghost use Rattle.std.specs.Prelude.{◌≡◌, ◌↔◌, IsTrue};
 ghost use Rattle.keep_names.specs.Id.{is_lower_hex_digit};
 ghost use Rattle.keep_paths.specs.Folder.{HoldsKeys, HoldsTrash, IsPackFolder, IsTopFolder};
 
-use crate::name::parse_kind;
-use crate::number::parse_number;
+use keep_names::{parse_kind, parse_number};
 
 /// Whether a key can lie in the folder of this path, or in one below it.
 pub fn holds_keys(folder: &str) -> bool

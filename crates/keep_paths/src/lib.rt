@@ -4,7 +4,6 @@
 mod folder;
 mod laws;
 mod name;
-mod number;
 mod path;
 
 pub use folder::holds_keys;

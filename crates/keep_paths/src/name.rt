@@ -1,22 +1,9 @@
 ghost use Rattle.std.specs.Prelude.{◌↔◌, IsTrue};
-ghost use Rattle.keep_names.specs.FileName.{kind_text};
 ghost use Rattle.keep_names.specs.Id.{IsDigest, id_text};
-ghost use Rattle.keep_paths.specs.KeyPath.{IsKind, IsName, IsFrontOf, name_path, pack_path};
-ghost use Rattle.keep_paths.specs.Parses.{Parses};
+ghost use Rattle.keep_paths.specs.KeyPath.{IsName, IsFrontOf, name_path, pack_path};
+ghost use Rattle.keep_names.specs.Parses.{Parses};
 
-use keep_names::{FileName, Id, Kind, parse_id};
-
-/// The kind of this word.
-pub(crate) fn parse_kind(word: &str) -> Option<Kind>
-    ensures { Parses IsKind kind_text word.now result }
-{
-    match word {
-        "pack" => Some(Kind::Pack),
-        "index" => Some(Kind::Index),
-        "snapshot" => Some(Kind::Snapshot),
-        _ => None,
-    }
-}
+use keep_names::{FileName, Id, parse_id, parse_kind};
 
 /// The id of these digits.
 pub(crate) fn parse_digits(digits: &str) -> Option<Id>

@@ -1,11 +1,10 @@
 ghost use Rattle.std.specs.Prelude.{◌≡◌, IfOk, IfSome, Some, string_bytes};
 ghost use Rattle.keep_paths.specs.KeyPath.{IsInTrash, IsKey, key_path, trash_path};
-ghost use Rattle.keep_paths.specs.Parses.{Parses};
+ghost use Rattle.keep_names.specs.Parses.{Parses};
 ghost use Rattle.keep_shelf.specs.declared.key.Key.{Key};
 
 use crate::name::{parse_digits, parse_name, parse_pack};
-use crate::number::parse_number;
-use keep_names::{FileName, path_of};
+use keep_names::{FileName, parse_number, path_of};
 use keep_shelf::Key;
 use std::alloc::{AllocError, Global};
 

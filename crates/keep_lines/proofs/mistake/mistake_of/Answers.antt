@@ -7,7 +7,8 @@ use Rattle.keep_lines.specs.ForgetLine.{IsForget, forget_text}
 use Rattle.keep_lines.specs.Mistake.{AsksBackup, AsksForget, AsksName, AsksNumber, AsksRewrite, AsksTag, AsksTarget}
 use Rattle.keep_lines.specs.RewriteLine.{IsRewrite, rewrite_text}
 use Rattle.keep_lines.specs.TagLine.{IsTag, tag_text}
-use Rattle.keep_lines.specs.Word.{IsName, IsNumber, IsTarget, target_text}
+use Rattle.keep_names.specs.Number.{IsNumber}
+use Rattle.keep_lines.specs.Word.{IsName, IsTarget, target_text}
 use Rattle.keep_lines.specs.declared.command.Command.TheVariants.{Arm, Cascade, Job, Note, Question, Revision}
 use Rattle.keep_lines.specs.declared.question.Question.TheVariants.{Restore, Same}
 use Rattle.keep_lines.specs.declared.revision.Revision.TheVariants.{Empty, Redo, Undo}

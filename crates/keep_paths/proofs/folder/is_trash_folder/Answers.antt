@@ -1,10 +1,11 @@
 use Rattle.std.proofs.Common.{subst, sym, ◌∙◌}
 use Rattle.std.specs.Fmt.{decimal}
-use Rattle.keep_names.specs.FileName.{kind_text}
+use Rattle.keep_names.specs.FileName.{kind_text, IsKind}
 use Rattle.keep_paths.proofs.Cutting.{joined, whole}
 use Rattle.keep_paths.proofs.Folders.{change_folder, change_holds, found, kind_folder, kind_holds, parsed}
 use Rattle.keep_paths.specs.Folder.{LiesIn}
-use Rattle.keep_paths.specs.KeyPath.{IsKind, IsNumber, trash_path}
+use Rattle.keep_names.specs.Number.{IsNumber}
+use Rattle.keep_paths.specs.KeyPath.{trash_path}
 use Rattle.keep_paths.proofs.folder.is_trash_folder.Goals as goal
 
 pub returns-in-None : goal.returns-in-None

@@ -2,7 +2,7 @@ use Rattle.std.proofs.Common.{Option, Some, None, ◌≡◌, ℕ, List, sym, ap,
 use Rattle.keep_paths.proofs.Apart.{key_path-exact}
 use Rattle.keep_paths.proofs.path.key_of_path.Goals as goal
 use Rattle.keep_paths.specs.KeyPath.{IsKey, key_path}
-use Rattle.keep_paths.specs.Parses.{Parses}
+use Rattle.keep_names.specs.Parses.{Parses}
 use Rattle.keep_shelf.specs.declared.key.Key.{Key}
 
 -- what was found is the only key of this path

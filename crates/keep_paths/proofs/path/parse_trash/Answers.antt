@@ -1,7 +1,7 @@
 use Rattle.std.proofs.Common.{sym}
 use Rattle.std.specs.Fmt.{decimal}
 use Rattle.keep_paths.proofs.Cutting.{halves, uncut}
-use Rattle.keep_paths.proofs.Numbers.{number_lacks}
+use Rattle.keep_names.proofs.Numbers.{number_lacks}
 use Rattle.keep_paths.specs.KeyPath.{name_path}
 use Rattle.keep_paths.proofs.path.parse_trash.Goals as goal
 

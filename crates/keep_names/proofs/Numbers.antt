@@ -7,9 +7,8 @@ use Rattle.std.specs.Fmt.{decimal}
 use Rattle.std.specs.Result.{result_ok}
 use Rattle.std.specs.Str.Iter.{LacksByte}
 use Rattle.std.specs.Str.Parse.{AllDigits, ParsesUnsigned, digits_value}
-use Rattle.keep_paths.specs.KeyPath.{IsNumber}
-use Rattle.keep_paths.specs.Number.{HasPlainFront}
-use Rattle.keep_paths.specs.Parses.{Parses}
+use Rattle.keep_names.specs.Number.{HasPlainFront, IsNumber}
+use Rattle.keep_names.specs.Parses.{Parses}
 
 own : IsNumeralModel (AllDigits 10) (digits_value 10)
 own = numerals_by_value (AllDigits 10) tells_digits

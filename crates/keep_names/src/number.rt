@@ -1,11 +1,10 @@
 ghost use Rattle.std.specs.Prelude.{◌↔◌, IsTrue};
 ghost use Rattle.std.specs.Fmt.{decimal};
-ghost use Rattle.keep_paths.specs.KeyPath.{IsNumber};
-ghost use Rattle.keep_paths.specs.Parses.{Parses};
-ghost use Rattle.keep_paths.specs.Number.{HasPlainFront};
+ghost use Rattle.keep_names.specs.Parses.{Parses};
+ghost use Rattle.keep_names.specs.Number.{HasPlainFront, IsNumber};
 
-/// The number of these digits, without zeros in front.
-pub(crate) fn parse_number(digits: &str) -> Option<u64>
+/// The number of 64 bits that these decimal digits write, as it prints: without a plus or zeros in front.
+pub fn parse_number(digits: &str) -> Option<u64>
     ensures { Parses IsNumber decimal digits.now result }
 {
     if !has_plain_front(digits) {

@@ -1,6 +1,6 @@
 use Rattle.std.proofs.Common.{sym, ◌∙◌}
-use Rattle.keep_paths.proofs.Numbers.{HasPlainFront-decimal, number-parsed}
-use Rattle.keep_paths.proofs.number.parse_number.Goals as goal
+use Rattle.keep_names.proofs.Numbers.{HasPlainFront-decimal, number-parsed}
+use Rattle.keep_names.proofs.number.parse_number.Goals as goal
 
 pub returns-then-not-has_plain_front : goal.returns-then-not-has_plain_front
 returns-then-not-has_plain_front c = λ n small e.
