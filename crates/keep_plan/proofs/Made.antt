@@ -25,7 +25,8 @@ use Rattle.keep_names.specs.declared.id.Id.{Id}
 use Rattle.keep_repo.specs.Repository.{Repository}
 use Rattle.keep_repo.specs.declared.facet.Mark.{Mark}
 use Rattle.keep_plan.specs.Reuse.{reused_files, reused_packs}
-use Rattle.keep_plan.specs.Settling.{CanBeMade, Settles, absent_files, absent_of, is_there, marks_on, names_there, pack_mark, packs_among, settled, under_name, unmarked_of}
+use Rattle.keep_change.specs.Marks.{pack_mark}
+use Rattle.keep_plan.specs.Settling.{CanBeMade, Settles, absent_files, absent_of, is_there, marks_on, names_there, packs_among, settled, under_name, unmarked_of}
 use Rattle.keep_plan.proofs.Grounds.{reused_free, reused_there}
 use Rattle.keep_plan.proofs.Ordered.{All-entries, All-of_map, each_so, filter_passes, retained_there}
 use Rattle.keep_plan.proofs.Recorded.{among_second}

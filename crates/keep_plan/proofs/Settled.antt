@@ -29,7 +29,8 @@ use Rattle.keep_catalog.proofs.Ordered.{find_append, found_key, here, keys_keyed
 use Rattle.keep_change.specs.Lists.{file_names}
 use Rattle.keep_change.specs.NamedBytes.{NamedBytes}
 use Rattle.keep_plan.specs.Marks.{AreMarks}
-use Rattle.keep_plan.specs.Settling.{absent_files, absent_of, is_there, marks_on, names_there, pack_mark, under_name}
+use Rattle.keep_change.specs.Marks.{pack_mark}
+use Rattle.keep_plan.specs.Settling.{absent_files, absent_of, is_there, marks_on, names_there, under_name}
 
 -- ---- entries one after the other
 

@@ -10,7 +10,7 @@ use Rattle.keep_names.specs.declared.file_name.FileName.{FileName}
 use Rattle.keep_names.specs.declared.file_name.Kind.TheVariants.{Pack, Index}
 use Rattle.keep_names.specs.declared.id.Id.{Id}
 use Rattle.keep_repo.specs.Repository.{Repository}
-use Rattle.keep_repo.specs.declared.facet.Mark.{Mark}
+use Rattle.keep_change.specs.Marks.{pack_mark}
 use Rattle.keep_change.specs.Filling.{has_name, has_pack}
 use Rattle.keep_change.specs.Form.{AreNamedByBytes}
 use Rattle.keep_change.specs.Lists.{file_names, marked_packs}
@@ -56,9 +56,6 @@ abbrev pub packs_among : List NamedBytes → List Id
 packs_among files = ids_among Pack (file_names files)
 
 -- the marks that are on these packs, by pack
-abbrev pub pack_mark : Id × Mark → PackMark
-pack_mark entry = record { pack = entry.0; mark = entry.1 }
-
 abbrev pub marks_on : Repository → List Id → List PackMark
 marks_on r packs = map pack_mark (finite.entries (finite.retain_keys r.marks (has_pack packs)))
 

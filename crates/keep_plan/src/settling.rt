@@ -10,7 +10,8 @@ ghost use Rattle.std.specs.Ordering.{eq_by_cmp};
 ghost use Rattle.keep_names.specs.Orders.{id_cmp, name_cmp};
 ghost use Rattle.keep_names.specs.declared.file_name.FileName as the_name;
 ghost use Rattle.keep_names.specs.declared.id.Id as the_id;
-ghost use Rattle.keep_plan.specs.Settling.{absent_files, absent_of, is_any_taken, marks_on, names_there, pack_mark, packs_among, unmarked_of};
+ghost use Rattle.keep_change.specs.Marks.{pack_mark};
+ghost use Rattle.keep_plan.specs.Settling.{absent_files, absent_of, is_any_taken, marks_on, names_there, packs_among, unmarked_of};
 ghost use Rattle.keep_plan.specs.Marks.{AreMarks};
 
 use keep_change::{PackMark, StoredFile};

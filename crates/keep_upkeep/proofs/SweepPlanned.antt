@@ -30,7 +30,8 @@ use Rattle.keep_catalog.specs.Files.{ids_in, index_in, indexes_in, readable}
 use Rattle.keep_repo.proofs.Rising.{keys_in_order}
 use Rattle.keep_plan.proofs.Ordered.{entries_there}
 use Rattle.keep_plan.specs.Refusal.{unless, unread_first}
-use Rattle.keep_plan.specs.Settling.{pack_mark, settled}
+use Rattle.keep_change.specs.Marks.{pack_mark}
+use Rattle.keep_plan.specs.Settling.{settled}
 use Rattle.keep_plan.specs.declared.plan_error.PlanError.{PlanError}
 use Rattle.keep_plan.specs.declared.plan_error.PlanError.TheVariants.{Memory, NothingToDo}
 use Rattle.keep_plan.proofs.Rising.{rise_kept}

@@ -15,7 +15,7 @@ use Rattle.keep_change.specs.declared.change.Change.{Change}
 use Rattle.keep_change.specs.declared.change.PackMark.{PackMark}
 use Rattle.keep_catalog.specs.Files.{indexes_in}
 use Rattle.keep_plan.specs.Refusal.{unless, unread_first}
-use Rattle.keep_plan.specs.Settling.{pack_mark}
+use Rattle.keep_change.specs.Marks.{pack_mark}
 use Rattle.keep_plan.specs.declared.plan_error.PlanError.{PlanError}
 use Rattle.keep_plan.specs.declared.plan_error.PlanError.TheVariants.{NothingToDo}
 use Rattle.keep_upkeep.specs.Reindexing.{files_there, index_files, other_indexes, reindexing}

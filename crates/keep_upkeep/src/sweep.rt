@@ -13,7 +13,7 @@ ghost use Rattle.keep_change.specs.Form.{IsWellFormed};
 ghost use Rattle.keep_change.specs.Lists.{marked_packs};
 ghost use Rattle.keep_catalog.specs.Files.{indexes_in, packs_view};
 ghost use Rattle.keep_plan.specs.Refusal.{unread_first};
-ghost use Rattle.keep_plan.specs.Settling.{pack_mark};
+ghost use Rattle.keep_change.specs.Marks.{pack_mark};
 ghost use Rattle.keep_plan.specs.declared.plan_error.PlanError.TheVariants as the_error;
 ghost use Rattle.keep_upkeep.specs.Reindexing.{other_indexes};
 ghost use Rattle.keep_upkeep.specs.Sweep.{left_of, listing_gone, names_of, sweep_change};

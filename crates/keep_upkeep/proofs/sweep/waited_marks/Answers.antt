@@ -3,7 +3,7 @@ use Rattle.std.proofs.lemmas.Int.{to_z-of_z}
 use Rattle.std.proofs.lemmas.List.{append-nil, drop_all}
 use Rattle.keep_names.specs.declared.id.Id.{Id}
 use Rattle.keep_repo.specs.declared.facet.Mark.{Mark}
-use Rattle.keep_plan.specs.Settling.{pack_mark}
+use Rattle.keep_change.specs.Marks.{pack_mark}
 use Rattle.keep_upkeep.specs.Sweep.{has_waited, waited_marks}
 use Rattle.keep_upkeep.proofs.sweep.waited_marks.Goals as goal
 

@@ -1,5 +1,5 @@
 use Rattle.std.proofs.Common.{◌≡◌, ◌++◌, drop, filter, map}
-use Rattle.keep_plan.specs.Settling.{pack_mark}
+use Rattle.keep_change.specs.Marks.{pack_mark}
 use Rattle.keep_upkeep.specs.Sweep.{has_waited}
 use Rattle.keep_upkeep.proofs.sweep.waited_marks.Given as goal
 
