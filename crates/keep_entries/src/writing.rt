@@ -21,7 +21,6 @@ pub(crate) fn event_text(alloc: Global, event: &Event) -> Result<Vec<u8>, AllocE
 {
     let mut bytes = Vec::with_capacity(alloc, ROOM)?;
     put_event(alloc, &mut bytes, event)?;
-    bytes.shrink_to_fit();
     Ok(bytes)
 }
 

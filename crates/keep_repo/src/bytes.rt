@@ -20,10 +20,12 @@ impl Model for Bytes {
 }
 
 impl Bytes {
-    /// Takes the bytes over, to be shared from now on.
+    /// Takes the bytes over, to be shared from now on. Room that they don't use is given back.
     pub fn new(alloc: Global, bytes: Vec<u8>) -> Result<Bytes, AllocError>
         ensures { IfOk result (λ shared. shared ≡ bytes.items) }
     {
+        let mut bytes = bytes;
+        bytes.shrink_to_fit();
         Ok(Bytes {
             shared: Arc::new(alloc, bytes)?,
         })
