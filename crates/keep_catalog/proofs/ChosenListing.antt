@@ -1,7 +1,6 @@
 -- The first listing of a blob that is stored and open is its chosen one, and why it has none.
 use Rattle.std.proofs.Common.{◌≡◌, ◌≢◌, ◌||◌, ◌&&◌, Bool, true, false, cond, List, [], ◌∷◌, Option, None, Some, option_map, refl, sym, ap, subst, ◌∙◌, Ordering, Less, Equal, Greater}
 use Rattle.std.specs.BTreeMap.{is_at}
-use Rattle.std.specs.BTreeSet.{BTreeSet, IsOrdered, contains}
 use Rattle.std.specs.Cmp.{IsTotalOrder, tied_itself}
 use Rattle.std.specs.FinMap.{IsAntisymmetric}
 use Rattle.std.specs.List.{AllByRecursion, find, list_any}
@@ -142,11 +141,11 @@ module _ (r : Repository) (blob : BlobId) where
   abbrev pair : Listing → Pair
   pair l = (l.spot, l.index)
 
-  module _ (listings : BTreeSet Listing) (kept : (l : Listing) → contains listing_cmp listings l ≡ lists_in r blob l) (ordered : IsOrdered listing_cmp listings) where
-    listed : (l : Listing) → contains listing_cmp listings l ≡ true → IsListed r blob l.spot l.index
+  module _ (listings : List Listing) (kept : (l : Listing) → list_any (is_at (listing_cmp l)) listings ≡ lists_in r blob l) (ordered : IsStrictlySortedBy listing_cmp listings) where
+    listed : (l : Listing) → list_any (is_at (listing_cmp l)) listings ≡ true → IsListed r blob l.spot l.index
     listed l h = sym (kept l) ∙ h
 
-    listing_of : (spot : Spot) (index : Id) → IsListed r blob spot index → contains listing_cmp listings (record { spot = spot; index = index }) ≡ true
+    listing_of : (spot : Spot) (index : Id) → IsListed r blob spot index → list_any (is_at (listing_cmp (record { spot = spot; index = index }))) listings ≡ true
     listing_of spot index h = kept (record { spot = spot; index = index }) ∙ h
 
     passes : (spot : Spot) (index : Id) → IsOpenPlace r blob spot index → usable (record { spot = spot; index = index }) ≡ true
@@ -154,22 +153,22 @@ module _ (r : Repository) (blob : BlobId) where
         ap (λ b. b && is_open r blob spot) place.stored
         ∙ ap (λ b. b && is_honest r blob spot) place.unmarked ∙ place.honest
 
-    open_place : (l : Listing) → contains listing_cmp listings l ≡ true → usable l ≡ true → IsOpenPlace r blob l.spot l.index
+    open_place : (l : Listing) → list_any (is_at (listing_cmp l)) listings ≡ true → usable l ≡ true → IsOpenPlace r blob l.spot l.index
     open_place l h fits =
         let both = both_true (is_stored r (at blob l.spot)) (is_open r blob l.spot) fits in
         let parts = both_true (is_unmarked r l.spot.pack) (is_honest r blob l.spot) both.1 in
         record { listed = listed l h; stored = both.0; honest = parts.1; unmarked = parts.0 }
 
-    by_first : (o : Option Listing) → find usable listings.keys ≡ o → IsChosen r blob (option_map pair o)
+    by_first : (o : Option Listing) → find usable listings ≡ o → IsChosen r blob (option_map pair o)
     by_first None none = λ spot index place.
         let l : Listing = record { spot = spot; index = index } in
-        cc (none_passes listing_cmp listing_total listing_exact usable listings.keys l none (listing_of spot index place.listed), passes spot index place)
+        cc (none_passes listing_cmp listing_total listing_exact usable listings l none (listing_of spot index place.listed), passes spot index place)
     by_first (Some l) is =
         let least : (spot : Spot) (index : Id) → IsListed r blob spot index → usable (record { spot = spot; index = index }) ≡ true → listing_cmp (record { spot = spot; index = index }) l ≢ Less =
-        λ spot index h fits. first_least listing_cmp listing_total listing_exact usable listings.keys l (record { spot = spot; index = index }) ordered is (listing_of spot index h) fits in
-        let fits : usable l ≡ true = found_passes listing_cmp listing_total listing_exact usable listings.keys l is in
+        λ spot index h fits. first_least listing_cmp listing_total listing_exact usable listings l (record { spot = spot; index = index }) ordered is (listing_of spot index h) fits in
+        let fits : usable l ≡ true = found_passes listing_cmp listing_total listing_exact usable listings l is in
         record {
-          place = open_place l (found_among listing_cmp listing_total listing_exact usable listings.keys l is) fits;
+          place = open_place l (found_among listing_cmp listing_total listing_exact usable listings l is) fits;
           least_spot = λ spot index place lesser.
               least spot index place.listed (passes spot index place)
               (ap (λ o. ordering_then o (id_cmp index l.index)) ((spot_less spot l.spot).1 lesser));
@@ -178,8 +177,8 @@ module _ (r : Repository) (blob : BlobId) where
               (ap (λ o. ordering_then o (id_cmp other l.index)) (tied_itself spot_total l.spot) ∙ below);
         }
 
-    pub first_chosen : option_map pair (find usable listings.keys) ≡ chosen_listing r blob
-    first_chosen = one_chosen _ _ (by_first (find usable listings.keys) refl) (chosen_so r blob)
+    pub first_chosen : option_map pair (find usable listings) ≡ chosen_listing r blob
+    first_chosen = one_chosen _ _ (by_first (find usable listings) refl) (chosen_so r blob)
 
     -- ---- why it has no chosen one
 
@@ -189,28 +188,28 @@ module _ (r : Repository) (blob : BlobId) where
     abbrev honest_at : Listing → Bool
     honest_at l = stored_at l && is_honest r blob l.spot
 
-    pub missing_all : list_any stored_at listings.keys ≡ false → MissingBlob blob.id ≡ missing r blob
+    pub missing_all : list_any stored_at listings ≡ false → MissingBlob blob.id ≡ missing r blob
     missing_all none = sym (missing_unlisted r blob (λ spot index h stored.
         let l : Listing = record { spot = spot; index = index } in
-        cc (none_passes listing_cmp listing_total listing_exact stored_at listings.keys l (none_found listing_cmp listing_total listing_exact stored_at listings.keys none) (listing_of spot index h), stored)))
+        cc (none_passes listing_cmp listing_total listing_exact stored_at listings l (none_found listing_cmp listing_total listing_exact stored_at listings none) (listing_of spot index h), stored)))
 
-    pub missing_marked : list_any honest_at listings.keys ≡ true → MissingBlob blob.id ≡ missing r blob
+    pub missing_marked : list_any honest_at listings ≡ true → MissingBlob blob.id ≡ missing r blob
     missing_marked some =
-        let found = any_found listing_cmp listing_total listing_exact honest_at listings.keys some in
+        let found = any_found listing_cmp listing_total listing_exact honest_at listings some in
         let l = found.0 in
-        let both = both_true (stored_at l) (is_honest r blob l.spot) (found_passes listing_cmp listing_total listing_exact honest_at listings.keys l found.1) in
-        sym (missing_honest r blob l.spot l.index (listed l (found_among listing_cmp listing_total listing_exact honest_at listings.keys l found.1)) both.0 both.1)
+        let both = both_true (stored_at l) (is_honest r blob l.spot) (found_passes listing_cmp listing_total listing_exact honest_at listings l found.1) in
+        sym (missing_honest r blob l.spot l.index (listed l (found_among listing_cmp listing_total listing_exact honest_at listings l found.1)) both.0 both.1)
 
-    pub missing_hashed : list_any stored_at listings.keys ≡ true → list_any honest_at listings.keys ≡ false → WrongHash blob.id ≡ missing r blob
+    pub missing_hashed : list_any stored_at listings ≡ true → list_any honest_at listings ≡ false → WrongHash blob.id ≡ missing r blob
     missing_hashed some none =
-        let found = any_found listing_cmp listing_total listing_exact stored_at listings.keys some in
+        let found = any_found listing_cmp listing_total listing_exact stored_at listings some in
         let l = found.0 in
-        sym (missing_wrong r blob l.spot l.index (listed l (found_among listing_cmp listing_total listing_exact stored_at listings.keys l found.1)) (found_passes listing_cmp listing_total listing_exact stored_at listings.keys l found.1) dishonest) where
+        sym (missing_wrong r blob l.spot l.index (listed l (found_among listing_cmp listing_total listing_exact stored_at listings l found.1)) (found_passes listing_cmp listing_total listing_exact stored_at listings l found.1) dishonest) where
           dishonest : (other : Spot) (by : Id) → IsListed r blob other by → IsStored r blob other → is_honest r blob other ≡ false
           dishonest other by h stored =
               let l : Listing = record { spot = other; index = by } in
               sym (ap (λ b. b && is_honest r blob other) stored)
-              ∙ none_passes listing_cmp listing_total listing_exact honest_at listings.keys l (none_found listing_cmp listing_total listing_exact honest_at listings.keys none) (listing_of other by h)
+              ∙ none_passes listing_cmp listing_total listing_exact honest_at listings l (none_found listing_cmp listing_total listing_exact honest_at listings none) (listing_of other by h)
 
   -- ---- a blob that isn't kept
 

@@ -10,7 +10,7 @@ pub mod Halfway
 pub mod Hashes
 pub mod Ids
 pub mod Least
-pub mod Listings
+pub mod Relisted
 pub mod Missing
 pub mod Naming
 pub mod Noted
@@ -18,6 +18,7 @@ pub mod Ordered
 pub mod Replaced
 pub mod SnapsKept
 pub mod Slices
+pub mod Single
 pub mod SpotOrders
 pub mod Spots
 pub mod UnreadKept

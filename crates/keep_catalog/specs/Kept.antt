@@ -1,9 +1,9 @@
 -- What a catalog keeps of the files of a repository. All but `snap_at` is of private invariants alone.
 use Rattle.std.specs.Prelude.{◌≡◌, ⊤, ℕ, Bool, false, List, [], ◌∷◌, Option, None, Some, is_some}
-use Rattle.std.specs.BTreeMap.{BTreeMap, IsOrdered}
+use Rattle.std.specs.BTreeMap.{BTreeMap, IsOrdered, is_at}
 use Rattle.std.specs.BTreeMap as tree
-use Rattle.std.specs.BTreeSet.{BTreeSet, contains}
 use Rattle.std.specs.FinMap as finite
+use Rattle.std.specs.List.{list_any}
 use Rattle.std.specs.Option.{option_map}
 use Rattle.indexmap.specs.IndexMap.{IndexMap, get}
 use Rattle.keep_names.specs.Orders.{blob_cmp, id_cmp, name_cmp}
@@ -18,6 +18,8 @@ use Rattle.keep_change.specs.Result.{put_files, take_files}
 use Rattle.keep_catalog.specs.Files.{snap_in, why_unread}
 use Rattle.keep_catalog.specs.Orders.{listing_cmp, packed_blob_cmp, same_name}
 use Rattle.keep_catalog.specs.Places.{at, is_among, is_honest, is_stored, listed_in}
+use Rattle.keep_catalog.specs.declared.listings.Listings.{Listings}
+use Rattle.keep_catalog.specs.declared.listings.Listings.TheVariants.{More, One}
 use Rattle.keep_catalog.specs.declared.spot.Listing.{Listing}
 use Rattle.keep_catalog.specs.declared.spot.PackedBlob.{PackedBlob}
 use Rattle.keep_catalog.specs.declared.tables.Tables.{Tables}
@@ -31,16 +33,21 @@ Stored = BTreeMap PackedBlob (Option Bool)
 
 -- the listings of each blob
 abbrev pub Listed : Type 0
-Listed = BTreeMap BlobId (BTreeSet Listing)
+Listed = BTreeMap BlobId Listings
+
+-- those of one blob, in their order
+abbrev pub listings_in : Listings → List Listing
+listings_in (One listing) = listing ∷ []
+listings_in (More listings) = listings.keys
 
 -- snapshots by name
 abbrev pub Snaps : Type 0
 Snaps = BTreeMap Id Snap
 
--- whether a set has the listing
-abbrev pub has : Option (BTreeSet Listing) → Listing → Bool
+-- whether the listing is one of them
+abbrev pub has : Option Listings → Listing → Bool
 has None l = false
-has (Some listings) l = contains listing_cmp listings l
+has (Some listings) l = list_any (is_at (listing_cmp l)) (listings_in listings)
 
 -- whether the blob is kept with this listing
 abbrev pub lists_at : Listed → BlobId → Listing → Bool

@@ -9,6 +9,7 @@ mod hashing;
 mod headers;
 mod laws;
 mod listed;
+mod listings;
 mod live_repo;
 mod names;
 mod reach_error;

@@ -7,14 +7,15 @@ ghost use Rattle.keep_catalog.specs.Orders.{packed_blob_eq, same_id};
 ghost use Rattle.keep_catalog.specs.Places.{at, is_among, listed_of};
 ghost use Rattle.keep_catalog.specs.declared.spot.Listing as the_listing;
 
+use crate::listings::Listings;
 use crate::spot::{Listing, PackedBlob};
 use keep_index::IndexedPack;
 use keep_names::{BlobId, Id};
 use std::alloc::{AllocError, Global};
-use std::collections::{BTreeMap, BTreeSet};
+use std::collections::BTreeMap;
 
 // Where indexes list blobs: the listings by blob.
-pub(crate) type Listed = BTreeMap<BlobId, BTreeSet<Listing>>;
+pub(crate) type Listed = BTreeMap<BlobId, Listings>;
 
 // Adds what an index says of these packs.
 pub(crate) fn list(
@@ -65,8 +66,11 @@ fn list_place(
         then true else lists_at listed.old blob l) }
 {
     let PackedBlob { blob, spot } = place;
-    let mut listings = listed.remove(&blob).unwrap_or(BTreeSet::new(alloc));
-    listings.insert(Listing { spot, index })?;
+    let listing = Listing { spot, index };
+    let listings = match listed.remove(&blob) {
+        Some(listings) => listings.with(alloc, listing)?,
+        None => Listings::One(listing),
+    };
     listed.insert(blob, listings)?;
     Ok(())
 }
@@ -109,12 +113,11 @@ fn unlist_place(listed: &mut Listed, index: Id, place: PackedBlob) -> Result<(),
         then false else lists_at listed.old blob l) }
 {
     let PackedBlob { blob, spot } = place;
-    let Some(mut listings) = listed.remove(&blob) else {
+    let Some(listings) = listed.remove(&blob) else {
         return Ok(());
     };
-    listings.remove(&Listing { spot, index });
-    if !listings.is_empty() {
-        listed.insert(blob, listings)?;
+    if let Some(left) = listings.without(Listing { spot, index }) {
+        listed.insert(blob, left)?;
     }
     Ok(())
 }

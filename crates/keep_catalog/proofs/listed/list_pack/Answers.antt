@@ -5,7 +5,7 @@ use Rattle.keep_catalog.specs.Orders.{packed_blob_eq, same_id}
 use Rattle.keep_catalog.specs.Places.{at, is_among, packed_of}
 use Rattle.keep_catalog.specs.declared.spot.PackedBlob.{PackedBlob}
 use Rattle.keep_catalog.proofs.Growing.{map_taken, no_entry}
-use Rattle.keep_catalog.proofs.Listings.{one_place}
+use Rattle.keep_catalog.proofs.Relisted.{one_place}
 use Rattle.keep_catalog.proofs.listed.list_pack.Goals as goal
 
 pub loop-entry-preserved : goal.loop-entry-preserved

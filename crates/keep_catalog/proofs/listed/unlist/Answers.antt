@@ -4,7 +4,7 @@ use Rattle.keep_index.specs.Index.{pack_view}
 use Rattle.keep_catalog.specs.Kept.{lists_at}
 use Rattle.keep_catalog.specs.Orders.{same_id}
 use Rattle.keep_catalog.specs.Places.{at, is_among, listed_of}
-use Rattle.keep_catalog.proofs.Listings.{all_places, packs-taken}
+use Rattle.keep_catalog.proofs.Relisted.{all_places, packs-taken}
 use Rattle.keep_catalog.proofs.listed.unlist.Goals as goal
 
 pub loop-pack-preserved : goal.loop-pack-preserved

@@ -2,7 +2,7 @@ use Rattle.std.proofs.Common.{◌≡◌, ◌&&◌}
 use Rattle.std.specs.List.{list_any}
 use Rattle.keep_catalog.specs.Places as spec
 use Rattle.keep_catalog.specs.Places.{at}
-use Rattle.keep_catalog.proofs.choosing.some_honest.Given as goal
+use Rattle.keep_catalog.proofs.choosing.some_honest_among.Given as goal
 
 abbrev pub invariant-loop-listing : goal.invariant-loop-listing
 invariant-loop-listing l =
