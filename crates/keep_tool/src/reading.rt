@@ -1,11 +1,13 @@
 use crate::opening::over_folder;
 use crate::script::script;
+use keep_disk::{Cause, FolderError};
 use keep_folder::{BeginError, begin};
 use keep_looks::MachineZone;
 use keep_openings::Unopened;
 use keep_run::{Failure, Run};
 use keep_typed::read_words;
 use keep_words::{Command, Words};
+use std::alloc::Global;
 use std::env::{self, VarError};
 use std::io::ErrorKind;
 use std::time::Clock;
@@ -88,15 +90,35 @@ fn begin_at(rt: &HostRuntime, folder: &str, is_json: bool) -> Result<(), Failure
             )?;
             return Err(Failure::Refused(cause));
         }
-        Err(BeginError::Folder(error)) => {
-            let cause = Unopened::Folder(error);
-            let cause = format!(in alloc; "cannot make {folder}: {cause}")?;
-            return Err(Failure::Refused(cause));
-        }
+        Err(BeginError::Folder(error)) => return Err(unmade(alloc, folder, error)),
     };
     match rt.print(text) {
         Ok(()) => Ok(()),
         Err(_) => Err(Failure::Unwritten),
+    }
+}
+
+/// Says that no repository is made in the folder, for this cause.
+fn unmade(alloc: Global, folder: &str, error: FolderError) -> Failure {
+    let text = match error {
+        FolderError::Fault(Cause::Missing) => {
+            format!(in alloc;
+                "cannot make {folder}: the folder above it isn't there: make that one first"
+            )
+        }
+        FolderError::Fault(cause) => {
+            format!(in alloc;
+                "cannot make {folder}: {cause}: name a new folder in one that can be written"
+            )
+        }
+        error => {
+            let cause = Unopened::Folder(error);
+            format!(in alloc; "cannot make {folder}: {cause}")
+        }
+    };
+    match text {
+        Ok(text) => Failure::Refused(text),
+        Err(_) => Failure::Memory,
     }
 }
 
