@@ -140,3 +140,4 @@ deed_in (command.Undo change with_all unasked) = Ok (Some (undoing change with_a
 deed_in (command.Redo change) = Ok (Some (Ask (request.Redo change)))
 deed_in (command.Empty through unasked) = Ok (Some (Ask (request.Empty through)))
 deed_in (command.Script file) = Ok None
+deed_in (command.Graph change dot) = Ok None

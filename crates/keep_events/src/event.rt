@@ -30,6 +30,16 @@ pub struct EventRow {
     pub when: Option<When>,
 }
 
+impl EventRow {
+    /// What the event did, as people read it.
+    pub fn text(&self, alloc: Global) -> Result<String, AllocError>
+        ensures { IfOk result (λ text. string_bytes text
+            ≡ spec.event_text self.now.what self.now.change (option_map wrote_view self.now.wrote)) }
+    {
+        event_text(alloc, self.what, self.change, &self.wrote)
+    }
+}
+
 impl Row for EventRow {
     ghost use Rattle.keep_events.specs.Events.{event_cells, event_data, event_head, event_sides, event_view};
 
@@ -65,7 +75,7 @@ impl Row for EventRow {
     fn cells(&self, alloc: Global) -> Result<Vec<String>, AllocError> {
         let at = number_cell(alloc, Some(self.at))?;
         let change = number_cell(alloc, Some(self.change))?;
-        let what = event_text(alloc, self.what, self.change, &self.wrote)?;
+        let what = self.text(alloc)?;
         let when = when_cell(alloc, self.when)?;
         let files = sizes_cell(alloc, &self.wrote)?;
         let standing = String::from_str(alloc, status_text(self.status))?;
@@ -79,7 +89,7 @@ impl Row for EventRow {
         let set = number_or_null(set_in(&self.wrote));
         let standing = Value::try_from_str(alloc, status_text(self.status))?;
         let time = when_value(alloc, self.when)?;
-        let what = Value::String(event_text(alloc, self.what, self.change, &self.wrote)?);
+        let what = Value::String(self.text(alloc)?);
         json!(in alloc; {
             "added": added,
             "change": self.change,

@@ -71,6 +71,7 @@ rule_by label written.Word = needed (word label)
 rule_by label written.WordOrNone = word label
 rule_by label written.Words = needed (words label)
 rule_by label written.Index = needed (index label)
+rule_by label written.IndexOrNone = index label
 
 abbrev pub rule_in : Argument → Rule
 rule_in argument = rule_by argument.name.now argument.kind

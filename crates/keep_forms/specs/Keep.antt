@@ -112,6 +112,10 @@ history = command (codes "history") (counting (codes "last") ∷ [])
 abbrev pub show : Shape
 show = command (codes "show") (needed (index (codes "N")) ∷ [])
 
+-- graph [N] [--dot]
+abbrev pub graph : Shape
+graph = command (codes "graph") (index (codes "N") ∷ flag (codes "dot") ∷ [])
+
 -- the commands that make or change something
 abbrev pub changing : List Shape
 changing =
@@ -119,7 +123,7 @@ changing =
 
 -- the commands that only read
 abbrev pub reading : List Shape
-reading = snapshots ∷ ls ∷ dump ∷ diff ∷ find ∷ restore ∷ check ∷ history ∷ show ∷ []
+reading = snapshots ∷ ls ∷ dump ∷ diff ∷ find ∷ restore ∷ check ∷ history ∷ show ∷ graph ∷ []
 
 -- the command without arguments and without what may be named behind it, of which one has to be
 abbrev pub bare : App

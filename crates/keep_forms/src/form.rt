@@ -43,4 +43,6 @@ pub(crate) enum Kind {
     Words,
     /// A number that has to stand at its place.
     Index,
+    /// A number that may stand at its place.
+    IndexOrNone,
 }

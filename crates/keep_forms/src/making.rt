@@ -103,6 +103,7 @@ fn arg_of<'a>(alloc: Global, argument: &Argument) -> Arg<'a>
         Kind::WordOrNone => word(arg),
         Kind::Words => words(arg).required(true),
         Kind::Index => index(arg).required(true),
+        Kind::IndexOrNone => index(arg),
     }
 }
 

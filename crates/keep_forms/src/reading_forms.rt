@@ -7,13 +7,13 @@ use crate::common_forms::{CHANGE, HOST, PATH, SNAP, TAG};
 use crate::form::{Argument, Form, Kind};
 
 /// The commands that only read.
-pub(crate) fn reading() -> [Form; 9]
+pub(crate) fn reading() -> [Form; 10]
     ensures { map (shape_by spec.common) result ≡ spec.reading }
 {
     READING
 }
 
-const READING: [Form; 9] = [
+const READING: [Form; 10] = [
     Form {
         name: "snapshots",
         about: "List snapshots",
@@ -58,6 +58,11 @@ const READING: [Form; 9] = [
         name: "show",
         about: "Tell what a change did, and what leans on it",
         arguments: &[CHANGE],
+    },
+    Form {
+        name: "graph",
+        about: "Tell which changes lean on which",
+        arguments: &[FIRST, DOT],
     },
 ];
 
@@ -119,4 +124,16 @@ const LAST: Argument = Argument {
     name: "last",
     kind: Kind::Number(1, 1_048_576),
     help: "Only the last N events",
+};
+
+const FIRST: Argument = Argument {
+    name: "N",
+    kind: Kind::IndexOrNone,
+    help: "Only this change and what leans on it",
+};
+
+const DOT: Argument = Argument {
+    name: "dot",
+    kind: Kind::Flag,
+    help: "Print it for graphviz",
 };

@@ -1,5 +1,5 @@
 use keep_book::Book;
-use keep_events::{Wrote, events_of};
+use keep_events::{EventRow, Wrote, events_of};
 use keep_paths::path_of_key;
 use keep_rows::When;
 use keep_run::{Failure, Run, print_rows};
@@ -16,14 +16,18 @@ pub fn history<S: Shelf>(run: &Run<'_>, book: &Book<S>, last: Option<u32>) -> Re
     let mut rows = events_of(run.alloc, book.ledger().history(), last)?;
     for row in rows.iter_mut() {
         row.when = time_of(run, row.at)?;
-        if let Some(Wrote::Whole(_, Some(taken))) = &mut row.wrote {
-            set_offset(run, &mut taken.at);
-        }
+        set_offsets(run, row);
     }
     print_rows(run, rows.as_slice())
 }
 
-/// Says the moment as the machine's zone has it.
+/// Says the moment of what was backed up as the machine's zone has it.
+pub(crate) fn set_offsets(run: &Run<'_>, row: &mut EventRow) {
+    if let Some(Wrote::Whole(_, Some(taken))) = &mut row.wrote {
+        set_offset(run, &mut taken.at);
+    }
+}
+
 fn set_offset(run: &Run<'_>, at: &mut Option<When>) {
     if let Some(when) = at {
         when.offset = run.zone.offset_at(when.moment);

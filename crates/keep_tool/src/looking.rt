@@ -6,7 +6,7 @@ use keep_outcomes::show;
 use keep_restoring::{dump_file, restore_snapshot};
 use keep_run::{Failure, Run};
 use keep_shelf::Shelf;
-use keep_showing::{check, compare, find, history, list_nodes, list_snapshots};
+use keep_showing::{check, compare, find, graph, history, list_nodes, list_snapshots};
 use keep_words::Command;
 
 /// Prints what the command asks for.
@@ -21,6 +21,7 @@ pub(crate) fn look<S: Shelf>(
         Command::Check { .. } => check(run, book),
         Command::History { last } => history(run, book, *last),
         Command::Show { change } => show(run, book, *change),
+        Command::Graph { change, dot } => graph(run, book, *change, *dot),
         Command::Backup(words) => backup(run, book, words),
         Command::Restore(words) => restore_snapshot(run, book, words),
         Command::Dump { snapshot, path } => dump_file(run, book, snapshot, path),

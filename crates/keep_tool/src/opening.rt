@@ -30,7 +30,8 @@ pub(crate) fn over_folder(run: &Run<'_>, command: &Command<'_>) -> Result<(), Fa
 /// Whether the command changes nothing in the folder.
 fn only_looks(command: &Command<'_>) -> bool {
     match command {
-        Command::Check { .. } | Command::History { .. } | Command::Show { .. } => true,
+        Command::Check { .. } | Command::History { .. } => true,
+        Command::Show { .. } | Command::Graph { .. } => true,
         Command::Snapshots { .. } | Command::Ls { .. } | Command::Dump { .. } => true,
         Command::Diff { .. } | Command::Find { .. } | Command::Restore(_) => true,
         Command::Backup(words) => words.dry_run,

@@ -10,7 +10,7 @@ is_among names name = list_any (λ known. bytes_eq name known) names
 
 -- those that tell of the repository
 abbrev pub is_telling : Text → Bool
-is_telling = is_among (codes "check" ∷ codes "history" ∷ codes "show" ∷ [])
+is_telling = is_among (codes "check" ∷ codes "history" ∷ codes "show" ∷ codes "graph" ∷ [])
 
 -- those that only read
 abbrev pub is_reading : Text → Bool

@@ -58,6 +58,10 @@ fn telling<'a>(name: &str, matches: &ArgMatches<'a>) -> Option<Command<'a>>
         "show" => Some(Command::Show {
             change: change(matches),
         }),
+        "graph" => Some(Command::Graph {
+            change: number(matches, "N"),
+            dot: flag(matches, "dot"),
+        }),
         _ => None,
     }
 }

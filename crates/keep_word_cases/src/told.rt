@@ -57,6 +57,9 @@ fn tell_numbers<W: Write>(command: &Command<'_>, writer: &mut W) -> io::Result<(
         Command::Empty { through, yes } => {
             write!(writer, "empty {through} {}", given(*yes, "yes"))
         }
+        Command::Graph { change, dot } => {
+            write!(writer, "graph {} {}", Maybe(*change), given(*dot, "dot"))
+        }
         _ => Ok(()),
     }
 }

@@ -77,6 +77,11 @@ pub enum Command<'a> {
     Script {
         file: Option<&'a str>,
     },
+    /// To tell which changes lean on which, of all or of one and those that lean on it, as text or for graphviz.
+    Graph {
+        change: Option<u64>,
+        dot: bool,
+    },
 }
 
 /// A backup that is asked for.

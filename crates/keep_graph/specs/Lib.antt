@@ -1,0 +1,3 @@
+pub mod Dot
+pub mod Leaning
+pub mod Tree
