@@ -10,7 +10,7 @@ use keep_host_source::{HostSource, host_name, user_name};
 use keep_ledger::Refusal;
 use keep_plan::PlanError;
 use keep_progress::{CountedSource, Meter};
-use keep_run::{Failure, Left, Run, left_value, patterns_of, refused, tell_left};
+use keep_run::{Failure, Left, Run, left_value, patterns_of, refused, require_told, tell_left};
 use keep_shelf::Shelf;
 use keep_sources::{Job, Known, Why};
 use keep_tables::utc_time;
@@ -60,7 +60,9 @@ fn taken<S: Shelf>(
         tags: tags.as_slice(),
         cut: run.settings().cut,
     };
-    Ok(back_up(run.alloc, book, source, &wish))
+    let came = back_up(run.alloc, book, source, &wish);
+    require_told(run, book)?;
+    Ok(came)
 }
 
 /// Prints what came of it.

@@ -141,3 +141,4 @@ deed_in (command.Redo change) = Ok (Some (Ask (request.Redo change)))
 deed_in (command.Empty through unasked) = Ok (Some (Ask (request.Empty through)))
 deed_in (command.Script file) = Ok None
 deed_in (command.Graph change dot) = Ok None
+deed_in (command.Rescue folder target) = Ok None

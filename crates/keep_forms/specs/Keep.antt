@@ -76,6 +76,10 @@ empty = command (codes "empty") (needed (index (codes "N")) ∷ flag (codes "yes
 abbrev pub script : Shape
 script = command (codes "script") (word (codes "FILE") ∷ [])
 
+-- rescue DIR --target NEW
+abbrev pub rescue : Shape
+rescue = command (codes "rescue") (needed (word (codes "DIR")) ∷ needed (name (codes "target")) ∷ [])
+
 -- snapshots [--host HOST] [--tag TAG] [--path PATH] [--latest N]
 abbrev pub snapshots : Shape
 snapshots = command (codes "snapshots") (chosen ++ counting (codes "latest") ∷ [])
@@ -119,7 +123,8 @@ graph = command (codes "graph") (index (codes "N") ∷ flag (codes "dot") ∷ []
 -- the commands that make or change something
 abbrev pub changing : List Shape
 changing =
-    init ∷ backup ∷ forget ∷ tag ∷ rewrite ∷ repair ∷ mark ∷ sweep ∷ prune ∷ undo ∷ redo ∷ empty ∷ script ∷ []
+    init ∷ backup ∷ forget ∷ tag ∷ rewrite ∷ repair ∷ mark ∷ sweep ∷ prune ∷ undo ∷ redo ∷ empty ∷ script
+    ∷ rescue ∷ []
 
 -- the commands that only read
 abbrev pub reading : List Shape

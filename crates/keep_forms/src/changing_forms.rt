@@ -7,13 +7,13 @@ use crate::common_forms::{CHANGE, DRY_RUN, HOST, PATH, TAG, YES};
 use crate::form::{Argument, Form, Kind};
 
 /// The commands that make or change something.
-pub(crate) fn changing() -> [Form; 13]
+pub(crate) fn changing() -> [Form; 14]
     ensures { map (shape_by spec.common) result ≡ spec.changing }
 {
     CHANGING
 }
 
-const CHANGING: [Form; 13] = [
+const CHANGING: [Form; 14] = [
     Form {
         name: "init",
         about: "Make a repository",
@@ -89,6 +89,11 @@ const CHANGING: [Form; 13] = [
         name: "script",
         about: "Run the lines of a script, as keepd does",
         arguments: &[SCRIPT],
+    },
+    Form {
+        name: "rescue",
+        about: "Make a new repository of what is whole in a damaged one",
+        arguments: &[DAMAGED, NEW],
     },
 ];
 
@@ -216,4 +221,16 @@ const SCRIPT: Argument = Argument {
     name: "FILE",
     kind: Kind::WordOrNone,
     help: "The script's file [default: standard input]",
+};
+
+const DAMAGED: Argument = Argument {
+    name: "DIR",
+    kind: Kind::Word,
+    help: "The damaged repository's folder",
+};
+
+const NEW: Argument = Argument {
+    name: "target",
+    kind: Kind::NeededName("DIR"),
+    help: "The new folder, which is made where it isn't there",
 };

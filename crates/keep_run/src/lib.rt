@@ -13,5 +13,5 @@ pub use failure::{Failure, tell};
 pub use left::{Left, left_value, tell_left};
 pub use naming::{meant, pattern_of, patterns_of};
 pub use printing::{numbers_text, print_rows};
-pub use refusing::refused;
+pub use refusing::{refused, require_told};
 pub use run::Run;

@@ -6,7 +6,7 @@ use keep_book::Book;
 use keep_deeds::{Came, NoDeed, deed_of, perform};
 use keep_journal::History;
 use keep_outcomes::{Way, tell_made, tell_outcome, tell_pruned, tell_taken};
-use keep_run::{Failure, Run, numbers_text, refused};
+use keep_run::{Failure, Run, numbers_text, refused, require_told};
 use keep_shelf::Shelf;
 use keep_words::Command;
 
@@ -23,6 +23,7 @@ pub(crate) fn answer<S: Shelf>(
         Ok(Some(deed)) => {
             confirm(run, book, command)?;
             let came = perform(run.alloc, book, run.settings(), deed);
+            require_told(run, book)?;
             tell_came(run, book.ledger().history(), command, came)
         }
         Err(NoDeed::ManyChosen) => Err(Failure::unmeant(

@@ -4,6 +4,7 @@ use keep_disk::{Cause, FolderError};
 use keep_folder::{BeginError, begin};
 use keep_looks::MachineZone;
 use keep_openings::Unopened;
+use keep_restoring::rescue_folder;
 use keep_run::{Failure, Run};
 use keep_typed::read_words;
 use keep_words::{Command, Words};
@@ -50,7 +51,8 @@ fn run_words(rt: &HostRuntime, words: Words<'_>) -> Result<(), Failure> {
     }
 }
 
-/// Does what the command says, over the repository that the words name, or the variable `KEEP_REPOSITORY`.
+/// Does what the command says, over the repository that the words name, or the variable `KEEP_REPOSITORY`. A rescue names
+/// its own.
 fn run_command(
     rt: &HostRuntime,
     repo: Option<&str>,
@@ -58,9 +60,10 @@ fn run_command(
     wait: u64,
     command: Command<'_>,
 ) -> Result<(), Failure> {
-    let folder = match repo {
-        Some(repo) => String::from_str(rt.alloc(), repo)?,
-        None => folder_named(rt)?,
+    let folder = match (&command, repo) {
+        (Command::Rescue { folder, .. }, _) => String::from_str(rt.alloc(), folder)?,
+        (_, Some(repo)) => String::from_str(rt.alloc(), repo)?,
+        (_, None) => folder_named(rt)?,
     };
     let zone = MachineZone::read(rt);
     let run = Run {
@@ -74,6 +77,7 @@ fn run_command(
     };
     match command {
         Command::Script { file } => script(&run, file),
+        Command::Rescue { target, .. } => rescue_folder(&run, target),
         command => over_folder(&run, &command),
     }
 }

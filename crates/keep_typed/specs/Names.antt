@@ -19,7 +19,7 @@ is_reading name =
 
 -- those that go by numbers of changes, or by folders
 abbrev pub is_taking : Text → Bool
-is_taking = is_among (codes "init" ∷ codes "undo" ∷ codes "redo" ∷ codes "empty" ∷ codes "script" ∷ [])
+is_taking = is_among (codes "init" ∷ codes "undo" ∷ codes "redo" ∷ codes "empty" ∷ codes "script" ∷ codes "rescue" ∷ [])
 
 -- those that make or change something
 abbrev pub is_changing : Text → Bool

@@ -64,6 +64,10 @@ fn taking<'a>(name: &str, matches: &ArgMatches<'a>) -> Option<Command<'a>>
         "script" => Some(Command::Script {
             file: text(matches, "FILE"),
         }),
+        "rescue" => Some(Command::Rescue {
+            folder: place(matches, "DIR"),
+            target: place(matches, "target"),
+        }),
         _ => None,
     }
 }

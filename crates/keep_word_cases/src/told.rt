@@ -29,6 +29,7 @@ fn tell_command<W: Write>(command: &Command<'_>, writer: &mut W) -> io::Result<(
         Command::Find { pattern } => write!(writer, "find {pattern}"),
         Command::Init { folder } => write!(writer, "init {folder}"),
         Command::Script { file } => write!(writer, "script {}", Maybe(*file)),
+        Command::Rescue { folder, target } => write!(writer, "rescue {folder} {target}"),
         other => tell_numbers(other, writer),
     }
 }

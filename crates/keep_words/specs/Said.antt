@@ -9,7 +9,7 @@ use Rattle.keep_words.specs.Faults.{forget_fault, tag_fault, wait_in}
 use Rattle.keep_words.specs.declared.command.Backup.{Backup}
 use Rattle.keep_words.specs.declared.command.Chosen.{Chosen}
 use Rattle.keep_words.specs.declared.command.Command.{Command}
-use Rattle.keep_words.specs.declared.command.Command.TheVariants.{Init, Snapshots, Ls, Dump, Diff, Find, Check, Repair, Mark, Sweep, Prune, History, Show, Undo, Redo, Empty, Script, Graph}
+use Rattle.keep_words.specs.declared.command.Command.TheVariants.{Init, Snapshots, Ls, Dump, Diff, Find, Check, Repair, Mark, Sweep, Prune, History, Show, Undo, Redo, Empty, Script, Graph, Rescue}
 use Rattle.keep_words.specs.declared.command.Command.TheVariants as asked
 use Rattle.keep_words.specs.declared.command.Forget.{Forget}
 use Rattle.keep_words.specs.declared.command.Keep.{Keep}
@@ -114,6 +114,7 @@ IsSaid rows (Redo change) = change ≡ change_of rows
 IsSaid rows (Empty through unasked) = (through ≡ change_of rows) × (unasked ≡ has_flag (codes "yes") rows)
 IsSaid rows (Script file) = text_of file ≡ first_of (codes "FILE") rows
 IsSaid rows (Graph change dot) = (change ≡ number_of (codes "N") rows) × (dot ≡ has_flag (codes "dot") rows)
+IsSaid rows (Rescue folder target) = (folder.now ≡ place_of (codes "DIR") rows) × (target.now ≡ place_of (codes "target") rows)
 
 -- the word that a command goes by
 abbrev pub name_of : Command → Text
@@ -140,6 +141,7 @@ name_of (Redo change) = codes "redo"
 name_of (Empty through unasked) = codes "empty"
 name_of (Script file) = codes "script"
 name_of (Graph change dot) = codes "graph"
+name_of (Rescue folder target) = codes "rescue"
 
 -- the command of one of these names is asked for so; or it is none of them
 abbrev pub Asks : (Text → Bool) → Text → List Row → Option Command → Type 0

@@ -82,6 +82,11 @@ pub enum Command<'a> {
         change: Option<u64>,
         dot: bool,
     },
+    /// To make a new folder of what is whole in one.
+    Rescue {
+        folder: &'a str,
+        target: &'a str,
+    },
 }
 
 /// A backup that is asked for.

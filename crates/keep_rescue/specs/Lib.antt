@@ -1,0 +1,4 @@
+pub mod Rescued
+pub mod Salvage
+pub mod Seen
+pub mod Words
