@@ -8,14 +8,14 @@ use std::alloc::{AllocError, AllocFailed};
 
 /// What a command asks of the book.
 #[derive(Drop)]
-pub enum Deed<'a> {
+pub enum Deed {
     /// Just this.
     Ask(Request),
     /// To take the change of this number back with all that lean on it.
     Cascade(u64),
     /// To do the task to the snapshots that are chosen.
     Do {
-        choice: Choice<'a>,
+        choice: Choice,
         task: Task,
         /// Whether it is planned alone.
         is_dry: bool,
@@ -33,8 +33,8 @@ pub enum Deed<'a> {
 /// Why no deed is made of a command that is to change something.
 #[derive(Clone, Copy, Debug, PartialEq, Eq)]
 pub enum NoDeed {
-    /// More than one of a host, a tag and a path is given.
-    ManyChosen,
+    /// It names a snapshot, and which that is wasn't given.
+    Unnamed,
     /// Memory ran out.
     Memory,
 }

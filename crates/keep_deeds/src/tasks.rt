@@ -1,28 +1,49 @@
-ghost use Rattle.std.specs.Prelude.{◌≡◌, IfOk, option_map};
+ghost use Rattle.std.specs.Prelude.{◌≡◌, IfOk, option_map, string_bytes};
+ghost use Rattle.keep_acts.specs.Choosing.{Meeting, choice_view};
 ghost use Rattle.keep_labels.specs.Edits.{edit_view};
 ghost use Rattle.keep_labels.specs.Keeping.{policy_view};
-ghost use Rattle.keep_deeds.specs.Deed.{choice_in, count_in, edit_in, policy_in};
+ghost use Rattle.keep_deeds.specs.Deed.{aim_in, count_in, edit_in, needs_in, policy_in};
+ghost use Rattle.keep_words.specs.Read.{text_of};
 
 use crate::deed::NoDeed;
 use crate::texts::texts_of;
 use keep_acts::Choice;
 use keep_labels::{Count, Edit, Policy};
+use keep_names::Id;
+use keep_plan::Needs;
 use keep_words::{Chosen, Keep, Tag};
 use std::alloc::{AllocError, Global};
 
 /// The most that a policy keeps of a sort.
 const MOST: u32 = 1_048_576;
 
-/// The snapshots that the words choose.
-pub(crate) fn choice_of<'a>(chosen: Chosen<'a>) -> Result<Choice<'a>, NoDeed>
-    ensures { result ≡ choice_in chosen.entry.host chosen.entry.tag chosen.entry.path }
+/// The snapshots that the words choose: those that meet all that is given.
+pub(crate) fn chosen(alloc: Global, chosen: Chosen<'_>) -> Result<Choice, AllocError>
+    ensures { IfOk result (λ choice. choice_view choice ≡ Meeting (needs_in chosen.entry)) }
 {
-    match (chosen.host, chosen.tag, chosen.path) {
-        (None, None, None) => Ok(Choice::All),
-        (Some(host), None, None) => Ok(Choice::Host(host)),
-        (None, Some(tag), None) => Ok(Choice::Tagged(tag)),
-        (None, None, Some(path)) => Ok(Choice::Path(path)),
-        _ => Err(NoDeed::ManyChosen),
+    let host = copied(alloc, chosen.host)?;
+    let tag = copied(alloc, chosen.tag)?;
+    let path = copied(alloc, chosen.path)?;
+    Ok(Choice::Meeting(Needs { host, tag, path }))
+}
+
+fn copied(alloc: Global, text: Option<&str>) -> Result<Option<String>, AllocError>
+    ensures { IfOk result (λ made. option_map string_bytes made ≡ text_of text.entry) }
+{
+    match text {
+        Some(text) => Ok(Some(String::from_str(alloc, text)?)),
+        None => Ok(None),
+    }
+}
+
+/// The snapshots that tags are edited of: the one that the words name, which is this, or all.
+pub(crate) fn aimed(words: &Tag<'_>, named: Option<Id>) -> Result<Choice, NoDeed>
+    ensures { result ≡ aim_in named words.now.snapshot }
+{
+    match (words.snapshot, named) {
+        (None, _) => Ok(Choice::All),
+        (Some(_), Some(name)) => Ok(Choice::Named(name)),
+        (Some(_), None) => Err(NoDeed::Unnamed),
     }
 }
 

@@ -59,7 +59,6 @@ lettered letter rule = record rule { short = Some letter }
 -- an argument of this kind
 abbrev pub rule_by : Text → Kind → Rule
 rule_by label written.Flag = flag label
-rule_by label written.NeededFlag = needed (flag label)
 rule_by label (written.Text value) = text label
 rule_by label (written.Name value) = name label
 rule_by label (written.NeededName value) = needed (name label)

@@ -37,10 +37,10 @@ forget = command (codes "forget") (chosen ++
     counting (codes "keep-last") ∷ counting (codes "keep-daily") ∷ counting (codes "keep-weekly") ∷ counting (codes "keep-monthly")
     ∷ counting (codes "keep-yearly") ∷ names (codes "keep-tag") ∷ flag (codes "dry-run") ∷ [])
 
--- tag --all [--add TAG].. [--remove TAG].. [--set TAG]..
+-- tag [SNAP] [--all] [--add TAG].. [--remove TAG].. [--set TAG]..
 abbrev pub tag : Shape
 tag = command (codes "tag") (
-    needed (flag (codes "all")) ∷ names (codes "add") ∷ names (codes "remove") ∷ names (codes "set") ∷ [])
+    word (codes "SNAP") ∷ flag (codes "all") ∷ names (codes "add") ∷ names (codes "remove") ∷ names (codes "set") ∷ [])
 
 -- rewrite --exclude PATTERN.. [--forget] [--dry-run]
 abbrev pub rewrite : Shape

@@ -42,8 +42,8 @@ const CHANGING: [Form; 14] = [
     },
     Form {
         name: "tag",
-        about: "Change the tags of all snapshots",
-        arguments: &[ALL, ADD, REMOVE, SET],
+        about: "Change the tags of a snapshot, or of all",
+        arguments: &[ONE, ALL, ADD, REMOVE, SET],
     },
     Form {
         name: "rewrite",
@@ -169,9 +169,15 @@ const KEEP_TAGS: Argument = Argument {
     help: "Keep what has this tag",
 };
 
+const ONE: Argument = Argument {
+    name: "SNAP",
+    kind: Kind::WordOrNone,
+    help: "A snapshot: the first part of its id, latest, or @N",
+};
+
 const ALL: Argument = Argument {
     name: "all",
-    kind: Kind::NeededFlag,
+    kind: Kind::Flag,
     help: "All snapshots",
 };
 

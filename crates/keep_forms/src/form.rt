@@ -19,8 +19,6 @@ pub(crate) struct Argument {
 pub(crate) enum Kind {
     /// `--NAME`
     Flag,
-    /// The same, which has to be there.
-    NeededFlag,
     /// `--NAME TEXT`, of any text.
     Text(&'static str),
     /// `--NAME TEXT`, of a text that isn't empty.

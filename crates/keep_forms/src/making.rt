@@ -85,7 +85,6 @@ fn arg_of<'a>(alloc: Global, argument: &Argument) -> Arg<'a>
     let arg = Arg::new(alloc, name).help(argument.help);
     match argument.kind {
         Kind::Flag => flag(arg, name),
-        Kind::NeededFlag => flag(arg, name).required(true),
         Kind::Text(value) => arg.long(name).value_name(value),
         Kind::Name(value) => named(arg, name, value),
         Kind::NeededName(value) => named(arg, name, value).required(true),

@@ -1,5 +1,6 @@
 pub mod Files
 pub mod Marks
+pub mod Needs
 pub mod Picks
 pub mod Refusal
 pub mod Reuse

@@ -16,7 +16,7 @@ pub use laws::{
     each_built_file_is_settled, each_use_is_recorded, refusals_keep_their_words,
     what_is_settled_can_be_made,
 };
-pub use pick::{Pick, has_path, has_tag};
+pub use pick::{Needs, Pick, has_path, has_tag, meets};
 pub use plan_error::PlanError;
 pub use reuses::Reuses;
 pub use settling::{settle_files, settle_new};

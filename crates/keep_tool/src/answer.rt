@@ -5,8 +5,9 @@ use crate::looking::look;
 use keep_book::Book;
 use keep_deeds::{Came, NoDeed, deed_of, perform};
 use keep_journal::History;
+use keep_names::Id;
 use keep_outcomes::{Way, tell_made, tell_outcome, tell_pruned, tell_taken};
-use keep_run::{Failure, Run, numbers_text, refused, require_told};
+use keep_run::{Failure, Run, meant, numbers_text, refused, require_told};
 use keep_shelf::Shelf;
 use keep_words::Command;
 
@@ -18,7 +19,8 @@ pub(crate) fn answer<S: Shelf>(
 ) -> Result<(), Failure>
     requires { HasSums book.old }
 {
-    match deed_of(run.alloc, command) {
+    let named = named(run, book, command)?;
+    match deed_of(run.alloc, command, named) {
         Ok(None) => look(run, book, command),
         Ok(Some(deed)) => {
             confirm(run, book, command)?;
@@ -26,11 +28,23 @@ pub(crate) fn answer<S: Shelf>(
             require_told(run, book)?;
             tell_came(run, book.ledger().history(), command, came)
         }
-        Err(NoDeed::ManyChosen) => Err(Failure::unmeant(
-            run.alloc,
-            "give one of --host, --tag and --path",
-        )),
+        Err(NoDeed::Unnamed) => Err(Failure::unmeant(run.alloc, "name a snapshot")),
         Err(NoDeed::Memory) => Err(Failure::Memory),
+    }
+}
+
+/// The snapshot whose tags the command is to change, where it names one.
+fn named<S: Shelf>(
+    run: &Run<'_>,
+    book: &Book<S>,
+    command: &Command<'_>,
+) -> Result<Option<Id>, Failure> {
+    let Command::Tag(words) = command else {
+        return Ok(None);
+    };
+    match words.snapshot {
+        Some(text) => Ok(Some(meant(run, book, text)?)),
+        None => Ok(None),
     }
 }
 

@@ -102,7 +102,8 @@ fn tell_keep<W: Write>(keep: &Keep<'_>, writer: &mut W) -> io::Result<()> {
 }
 
 fn tell_tag<W: Write>(tag: &Tag<'_>, writer: &mut W) -> io::Result<()> {
-    write!(writer, "tag {} {}", List(&tag.add), List(&tag.remove))?;
+    write!(writer, "tag {} {}", Maybe(tag.snapshot), List(&tag.add))?;
+    write!(writer, " {}", List(&tag.remove))?;
     write!(writer, " {}", List(&tag.set))
 }
 

@@ -6,7 +6,7 @@ use Rattle.clap.specs.Walk.{is_empty}
 use Rattle.clap.specs.Words.{Row, Text, first_of}
 use Rattle.clap.specs.declared.error.kind.ErrorKind.{ErrorKind}
 use Rattle.clap.specs.declared.error.kind.ErrorKind.TheVariants.{ArgumentConflict, MissingRequiredArgument, ValueValidation}
-use Rattle.keep_words.specs.Read.{count_of, texts_of}
+use Rattle.keep_words.specs.Read.{count_of, has_flag, texts_of}
 use Rattle.keep_words.specs.Span.{span_in}
 
 -- the argument is given some text
@@ -30,9 +30,21 @@ one_of_two true true = Some ArgumentConflict
 one_of_two false false = Some MissingRequiredArgument
 one_of_two _ _ = None
 
--- a tagging sets tags, or adds and takes some away
+-- a tagging is of one snapshot or of all
+abbrev pub aim_fault : List Row → Option ErrorKind
+aim_fault rows = one_of_two (is_some (first_of (codes "SNAP") rows)) (has_flag (codes "all") rows)
+
+-- it sets tags, or adds and takes some away
+abbrev pub edit_fault : List Row → Option ErrorKind
+edit_fault rows = one_of_two (has_texts (codes "set") rows) (has_texts (codes "add") rows || has_texts (codes "remove") rows)
+
+-- the first of two faults
+abbrev pub or_fault : Option ErrorKind → Option ErrorKind → Option ErrorKind
+or_fault (Some kind) other = Some kind
+or_fault None other = other
+
 abbrev pub tag_fault : List Row → Option ErrorKind
-tag_fault rows = one_of_two (has_texts (codes "set") rows) (has_texts (codes "add") rows || has_texts (codes "remove") rows)
+tag_fault rows = or_fault (aim_fault rows) (edit_fault rows)
 
 -- the seconds of --older-than, 0 where it isn't given, and none where it is no span
 abbrev pub wait_in : List Row → Option ℕ

@@ -68,13 +68,14 @@ pub record IsForget (rows : List Row) (forget : Forget) : Type 0 where
   pub keeps_some : forget_fault rows ≡ None
   pub dry_run : forget.dry_run ≡ has_flag (codes "dry-run") rows
 
--- [--add T].. [--remove T].. [--set T]..
+-- [SNAP] [--add T].. [--remove T].. [--set T]..
 pub record AreTags (rows : List Row) (tag : Tag) : Type 0 where
+  pub snapshot : text_of tag.snapshot ≡ first_of (codes "SNAP") rows
   pub add : Are tag.add (texts_of (codes "add") rows)
   pub remove : Are tag.remove (texts_of (codes "remove") rows)
   pub set : Are tag.set (texts_of (codes "set") rows)
 
--- tag --all, with --set T.. or --add T.. and --remove T..
+-- tag SNAP or tag --all, with --set T.. or --add T.. and --remove T..
 abbrev pub IsTag : List Row → Tag → Type 0
 IsTag rows tag = AreTags rows tag × (tag_fault rows ≡ None)
 

@@ -136,9 +136,11 @@ pub struct Keep<'a> {
     pub tags: Vec<&'a str>,
 }
 
-/// Other tags for all snapshots: tags are set, or some are added and some taken away.
+/// Other tags for a snapshot, or for all: tags are set, or some are added and some taken away.
 #[derive(Drop)]
 pub struct Tag<'a> {
+    /// The one. All where none is named.
+    pub snapshot: Option<&'a str>,
     pub add: Vec<&'a str>,
     pub remove: Vec<&'a str>,
     pub set: Vec<&'a str>,
