@@ -65,7 +65,7 @@ pub fn preview<S: Shelf, F: HoldsFilter>(
     Ok(change)
 }
 
-/// The same, with the length of the history that it was planned on.
+/// The change that the job asks for, with the length of the history that it was planned on.
 fn planned_on<S: Shelf, F: HoldsFilter>(
     alloc: Global,
     book: &Book<S>,

@@ -52,7 +52,7 @@ pub fn change_chosen<S: Shelf>(
     }
 }
 
-/// The same of each snapshot.
+/// `change`, of the job that does the task to each snapshot.
 fn change_all<S: Shelf>(
     alloc: Global,
     book: &mut Book<S>,
@@ -111,7 +111,7 @@ fn change_meeting<S: Shelf>(
     change_by(alloc, book, settings, filter, task, is_dry)
 }
 
-/// The same of those that the filter takes.
+/// `change`, of the job that does the task to the snapshots that the filter takes.
 fn change_by<S: Shelf>(
     alloc: Global,
     book: &mut Book<S>,

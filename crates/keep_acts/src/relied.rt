@@ -28,7 +28,7 @@ pub fn misnamed_present(
         .collect(alloc)
 }
 
-// Whether the file is there and its bytes have another SHA-256.
+/// Whether the file is there and its bytes have another SHA-256.
 fn is_misnamed(repo: &Repo, name: FileName) -> bool
     ensures { result ≡ spec.is_misnamed repo.now name }
 {

@@ -25,7 +25,7 @@ AnswersMeant state meant text (Err WriteFailed) after = BeginsMeant state meant 
 AnswersMeant state meant text (Err NoMemory) after = BeginsMeant state meant text after
 AnswersMeant state meant text (Err Untold) after = KeepsBack (AnswersTo state meant) text after
 
--- the same by what is due to be meant: the line is bad, or this is written for what is meant
+-- what is written for what a line is due to mean, and the state after it: that the line is bad, or the answer
 abbrev pub AnswersDue : State → Result MeantData Mistake → List ℕ → Result (Unit {0}) Halt → State → Type 0
 AnswersDue state due text (Err (BadLine why)) after = (due ≡ Err why) × Shows state [] text after
 AnswersDue state due text result after =

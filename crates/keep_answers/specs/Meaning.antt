@@ -45,7 +45,7 @@ pub data MeantData : Type 0 where
 abbrev pub job_meant : List NamedRule → JobLine → Result MeantData Mistake
 job_meant filters line = ok_or (option_map Job (job_of filters line)) NoFilter
 
--- the same as data; the filter of a job is that of these which has the name
+-- what a line means as data; the filter of a job is that of these which has the name
 abbrev pub meant_view : List NamedRule → the_meant.Meant → Result MeantData Mistake
 meant_view filters (meant.Job line) = job_meant filters line
 meant_view filters (meant.Add kind bytes) = Ok (Add kind bytes.items)

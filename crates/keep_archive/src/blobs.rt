@@ -6,14 +6,14 @@ use crate::held::HeldBlob;
 use keep_names::{BlobId, BlobType, Id};
 use std::alloc::{AllocError, Global};
 
-// The blobs of what was given.
+/// The blobs of what was given.
 #[derive(Drop)]
 pub(crate) struct Blobs {
-    // They have to have places.
+    /// They have to have places.
     pub(crate) named: Vec<BlobId>,
-    // They wait to be stored.
+    /// They wait to be stored.
     pub(crate) held: Vec<HeldBlob>,
-    // How many bytes these have, to 2^64 - 1.
+    /// How many bytes these have, to 2^64 - 1.
     pub(crate) bytes: u64,
     pub ghost counted: { bytes ≡ min (2 ^ 64 - 1) (sum_by (λ held. vec_len held.bytes) held.items) },
 }
@@ -25,7 +25,7 @@ impl Blobs {
     ghost use Rattle.keep_archive.specs.Steps.{holding, naming};
     ghost use Rattle.keep_build.specs.Blobs.{blob_id_of};
 
-    // None yet.
+    /// None yet.
     pub(crate) fn new(alloc: Global) -> Blobs
         ensures { blobs_view result ≡ record { named = []; held = [] } }
     {
@@ -36,7 +36,7 @@ impl Blobs {
         }
     }
 
-    // With one more that waits to be stored.
+    /// With one more that waits to be stored.
     pub(crate) fn hold(self, blob: HeldBlob) -> Result<Blobs, AllocError>
         ensures { IfOk result (λ blobs. blobs_view blobs ≡ holding (held_view blob ∷ []) (blobs_view self)) }
     {
@@ -50,7 +50,7 @@ impl Blobs {
         Ok(Blobs { named, held, bytes })
     }
 
-    // With more pieces that have to have places.
+    /// With more pieces that have to have places.
     pub(crate) fn name(self, content: &[Id]) -> Result<Blobs, AllocError>
         ensures { IfOk result (λ blobs. blobs_view blobs ≡ naming content.now (blobs_view self)) }
     {
@@ -68,7 +68,7 @@ impl Blobs {
         Ok(Blobs { named, held, bytes })
     }
 
-    // What was held has to have places.
+    /// What was held has to have places.
     pub(crate) fn let_go(self, alloc: Global) -> Result<Blobs, AllocError>
         ensures { IfOk result (λ blobs. blobs_view blobs ≡ record {
           named = (blobs_view self).named ++ map blob_id_of (blobs_view self).held;
@@ -90,7 +90,7 @@ impl Blobs {
         })
     }
 
-    // How many bytes wait to be stored.
+    /// How many bytes wait to be stored.
     pub(crate) fn bytes_held(&self) -> u64
         ensures { result ≡ min (2 ^ 64 - 1) (bytes_in (blobs_view self.now).held) }
     {

@@ -7,13 +7,13 @@ use keep_build::Cut;
 use keep_names::{BlobType, Id};
 use std::alloc::{AllocError, Global};
 
-// The file that is being read.
+/// The file that is being read.
 #[derive(Drop)]
 pub(crate) struct Begun {
     pub(crate) cut: Cut,
-    // The ids of its pieces so far.
+    /// The ids of its pieces so far.
     pub(crate) content: Vec<Id>,
-    // Its bytes behind these.
+    /// Its bytes behind these.
     pub(crate) rest: Vec<u8>,
     pub ghost short: { vec_len rest < cut.bytes },
 }
@@ -23,7 +23,7 @@ impl Begun {
     ghost use Rattle.keep_archive.specs.Archive.{begun_view, blobs_view};
     ghost use Rattle.keep_archive.specs.Steps.{Writes, content_of, ended, holding, last_of, piece};
 
-    // No file is being read.
+    /// No file is being read.
     pub(crate) fn new(alloc: Global, cut: Cut) -> Begun
         ensures { begun_view result ≡ record { cut = cut.bytes; content = []; rest = [] } }
     {
@@ -36,7 +36,7 @@ impl Begun {
         }
     }
 
-    // With more bytes of it.
+    /// With more bytes of it.
     #[tactic(auto, using(crate::proofs::Cuts::none_written, crate::proofs::Cuts::both_written))]
     pub(crate) fn write(
         self,
@@ -60,7 +60,7 @@ impl Begun {
         Ok((begun, blobs))
     }
 
-    // How many bytes its next piece lacks.
+    /// How many bytes its next piece lacks.
     fn room(&self) -> usize
         ensures some { 0 < result }
         ensures whole { vec_len self.now.rest + result ≡ self.now.cut.bytes }
@@ -68,7 +68,7 @@ impl Begun {
         self.cut.piece_length() - self.rest.len()
     }
 
-    // With as many bytes as its next piece lacks at most.
+    /// With as many bytes as its next piece lacks at most.
     fn write_in(
         self,
         alloc: Global,
@@ -95,7 +95,7 @@ impl Begun {
         Ok((Begun { cut, content, rest }, blobs))
     }
 
-    // The pieces of the file that was read, and what is there afterwards.
+    /// The pieces of the file that was read, and what is there afterwards.
     pub(crate) fn end(
         self,
         alloc: Global,
@@ -121,7 +121,7 @@ impl Begun {
         Ok((content, begun, blobs))
     }
 
-    // What was read is of no file.
+    /// What was read is of no file.
     pub(crate) fn dropped(self, alloc: Global) -> Begun
         ensures { begun_view result ≡ ended (begun_view self) }
     {
@@ -129,7 +129,7 @@ impl Begun {
     }
 }
 
-// As many of the bytes from an index on as there is room for.
+/// As many of the bytes from an index on as there is room for.
 #[tactic(auto, using(crate::proofs::Fronts::front_more))]
 fn part_from(bytes: &[u8], start: usize, room: usize) -> &[u8]
     requires left { start < length bytes.now }

@@ -13,11 +13,11 @@ use keep_tree::{Node, Tree, is_name, write_tree};
 use std::alloc::{AllocError, Global};
 use std::collections::BTreeSet;
 
-// What a folder has so far.
+/// What a folder has so far.
 #[derive(Drop)]
 pub(crate) struct Folder {
     pub(crate) tree: Tree,
-    // The names of its nodes.
+    /// The names of its nodes.
     pub(crate) names: BTreeSet<String>,
     pub ghost stands: { ∥ IsTree (tree_view tree) ∥₁ },
     pub ghost known: { (name : the_string.String Global) → contains string_cmp names name
@@ -33,7 +33,7 @@ impl Folder {
     ghost use Rattle.keep_archive.specs.Archive.{folder_view};
     ghost use Rattle.keep_archive.specs.Steps.{has_name, name_refusal};
 
-    // No node yet.
+    /// No node yet.
     pub(crate) fn new(alloc: Global) -> Folder
         ensures { folder_view result ≡ [] }
     {
@@ -45,7 +45,7 @@ impl Folder {
         }
     }
 
-    // Why no node of this name can come beside the others.
+    /// Why no node of this name can come beside the others.
     pub(crate) fn refusal(&self, name: &String) -> Option<PlanError>
         ensures { result ≡ name_refusal (string_bytes name.now) (folder_view self.now) }
     {
@@ -58,7 +58,7 @@ impl Folder {
         None
     }
 
-    // With one more node.
+    /// With one more node.
     pub(crate) fn with(self, node: Node) -> Result<Folder, AllocError>
         requires stands { ∥ IsNode (node_view node) ∥₁ }
         requires apart { has_name (folder_view self) (string_bytes node.name) ≡ false }
@@ -75,7 +75,7 @@ impl Folder {
         Ok(Folder { tree, names })
     }
 
-    // The text of its tree.
+    /// The text of its tree.
     pub(crate) fn tree_text(&self, alloc: Global) -> Result<Vec<u8>, AllocError>
         ensures { IfOk result (λ text. (the_type.Tree, text.items) ≡ tree_blob (folder_view self.now)) }
     {

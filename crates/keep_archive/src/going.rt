@@ -4,7 +4,7 @@ use crate::place::Place;
 use keep_build::Cut;
 use std::alloc::Global;
 
-// An archive that isn't shut.
+/// An archive that isn't shut.
 #[derive(Drop)]
 pub(crate) struct Going {
     pub(crate) alloc: Global,
@@ -17,7 +17,7 @@ impl Going {
     ghost use Rattle.std.specs.Prelude.{◌≡◌, []};
     ghost use Rattle.keep_archive.specs.Archive.{going_view};
 
-    // Nothing is given yet.
+    /// Nothing is given yet.
     pub(crate) fn new(alloc: Global, cut: Cut) -> Going
         ensures { going_view result ≡ record {
           place = record { around = []; nodes = [] };

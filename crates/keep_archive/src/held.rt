@@ -4,7 +4,7 @@ ghost use Rattle.keep_build.specs.Blobs.{is_full};
 
 use keep_names::{BlobId, BlobType, id_of};
 
-// A blob that waits to be stored, under its own name.
+/// A blob that waits to be stored, under its own name.
 #[derive(Drop)]
 pub(crate) struct HeldBlob {
     pub(crate) blob: BlobId,
@@ -17,7 +17,7 @@ impl HeldBlob {
     ghost use Rattle.keep_archive.specs.Archive.{held_view};
     ghost use Rattle.keep_build.specs.Blobs.{blob_id_of};
 
-    // The blob of these bytes. They are hashed here, and never again.
+    /// The blob of these bytes. They are hashed here, and never again.
     pub(crate) fn of(blob_type: BlobType, bytes: Vec<u8>) -> HeldBlob
         requires { is_full (blob_type, bytes.items) ≡ false }
         ensures value { held_view result ≡ (blob_type, bytes.items) }

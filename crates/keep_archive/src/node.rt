@@ -10,7 +10,7 @@ use keep_names::{Id, text_names_id};
 use keep_tree::{Node, NodeKind};
 use std::alloc::{AllocError, Global};
 
-// The node of this name and kind that carries these members.
+/// The node of this name and kind that carries these members.
 pub(crate) fn node_of(name: String, kind: NodeKind, others: Carried) -> Node
     requires named { is_name (string_bytes name) ≡ true }
     requires kind { IsKind (kind_view kind) }
@@ -29,7 +29,7 @@ pub(crate) fn node_of(name: String, kind: NodeKind, others: Carried) -> Node
     }
 }
 
-// A folder with this tree.
+/// A folder with this tree.
 pub(crate) fn kind_of_folder(subtree: Id) -> NodeKind
     ensures kind { kind_view result ≡ dir subtree }
     ensures stands { IsKind (kind_view result) }
@@ -38,7 +38,7 @@ pub(crate) fn kind_of_folder(subtree: Id) -> NodeKind
     NodeKind::Dir { subtree }
 }
 
-// A file with these pieces.
+/// A file with these pieces.
 pub(crate) fn kind_of_file(alloc: Global, content: &[Id]) -> Result<NodeKind, AllocError>
     ensures kind { IfOk result (λ kind. kind_view kind ≡ file content.now) }
     ensures stands { IfOk result (λ kind. IsKind (kind_view kind)) }
@@ -51,7 +51,7 @@ pub(crate) fn kind_of_file(alloc: Global, content: &[Id]) -> Result<NodeKind, Al
     Ok(NodeKind::File { content: ids })
 }
 
-// A node of another type.
+/// A node of another type.
 pub(crate) fn kind_of_other(type_name: String) -> NodeKind
     requires folder { string_bytes type_name ≢ codes "dir" }
     requires file { string_bytes type_name ≢ codes "file" }

@@ -12,7 +12,7 @@ use keep_plan::PlanError;
 use keep_tree::Node;
 use std::alloc::{AllocError, Global};
 
-// A folder in which another one is open, and that one's name.
+/// A folder in which another one is open, and that one's name.
 #[derive(Drop)]
 pub(crate) struct Around {
     pub(crate) name: String,
@@ -21,12 +21,12 @@ pub(crate) struct Around {
     pub ghost apart: { list_any (bytes_eq (string_bytes name)) (names_of (tree_view folder.tree)) ≡ false },
 }
 
-// Where nodes are given.
+/// Where nodes are given.
 #[derive(Drop)]
 pub(crate) struct Place {
-    // The folders around, from the root on.
+    /// The folders around, from the root on.
     pub(crate) around: Vec<Around>,
-    // The one that is open.
+    /// The one that is open.
     pub(crate) folder: Folder,
 }
 
@@ -39,7 +39,7 @@ impl Place {
     ghost use Rattle.keep_archive.specs.Archive.{AroundData, carried_view, folder_view, place_view};
     ghost use Rattle.keep_archive.specs.Steps.{deep_refusal, has_name, name_refusal, opened, root_refusal, with_node};
 
-    // An empty root is open.
+    /// An empty root is open.
     pub(crate) fn new(alloc: Global) -> Place
         ensures { place_view result ≡ record { around = []; nodes = [] } }
     {
@@ -49,7 +49,7 @@ impl Place {
         }
     }
 
-    // Why no folder of this name can be opened.
+    /// Why no folder of this name can be opened.
     pub(crate) fn opening_refusal(&self, name: &String) -> Option<PlanError>
         ensures { result ≡ option_or (name_refusal (string_bytes name.now) (place_view self.now).nodes)
             (deep_refusal (place_view self.now)) }
@@ -63,7 +63,7 @@ impl Place {
         None
     }
 
-    // With an empty folder of this name open.
+    /// With an empty folder of this name open.
     pub(crate) fn open(self, alloc: Global, name: String) -> Result<Place, AllocError>
         requires named { tree_names.is_name (string_bytes name) ≡ true }
         requires apart { has_name (place_view self).nodes (string_bytes name) ≡ false }
@@ -77,7 +77,7 @@ impl Place {
         })
     }
 
-    // Why the folder can't be closed: it is the root.
+    /// Why the folder can't be closed: it is the root.
     pub(crate) fn closing_refusal(&self) -> Option<PlanError>
         ensures { result ≡ root_refusal (place_view self.now) }
     {
@@ -87,7 +87,7 @@ impl Place {
         None
     }
 
-    // With the folder closed, whose tree has this id. The root stays open.
+    /// With the folder closed, whose tree has this id. The root stays open.
     pub(crate) fn close(self, subtree: Id, others: Carried) -> Result<Place, AllocError>
         requires { 0 < vec_len self.around }
         ensures { IfOk result (λ place. (outer : List AroundData) × (around : AroundData)
@@ -111,7 +111,7 @@ impl Place {
         Ok(Place { around, folder })
     }
 
-    // With one more node.
+    /// With one more node.
     pub(crate) fn add(self, node: Node) -> Result<Place, AllocError>
         requires stands { ∥ IsNode (node_view node) ∥₁ }
         requires apart { has_name (place_view self).nodes (string_bytes node.name) ≡ false }

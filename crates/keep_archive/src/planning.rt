@@ -76,7 +76,7 @@ impl Archive {
     }
 }
 
-// The change of a part.
+/// The change of a part.
 fn part(alloc: Global, view: &View, going: &Going) -> Result<Option<Change>, PlanError>
     ensures { Answers the_error.Memory (λ part. part) (spec.part_change view.now.repo (going_view going.now)) result }
 {
@@ -87,7 +87,7 @@ fn part(alloc: Global, view: &View, going: &Going) -> Result<Option<Change>, Pla
     Ok(Some(part_with(alloc, stored)))
 }
 
-// The last change.
+/// The last change.
 fn last(
     alloc: Global,
     view: &View,
@@ -113,7 +113,7 @@ fn last(
     Ok(change)
 }
 
-// Whether nothing would be written.
+/// Whether nothing would be written.
 fn is_idle(stored: &Stored) -> bool
     ensures { result ≡ spec.is_idle stored.now }
 {
@@ -122,7 +122,7 @@ fn is_idle(stored: &Stored) -> bool
     no_adds & no_clears
 }
 
-// The change that stores this.
+/// The change that stores this.
 fn part_with(alloc: Global, stored: Stored) -> Change
     ensures { result ≡ part_of stored }
 {

@@ -20,7 +20,7 @@ use keep_view::View;
 use std::alloc::{AllocError, Global};
 use std::borrow::CowSlice;
 
-// What is stored of blobs that are held.
+/// What is stored of blobs that are held.
 pub(crate) fn store_held<'a>(
     alloc: Global,
     view: &View<'a>,
@@ -36,7 +36,7 @@ pub(crate) fn store_held<'a>(
     Ok(stored)
 }
 
-// The id of the root's tree, and what is stored of what is left.
+/// The id of the root's tree, and what is stored of what is left.
 pub(crate) fn store_last<'a>(
     alloc: Global,
     view: &View<'a>,
@@ -61,7 +61,7 @@ pub(crate) fn store_last<'a>(
     Ok((tree, stored))
 }
 
-// Names blobs that are used where they are, up to the first that has no place.
+/// Names blobs that are used where they are, up to the first that has no place.
 fn claim_all(storing: &mut Storing, named: &[BlobId]) -> Result<Option<BlobId>, AllocError>
     ensures missing { IfOk result (λ missing. (r : Repository) → Keeps r [] [] storing.old
         → missing ≡ find (has_no_place r) named.now) }
@@ -77,7 +77,7 @@ fn claim_all(storing: &mut Storing, named: &[BlobId]) -> Result<Option<BlobId>, 
     Ok(None)
 }
 
-// Offers blobs that are held. None is hashed again.
+/// Offers blobs that are held. None is hashed again.
 fn take_all<'a>(storing: &mut Storing<'a>, held: &'a [HeldBlob]) -> Result<(), AllocError>
     ensures { OnOk result ((r : Repository) (named : List the_blob.BlobId) (offered : List BlobData)
         → Keeps r named offered storing.old → Keeps r named (offered ++ map held_view held.now) storing.new) }

@@ -191,7 +191,7 @@ folder_below cut most depth files e r some order names one goes is =
     let C : ℕ → Type 0 = λ n. ComesTo cut n (seen depth files) (record { name = r.now; kind = dir (id_of (root_tree cut (folder_at (most - (depth + 1)) (seen (depth + 1) files)))); others = no_members }) (blobs_of cut (folder_at (most - (depth + 1)) (seen (depth + 1) files))) in
     record { comes = subst C (sym deeper) folder.comes; order = folder.order; names = folder.names; deeper = deeper }
 
--- the same by the first file itself
+-- the first file comes next, where its path ends at this depth
 pub file_first : (cut levels depth : ℕ) (files : List PathFile) (e : PathFile) (r : Bor (List ℕ)) → 0 < length files → StandInOrder (paths_seen depth files) → HaveNames levels (paths_seen depth files) → HaveOneName (paths_seen depth files)
     → e ≡ get_or files 0 e → vec_len e.names ≡ depth + 1 → r ≡ get_or e.names.items depth r
     → ComesTo cut levels (seen depth files) (record { name = r.now; kind = file (map id_of (pieces_of cut e.bytes.now)); others = no_members }) (pieces_of cut e.bytes.now)

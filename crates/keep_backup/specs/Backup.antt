@@ -100,7 +100,7 @@ planned_of r facts (Ok made) = planned r made.1 (snapshot_file facts made.0)
 abbrev pub bad_time : FactsData → Option PlanError
 bad_time facts = if is_none (time_in facts.time) then Some BadTime else None
 
--- the same for files in the order of their paths, or why there are none
+-- the change that backs up files in the order of their paths, or the first refusal, as why there are no such files
 abbrev pub backup_of : Repository → FactsData → ℕ → Result (List FileData) PlanError
     → Result Change PlanError
 backup_of r facts cut (Err refusal) = Err refusal

@@ -39,7 +39,7 @@ pub(crate) fn files_in_order<'a>(
     Ok(files)
 }
 
-// Each file with the names of its path.
+/// Each file with the names of its path.
 fn parsed<'a>(alloc: Global, given: &'a [(String, Vec<u8>)]) -> Result<Vec<PathFile<'a>>, PlanError>
     ensures { Answers the_error.Memory (λ files. map file_view files.items)
         (ok_or (each given_file (map given_view given.entry.now)) the_error.BadPath) result }
@@ -52,7 +52,7 @@ fn parsed<'a>(alloc: Global, given: &'a [(String, Vec<u8>)]) -> Result<Vec<PathF
     Ok(files)
 }
 
-// The file with the names of its path.
+/// The file with the names of its path.
 fn parse<'a>(alloc: Global, path: &'a str, bytes: &'a [u8]) -> Result<PathFile<'a>, PlanError>
     ensures { Answers the_error.Memory file_view
         (ok_or (given_file (path.entry.now, bytes.entry.now)) the_error.BadPath) result }
@@ -61,7 +61,7 @@ fn parse<'a>(alloc: Global, path: &'a str, bytes: &'a [u8]) -> Result<PathFile<'
     Ok(PathFile { names, bytes })
 }
 
-// The names of an absolute path from the root on, if it is one.
+/// The names of an absolute path from the root on, if it is one.
 fn names_in_path<'a>(alloc: Global, path: &'a str) -> Result<Option<Vec<&'a str>>, AllocError>
     ensures { IfOk result (λ names. option_map names_view names ≡ components_of path.entry.now) }
 {
@@ -75,7 +75,7 @@ fn names_in_path<'a>(alloc: Global, path: &'a str) -> Result<Option<Vec<&'a str>
     Ok(Some(names))
 }
 
-// Whether two of the paths are one, or one lies below the other: then so do two neighbours.
+/// Whether two of the paths are one, or one lies below the other: then so do two neighbours.
 fn have_clash(files: &[PathFile]) -> bool
     requires sorted { IsSortedBy
         (λ a b. is_lt (path_cmp (names_view a.names) (names_view b.names))) files.now }

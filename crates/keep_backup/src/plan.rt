@@ -51,7 +51,7 @@ pub fn plan_backup(
     plan_files(alloc, view, files, facts, cut)
 }
 
-// The same, where memory may run out before the time is looked at.
+/// The change that backs up these files, where memory may run out before the time is looked at.
 fn plan_files(
     alloc: Global,
     view: &View,
@@ -88,7 +88,7 @@ pub fn has_bad_time(facts: &BackupFacts) -> bool
     parse_time(facts.time.as_str()).is_none()
 }
 
-// The id of the root's tree, and what is stored of the files.
+/// The id of the root's tree, and what is stored of the files.
 fn store_files<'a>(
     alloc: Global,
     view: &View<'a>,

@@ -33,7 +33,7 @@ pub fn snapshot_file(
     StoredFile::of(alloc, Kind::Snapshot, text)
 }
 
-// What it says.
+/// What it says.
 fn snapshot_of(
     alloc: Global,
     facts: &BackupFacts,

@@ -42,8 +42,8 @@ pub(crate) fn walk<'a>(
     walk_folder(alloc, files, 0, cut, storing)
 }
 
-// Offers what is in a folder so many names below the root, through which the files' paths go, and then its
-// tree.
+/// Offers what is in a folder so many names below the root, through which the files' paths go, and then its
+/// tree.
 #[cycle(walking)]
 fn walk_folder<'a>(
     alloc: Global,
@@ -74,7 +74,7 @@ fn walk_folder<'a>(
     put_tree(alloc, nodes, storing)
 }
 
-// Offers what is below the one name that the files' paths have there: the pieces of a file, or a folder.
+/// Offers what is below the one name that the files' paths have there: the pieces of a file, or a folder.
 #[cycle(walking)]
 fn walk_node<'a>(
     alloc: Global,
@@ -105,7 +105,7 @@ fn walk_node<'a>(
     Ok(Node::dir(alloc, name, subtree))
 }
 
-// How many of the files, from the first on, have the first one's name at this depth.
+/// How many of the files, from the first on, have the first one's name at this depth.
 fn count_at(files: &[PathFile], depth: usize) -> usize
     requires some { 0 < length files.now }
     requires names { HaveNames (most_levels - depth) (paths_seen depth files.now) }
@@ -124,7 +124,7 @@ fn count_at(files: &[PathFile], depth: usize) -> usize
     files.len()
 }
 
-// Offers the tree of these nodes.
+/// Offers the tree of these nodes.
 fn put_tree(alloc: Global, nodes: Vec<Node>, storing: &mut Storing) -> Result<Id, PlanError>
     requires { has_float (tree_data (map node_view nodes.items)) ≡ false }
     ensures took { OnOk result (Took (tree_blob (map node_view nodes.items) ∷ []) storing.old storing.new) }
@@ -136,7 +136,7 @@ fn put_tree(alloc: Global, nodes: Vec<Node>, storing: &mut Storing) -> Result<Id
     storing.put(BlobType::Tree, CowSlice::Owned(text))
 }
 
-// Offers the pieces of a file, and tells their ids.
+/// Offers the pieces of a file, and tells their ids.
 fn put_pieces<'a>(
     alloc: Global,
     bytes: &'a [u8],

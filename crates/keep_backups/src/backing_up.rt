@@ -132,7 +132,7 @@ fn fill<B: Begun, K: Keeps, R: Source>(
     walk(alloc, taking, wish.job)
 }
 
-/// The same, by a walk that has taken nothing yet.
+/// Takes what the job asks for, by a walk that has taken nothing yet, and commits parts of it.
 fn walk<B: Begun, K: Keeps, R: Source>(
     alloc: Global,
     mut taking: Taking<R, Intake<'_, '_, B, K>>,

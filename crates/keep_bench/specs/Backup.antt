@@ -31,7 +31,7 @@ told_of c = record {
   adds = length c.adds;
 }
 
--- the same of a planned change, else its refusal
+-- what is told of a planned change, else its refusal
 abbrev pub backed_up_with : Result Change PlanError → Result BackedUp PlanError
 backed_up_with (Ok change) = Ok (told_of change)
 backed_up_with (Err refusal) = Err refusal

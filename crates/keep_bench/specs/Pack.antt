@@ -11,6 +11,6 @@ abbrev pub summary_with : List ℕ → Result (List Blob) PackError → Result S
 summary_with pack (Ok entries) = Ok (record { id = record { 0 = sha256 pack }; entries = length entries })
 summary_with pack (Err refusal) = Err refusal
 
--- the same where the header is read, else its refusal
+-- the SHA-256 of the pack, and how many entries its header has, or why it can't be read
 abbrev pub summary_of : List ℕ → Result Summary PackError
 summary_of pack = summary_with pack (header_of pack)

@@ -147,7 +147,7 @@ pub record IsCascade (b : OnShelf) (n : ℕ) (numbers : List ℕ) (stopped : Opt
   pub failures : after.shelf.failures ≡ failures_at stopped b.shelf.failures
   pub stops : EachCallSays b n after
 
--- the same of a list and a reason that are these
+-- what is said of a cascade holds of a list and a reason that equal its own
 pub as_told : (b : OnShelf) (n : ℕ) (numbers : List ℕ) (stopped : Option Refusal) (told : List ℕ) (said : Option Refusal) (after : OnShelf)
     → told ≡ numbers → said ≡ stopped → IsCascade b n numbers stopped after → IsCascade b n told said after
 as_told b n numbers stopped told said after is_told is_said cascade =

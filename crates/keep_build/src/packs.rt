@@ -13,17 +13,17 @@ use keep_names::{Blob, Kind};
 use keep_pack::build_pack;
 use std::alloc::{AllocError, Global};
 
-// A pack with as many bytes of blobs gets no more.
+/// A pack with as many bytes of blobs gets no more.
 const FULL_PACK: usize = 16_777_216;
 
-// Packs, and what their index says of them.
+/// Packs, and what their index says of them.
 #[derive(Drop)]
 struct Built {
     files: Vec<StoredFile>,
     listed: Vec<IndexedPack>,
 }
 
-// The packs of new blobs, pieces before trees, and their index.
+/// The packs of new blobs, pieces before trees, and their index.
 pub(crate) fn built_files(
     alloc: Global,
     pieces: &[NewBlob],
@@ -43,7 +43,7 @@ pub(crate) fn built_files(
     add_index(alloc, built)
 }
 
-// Adds the packs of these blobs.
+/// Adds the packs of these blobs.
 fn add_packs(alloc: Global, built: &mut Built, blobs: &[NewBlob]) -> Result<(), AllocError>
     requires { CanBePacked blobs.now }
     ensures files { OnOk result (built.new.files.items
@@ -61,7 +61,7 @@ fn add_packs(alloc: Global, built: &mut Built, blobs: &[NewBlob]) -> Result<(), 
     Ok(())
 }
 
-// How many of the blobs the first pack has.
+/// How many of the blobs the first pack has.
 fn first_pack(blobs: &[NewBlob]) -> usize
     requires some { 0 < length blobs.now }
     requires fits { CanBePacked blobs.now }
@@ -81,7 +81,7 @@ fn first_pack(blobs: &[NewBlob]) -> usize
     blobs.len()
 }
 
-// Adds the pack of these blobs.
+/// Adds the pack of these blobs.
 fn add_pack(alloc: Global, built: &mut Built, blobs: &[NewBlob]) -> Result<(), AllocError>
     requires fits { CanBePacked blobs.now }
     requires some { 0 < length blobs.now }
@@ -100,7 +100,7 @@ fn add_pack(alloc: Global, built: &mut Built, blobs: &[NewBlob]) -> Result<(), A
     Ok(())
 }
 
-// What an index says of the blobs of a pack, which lie one after the other.
+/// What an index says of the blobs of a pack, which lie one after the other.
 fn listed_blobs(alloc: Global, blobs: &[NewBlob]) -> Result<Vec<Blob>, AllocError>
     requires fits { CanBePacked blobs.now }
     requires count { 37 * length blobs.now < 2 ^ 32 }
@@ -121,7 +121,7 @@ fn listed_blobs(alloc: Global, blobs: &[NewBlob]) -> Result<Vec<Blob>, AllocErro
     Ok(listed)
 }
 
-// How long a blob is.
+/// How long a blob is.
 fn blob_length(bytes: &Text) -> u32
     requires { length (text_bytes bytes.now) < 2 ^ 32 }
     ensures { result ≡ length (text_bytes bytes.now) }
@@ -129,7 +129,7 @@ fn blob_length(bytes: &Text) -> u32
     bytes.len() as u32
 }
 
-// Adds the index of the packs, if there are packs.
+/// Adds the index of the packs, if there are packs.
 fn add_index(alloc: Global, built: Built) -> Result<Vec<StoredFile>, AllocError>
     ensures { IfOk result (λ files. (packs : List (List BlobData)) → built.files.items ≡ map pack_file packs
         → map pack_view built.listed.items ≡ map pack_listed packs → files.items ≡ packs_and_index packs) }

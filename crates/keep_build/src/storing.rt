@@ -20,20 +20,20 @@ use std::collections::BTreeSet;
 /// The bytes of a blob. They are lent until they are written into a pack, where somebody else has them.
 pub type Text<'a> = CowSlice<'a, u8, Global>;
 
-// A new blob, under its name.
+/// A new blob, under its name.
 pub(crate) type NewBlob<'a> = (BlobId, Text<'a>);
 
 /// What blobs that are offered one after the other come to. Those that aren't new are let go at once.
 #[derive(Drop)]
 pub struct Storing<'a> {
     pub(crate) catalog: Catalog<'a>,
-    // The blobs that were offered.
+    /// The blobs that were offered.
     pub(crate) seen: BTreeSet<BlobId>,
-    // The new pieces of files, in their order.
+    /// The new pieces of files, in their order.
     pub(crate) pieces: Vec<NewBlob<'a>>,
-    // The new trees, in theirs.
+    /// The new trees, in theirs.
     pub(crate) trees: Vec<NewBlob<'a>>,
-    // What the others rest on.
+    /// What the others rest on.
     pub(crate) reuses: Reuses,
 }
 
@@ -125,7 +125,7 @@ impl<'a> Storing<'a> {
     }
 }
 
-// Keeps a new blob.
+/// Keeps a new blob.
 fn keep<'a>(kept: &mut Vec<NewBlob<'a>>, blob: BlobId, bytes: Text<'a>) -> Result<(), AllocError>
     requires { blob.id.0 ≡ sha256 (text_bytes bytes) }
     ensures { OnOk result ((blobs : List BlobData) → AreKept blobs kept.old.items

@@ -7,7 +7,7 @@ use crate::stored::Stored;
 use keep_names::{FileName, id_of};
 use keep_repo::Repo;
 
-// The bytes at the spot, if its pack is there and has as many.
+/// The bytes at the spot, if its pack is there and has as many.
 pub(crate) fn bytes_at(repo: &Repo, spot: Spot) -> Option<&[u8]>
     ensures { option_map (λ bytes. bytes.now) result ≡ spec.bytes_at repo.entry.now spot }
 {
@@ -17,7 +17,7 @@ pub(crate) fn bytes_at(repo: &Repo, spot: Spot) -> Option<&[u8]>
     slice_of(bytes.as_slice(), spot.offset, spot.length)
 }
 
-// As many bytes from the offset on.
+/// As many bytes from the offset on.
 fn slice_of(bytes: &[u8], offset: u64, count: u32) -> Option<&[u8]>
     ensures { option_map (λ slice. slice.now) result ≡ spec.slice_of offset count bytes.entry.now }
 {
@@ -29,7 +29,7 @@ fn slice_of(bytes: &[u8], offset: u64, count: u32) -> Option<&[u8]>
     Some(&bytes[start..start + count])
 }
 
-// Whether the bytes of the place have the blob's id. They are hashed, unless they were before.
+/// Whether the bytes of the place have the blob's id. They are hashed, unless they were before.
 pub(crate) fn is_honest(repo: &Repo, stored: &Stored, place: PackedBlob) -> bool
     requires { IsHashedIn repo.now stored.now }
     ensures { result ≡ spec.is_honest repo.now place.blob place.spot }
@@ -40,7 +40,7 @@ pub(crate) fn is_honest(repo: &Repo, stored: &Stored, place: PackedBlob) -> bool
     }
 }
 
-// Hashes the bytes of the place.
+/// Hashes the bytes of the place.
 pub(crate) fn has_hash(repo: &Repo, place: PackedBlob) -> bool
     ensures { result ≡ spec.is_honest repo.now place.blob place.spot }
 {

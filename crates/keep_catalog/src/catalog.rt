@@ -41,7 +41,7 @@ pub struct Catalog<'a> {
     source: Source<'a>,
 }
 
-// Tables of a catalog's own, or those of a live repository.
+/// Tables of a catalog's own, or those of a live repository.
 #[derive(Drop)]
 enum Source<'a> {
     Own(Tables),
@@ -80,7 +80,7 @@ impl<'a> Catalog<'a> {
         Ok(Catalog { repo, source })
     }
 
-    // The catalog itself, if nothing was passed over in it. Else the first file that was, by name.
+    /// The catalog itself, if nothing was passed over in it. Else the first file that was, by name.
     pub(crate) fn if_all_read(self) -> Result<Catalog<'a>, CatalogError>
         ensures catalog { IfOk result (λ catalog. catalog ≡ self.entry) }
         ensures all_read { IfOk result (λ _. unread_in self.entry ≡ []) }
@@ -101,7 +101,7 @@ impl<'a> Catalog<'a> {
         Ok(files)
     }
 
-    // The catalog of a repository that lends its tables.
+    /// The catalog of a repository that lends its tables.
     pub(crate) fn lent(repo: &'a Repo, tables: &'a Tables) -> Catalog<'a>
         requires { IsKept repo.now tables.now }
         ensures { result ≡ repo.entry.now }
@@ -173,7 +173,7 @@ impl<'a> Catalog<'a> {
         nodes_at(alloc, self.repo, spot)
     }
 
-    // The chosen spot, and the least-named index that lists the blob there.
+    /// The chosen spot, and the least-named index that lists the blob there.
     fn choose(&self, blob: BlobId) -> Option<(Spot, Id)>
         ensures { result ≡ chosen_listing self.now blob }
     {
@@ -197,7 +197,7 @@ impl<'a> Catalog<'a> {
         Ok(Named { spot, index, names })
     }
 
-    // Why the blob has no chosen place.
+    /// Why the blob has no chosen place.
     fn missing(&self, blob: BlobId) -> ReachError
         ensures { result ≡ missing self.now blob }
     {

@@ -15,7 +15,7 @@ use keep_names::{BlobId, Id};
 use keep_repo::Repo;
 use std::collections::BTreeSet;
 
-// The first of the listings whose spot the header has and is open.
+/// The first of the listings whose spot the header has and is open.
 pub(crate) fn first_open(
     repo: &Repo,
     stored: &Stored,
@@ -58,7 +58,7 @@ fn first_open_among(
     None
 }
 
-// Whether a header has the place, its bytes have the blob's id, and its pack has no mark.
+/// Whether a header has the place, its bytes have the blob's id, and its pack has no mark.
 fn is_open(repo: &Repo, stored: &Stored, place: PackedBlob) -> bool
     requires stored { IsStoredIn repo.now stored.now }
     requires hashed { IsHashedIn repo.now stored.now }
@@ -67,7 +67,7 @@ fn is_open(repo: &Repo, stored: &Stored, place: PackedBlob) -> bool
     !repo.is_marked(place.spot.pack) && has_bytes(repo, stored, place)
 }
 
-// Whether a header has the blob at one of the listings.
+/// Whether a header has the blob at one of the listings.
 pub(crate) fn some_stored(repo: &Repo, stored: &Stored, blob: BlobId, listings: &Listings) -> bool
     requires { IsStoredIn repo.now stored.now }
     ensures value { result ≡ list_any (λ l. spec.is_stored repo.now (at blob l.spot)) (listings_in listings.now) }
@@ -101,7 +101,7 @@ fn some_stored_among(
     false
 }
 
-// Whether a header has the blob at one of the listings, and the bytes there have its id.
+/// Whether a header has the blob at one of the listings, and the bytes there have its id.
 pub(crate) fn some_honest(repo: &Repo, stored: &Stored, blob: BlobId, listings: &Listings) -> bool
     requires stored { IsStoredIn repo.now stored.now }
     requires hashed { IsHashedIn repo.now stored.now }
@@ -139,7 +139,7 @@ fn some_honest_among(
     false
 }
 
-// Whether a header has the place, and its bytes have the blob's id.
+/// Whether a header has the place, and its bytes have the blob's id.
 fn has_bytes(repo: &Repo, stored: &Stored, place: PackedBlob) -> bool
     requires stored { IsStoredIn repo.now stored.now }
     requires hashed { IsHashedIn repo.now stored.now }

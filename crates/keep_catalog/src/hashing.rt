@@ -6,7 +6,7 @@ use crate::stored::Stored;
 use keep_repo::Repo;
 use std::alloc::{AllocError, Global};
 
-// Hashes each place that wasn't hashed before. Where memory runs out, some are.
+/// Hashes each place that wasn't hashed before. Where memory runs out, some are.
 pub(crate) fn hash_places(alloc: Global, repo: &Repo, stored: &mut Stored) -> Result<(), AllocError>
     requires stored { IsStoredIn repo.now stored.old }
     requires hashed { IsHashedIn repo.now stored.old }
@@ -20,7 +20,7 @@ pub(crate) fn hash_places(alloc: Global, repo: &Repo, stored: &mut Stored) -> Re
     Ok(())
 }
 
-// Hashes a place of a header, unless it was before.
+/// Hashes a place of a header, unless it was before.
 fn hash_place(repo: &Repo, stored: &mut Stored, place: PackedBlob) -> Result<(), AllocError>
     requires stored { IsStoredIn repo.now stored.old }
     requires hashed { IsHashedIn repo.now stored.old }

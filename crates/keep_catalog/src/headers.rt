@@ -31,7 +31,7 @@ impl<'a> Catalog<'a> {
     }
 }
 
-// The headers of those of the packs that can be read.
+/// The headers of those of the packs that can be read.
 fn headers_of(alloc: Global, repo: &Repo, packs: &[Id]) -> Result<Vec<(Id, Vec<Blob>)>, AllocError>
     ensures { IfOk result (λ headers. map header_view headers.items
         ≡ filter_map (λ pack. readable pack (header_in repo.now pack)) packs.now) }
@@ -44,7 +44,7 @@ fn headers_of(alloc: Global, repo: &Repo, packs: &[Id]) -> Result<Vec<(Id, Vec<B
     Ok(headers)
 }
 
-// The header of a pack, if it can be read.
+/// The header of a pack, if it can be read.
 fn pack_header(alloc: Global, repo: &Repo, pack: Id) -> Result<Option<(Id, Vec<Blob>)>, AllocError>
     ensures { IfOk result (λ header. option_map header_view header
         ≡ readable pack (header_in repo.now pack)) }
@@ -63,7 +63,7 @@ fn pack_header(alloc: Global, repo: &Repo, pack: Id) -> Result<Option<(Id, Vec<B
     }
 }
 
-// What those of the indexes say that can be read.
+/// What those of the indexes say that can be read.
 fn indexes_of(
     alloc: Global,
     repo: &Repo,
@@ -80,7 +80,7 @@ fn indexes_of(
     Ok(read)
 }
 
-// What an index says, if it can be read.
+/// What an index says, if it can be read.
 fn index_packs(
     alloc: Global,
     repo: &Repo,
@@ -103,7 +103,7 @@ fn index_packs(
     }
 }
 
-// Adds what was found, if something was.
+/// Adds what was found, if something was.
 pub(crate) fn add_found<T: Drop>(all: &mut Vec<T>, found: Option<T>) -> Result<(), AllocError>
     ensures { OnOk result (all.new.items ≡ all.old.items ++ option_to_list found) }
 {

@@ -67,5 +67,5 @@ pub fn live_repos_cross_threads() {
     cross::<LiveRepo>()
 }
 
-// What can be handed to another thread, and lent to several at once.
+/// What can be handed to another thread, and lent to several at once.
 fn cross<T: Send + Sync>() {}

@@ -14,10 +14,10 @@ use keep_names::{BlobId, Id};
 use std::alloc::{AllocError, Global};
 use std::collections::BTreeMap;
 
-// Where indexes list blobs: the listings by blob.
+/// Where indexes list blobs: the listings by blob.
 pub(crate) type Listed = BTreeMap<BlobId, Listings>;
 
-// Adds what an index says of these packs.
+/// Adds what an index says of these packs.
 pub(crate) fn list(
     alloc: Global,
     listed: &mut Listed,
@@ -35,7 +35,7 @@ pub(crate) fn list(
     Ok(())
 }
 
-// Adds what an index says of a pack.
+/// Adds what an index says of a pack.
 fn list_pack(
     alloc: Global,
     listed: &mut Listed,
@@ -53,7 +53,7 @@ fn list_pack(
     Ok(())
 }
 
-// Adds an index's listing of a place.
+/// Adds an index's listing of a place.
 fn list_place(
     alloc: Global,
     listed: &mut Listed,
@@ -75,7 +75,7 @@ fn list_place(
     Ok(())
 }
 
-// Removes what an index says of these packs.
+/// Removes what an index says of these packs.
 pub(crate) fn unlist(
     listed: &mut Listed,
     index: Id,
@@ -92,7 +92,7 @@ pub(crate) fn unlist(
     Ok(())
 }
 
-// Removes what an index says of a pack.
+/// Removes what an index says of a pack.
 fn unlist_pack(listed: &mut Listed, index: Id, pack: &IndexedPack) -> Result<(), AllocError>
     ensures { OnOk result ((blob : the_blob.BlobId) (l : the_listing.Listing)
         → lists_at listed.new blob l
@@ -105,7 +105,7 @@ fn unlist_pack(listed: &mut Listed, index: Id, pack: &IndexedPack) -> Result<(),
     Ok(())
 }
 
-// Removes an index's listing of a place. A blob without listings isn't kept.
+/// Removes an index's listing of a place. A blob without listings isn't kept.
 fn unlist_place(listed: &mut Listed, index: Id, place: PackedBlob) -> Result<(), AllocError>
     ensures { OnOk result ((blob : the_blob.BlobId) (l : the_listing.Listing)
         → lists_at listed.new blob l

@@ -17,7 +17,7 @@ use keep_repo::Repo;
 use std::alloc::{AllocError, Global};
 use std::marker::Model;
 
-// So many files that go are worth a look at how many are left.
+/// So many files that go are worth a look at how many are left.
 const MANY: usize = 64;
 
 /// A repository that changes, and lends the catalog of what it holds.
@@ -30,7 +30,7 @@ const MANY: usize = 64;
 pub struct LiveRepo {
     alloc: Global,
     repo: Repo,
-    // What its files say. None where memory ran out for it.
+    /// What its files say. None where memory ran out for it.
     tables: Option<Tables>,
 }
 
@@ -67,7 +67,7 @@ impl LiveRepo {
         &self.repo
     }
 
-    // Reads all files anew, where memory ran out for what they say.
+    /// Reads all files anew, where memory ran out for what they say.
     fn refresh(&mut self)
         ensures { self.new ≡ self.old }
     {
@@ -166,7 +166,7 @@ impl LiveRepo {
     }
 }
 
-// The tables after these files came, none where memory ran out.
+/// The tables after these files came, none where memory ran out.
 fn came(tables: Option<Tables>, files: &[StoredFile]) -> Option<Tables>
     ensures { (r : Repository) → AreNew files.now r.files
         → IfSome tables (IsKept r) → IfSome result (IsKept (with_files files.now r)) }
@@ -178,7 +178,7 @@ fn came(tables: Option<Tables>, files: &[StoredFile]) -> Option<Tables>
     }
 }
 
-// The tables after these files went, none where memory ran out, or where less is left.
+/// The tables after these files went, none where memory ran out, or where less is left.
 fn went(tables: Option<Tables>, files: &[StoredFile], left: &Repo) -> Option<Tables>
     ensures { (r : Repository) → AreThere files.now r.files
         → IfSome tables (IsKept r) → IfSome result (IsKept (without_files files.now r)) }
@@ -193,13 +193,13 @@ fn went(tables: Option<Tables>, files: &[StoredFile], left: &Repo) -> Option<Tab
     }
 }
 
-// Whether the files are many, and the repository has fewer, and fewer bytes in them.
+/// Whether the files are many, and the repository has fewer, and fewer bytes in them.
 fn is_less(repo: &Repo, files: &[StoredFile]) -> bool {
     let count = files.len();
     count >= MANY && repo.file_count() < count && size_of_repo(repo) < size_of_files(files)
 }
 
-// The bytes of all files of the repository, or the most where there is no memory to list them.
+/// The bytes of all files of the repository, or the most where there is no memory to list them.
 fn size_of_repo(repo: &Repo) -> usize {
     let Ok((names, _packs)) = repo.list() else {
         return usize::MAX;

@@ -27,7 +27,7 @@ pub struct Named {
     pub names: Vec<BlobId>,
 }
 
-// What a blob of this type at the spot names.
+/// What a blob of this type at the spot names.
 pub(crate) fn names_at(
     alloc: Global,
     repo: &Repo,
@@ -46,7 +46,7 @@ pub(crate) fn names_at(
     }
 }
 
-// The nodes of the tree at the spot.
+/// The nodes of the tree at the spot.
 pub(crate) fn nodes_at(alloc: Global, repo: &Repo, spot: Spot) -> Result<Vec<Node>, ReachError>
     ensures { Answers the_reach_error.Memory (λ nodes. map node_view nodes.items)
         (spec.nodes_at_spot repo.now spot) result }
@@ -57,7 +57,7 @@ pub(crate) fn nodes_at(alloc: Global, repo: &Repo, spot: Spot) -> Result<Vec<Nod
     }
 }
 
-// The nodes that the bytes of a tree hold.
+/// The nodes that the bytes of a tree hold.
 fn nodes_in(alloc: Global, bytes: &[u8]) -> Result<Vec<Node>, ReachError>
     ensures { Answers the_reach_error.Memory (λ nodes. map node_view nodes.items)
         (nodes_read (read_tree_of bytes.now)) result }
@@ -79,7 +79,7 @@ fn is_memory(refusal: TreeError) -> bool
     matches!(refusal, TreeError::Doc(DocError::Memory))
 }
 
-// What nodes name, in their order.
+/// What nodes name, in their order.
 fn named_blobs(alloc: Global, nodes: &[Node]) -> Result<Vec<BlobId>, AllocError>
     ensures { IfOk result (λ names. names.items ≡ flat_map named_of (map node_view nodes.now)) }
 {
@@ -90,7 +90,7 @@ fn named_blobs(alloc: Global, nodes: &[Node]) -> Result<Vec<BlobId>, AllocError>
     Ok(names)
 }
 
-// Adds what a node of this kind names.
+/// Adds what a node of this kind names.
 fn add_named(names: &mut Vec<BlobId>, kind: &NodeKind) -> Result<(), AllocError>
     ensures { OnOk result (names.new.items ≡ names.old.items ++ named_in (kind_view kind.now)) }
 {
@@ -104,7 +104,7 @@ fn add_named(names: &mut Vec<BlobId>, kind: &NodeKind) -> Result<(), AllocError>
     }
 }
 
-// Adds the pieces of a file.
+/// Adds the pieces of a file.
 fn add_pieces(names: &mut Vec<BlobId>, content: &[Id]) -> Result<(), AllocError>
     ensures { OnOk result (names.new.items ≡ names.old.items ++ map piece_of content.now) }
 {

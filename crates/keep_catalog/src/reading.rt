@@ -17,10 +17,10 @@ use keep_pack::{PackError, read_header};
 use keep_snap::{Snap, SnapError, read_snap};
 use std::alloc::{AllocError, Global};
 
-// What was read of a file, and why it can't be read.
+/// What was read of a file, and why it can't be read.
 type Read<T> = (T, Option<FileError>);
 
-// The entries of a pack, none where its header can't be read.
+/// The entries of a pack, none where its header can't be read.
 pub(crate) fn read_pack(alloc: Global, bytes: &[u8]) -> Result<Read<Vec<Blob>>, AllocError>
     ensures entries { IfOk result (λ read. read.0.items ≡ what_is_read (Some (header_of bytes.now))) }
     ensures why { IfOk result (λ read. read.1 ≡ why_of Pack bytes.now) }
@@ -36,7 +36,7 @@ pub(crate) fn read_pack(alloc: Global, bytes: &[u8]) -> Result<Read<Vec<Blob>>, 
     }
 }
 
-// The packs of an index, none where it can't be read.
+/// The packs of an index, none where it can't be read.
 pub(crate) fn read_listed(alloc: Global, bytes: &[u8]) -> Result<Read<Vec<IndexedPack>>, AllocError>
     ensures packs { IfOk result (λ read.
         map pack_view read.0.items ≡ what_is_read (Some (index_of bytes.now))) }
@@ -53,7 +53,7 @@ pub(crate) fn read_listed(alloc: Global, bytes: &[u8]) -> Result<Read<Vec<Indexe
     }
 }
 
-// The snapshot, if it can be read.
+/// The snapshot, if it can be read.
 pub(crate) fn read_snapshot(alloc: Global, bytes: &[u8]) -> Result<Read<Option<Snap>>, AllocError>
     ensures snap { IfOk result (λ read. option_map snap_view read.0 ≡ snap_read (Some bytes.now)) }
     ensures why { IfOk result (λ read. read.1 ≡ why_of Snapshot bytes.now) }

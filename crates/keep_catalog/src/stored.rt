@@ -9,10 +9,10 @@ use keep_names::{Blob, Id};
 use std::alloc::AllocError;
 use std::collections::BTreeMap;
 
-// The places that headers have, each with whether it is honest, where that was hashed.
+/// The places that headers have, each with whether it is honest, where that was hashed.
 pub(crate) type Stored = BTreeMap<PackedBlob, Option<bool>>;
 
-// Adds what a pack's header has.
+/// Adds what a pack's header has.
 pub(crate) fn store(stored: &mut Stored, pack: Id, entries: &[Blob]) -> Result<(), AllocError>
     ensures { OnOk result ((p : the_packed_blob.PackedBlob) → tree.get packed_blob_cmp stored.new p
         ≡ if is_among (map (packed_of pack) entries.now) p then Some None
@@ -24,7 +24,7 @@ pub(crate) fn store(stored: &mut Stored, pack: Id, entries: &[Blob]) -> Result<(
     Ok(())
 }
 
-// Removes what a pack's header has.
+/// Removes what a pack's header has.
 pub(crate) fn unstore(stored: &mut Stored, pack: Id, entries: &[Blob])
     ensures { (p : the_packed_blob.PackedBlob) → tree.get packed_blob_cmp stored.new p
         ≡ if is_among (map (packed_of pack) entries.now) p then None

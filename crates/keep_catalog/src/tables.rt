@@ -30,8 +30,8 @@ use keep_snap::Snap;
 use std::alloc::{AllocError, Global};
 use std::collections::BTreeMap;
 
-// What the files of a repository say, by what it is asked for. It holds no repository, and follows any by the files
-// that come and go. After want of memory it may say anything, and is to be let go.
+/// What the files of a repository say, by what it is asked for. It holds no repository, and follows any by the files
+/// that come and go. After want of memory it may say anything, and is to be let go.
 pub(crate) struct Tables {
     alloc: Global,
     pub(crate) stored: Stored,
@@ -55,7 +55,7 @@ impl Drop for Tables {
 }
 
 impl Tables {
-    // The tables of a repository. Each of its packs, indexes and snapshots is read.
+    /// The tables of a repository. Each of its packs, indexes and snapshots is read.
     pub(crate) fn of(alloc: Global, repo: &Repo) -> Result<Tables, AllocError>
         ensures { IfOk result (IsKept repo.now) }
     {
@@ -81,7 +81,7 @@ impl Tables {
         }
     }
 
-    // Follows files that come. No others are read.
+    /// Follows files that come. No others are read.
     pub(crate) fn add_files(&mut self, files: &[StoredFile]) -> Result<(), AllocError>
         ensures { OnOk result ((r : Repository) → AreNew files.now r.files → IsKept r self.old
             → IsKept (with_files files.now r) self.new) }
@@ -92,7 +92,7 @@ impl Tables {
         Ok(())
     }
 
-    // Follows files that go. No others are read.
+    /// Follows files that go. No others are read.
     pub(crate) fn drop_files(&mut self, files: &[StoredFile]) -> Result<(), AllocError>
         ensures { OnOk result ((r : Repository) → AreThere files.now r.files → IsKept r self.old
             → IsKept (without_files files.now r) self.new) }
@@ -103,14 +103,14 @@ impl Tables {
         Ok(())
     }
 
-    // The first file that can't be read, by name.
+    /// The first file that can't be read, by name.
     pub(crate) fn first_unread(&self) -> Option<Unread>
         ensures { (r : Repository) → IsKept r self.now → result ≡ slice_get (unread_in r) 0 }
     {
         first_of(&self.unread)
     }
 
-    // Follows a file that comes.
+    /// Follows a file that comes.
     fn add_file(&mut self, name: FileName, bytes: &[u8]) -> Result<(), AllocError>
         ensures { OnOk result ((r : Repository) → finite.get r.files name ≡ None → IsKept r self.old
             → IsKept (with_file r name bytes.now) self.new) }
@@ -152,7 +152,7 @@ impl Tables {
         note(&mut self.unread, FileName::snapshot(name), why)
     }
 
-    // Follows a file that goes.
+    /// Follows a file that goes.
     fn drop_file(&mut self, name: FileName, bytes: &[u8]) -> Result<(), AllocError>
         ensures { OnOk result ((r : Repository) → finite.get r.files name ≡ Some bytes.now → IsKept r self.old
             → IsKept (without_file r name) self.new) }
@@ -202,7 +202,7 @@ impl Tables {
     }
 }
 
-// Keeps a snapshot, if there is one.
+/// Keeps a snapshot, if there is one.
 fn keep(snaps: &mut BTreeMap<Id, Snap>, name: Id, snap: Option<Snap>) -> Result<(), AllocError>
     ensures kept { OnOk result ((q : the_id.Id) → snap_at snaps.new q
         ≡ option_or (if same_id name q then option_map snap_view snap else None) (snap_at snaps.old q)) }
@@ -214,7 +214,7 @@ fn keep(snaps: &mut BTreeMap<Id, Snap>, name: Id, snap: Option<Snap>) -> Result<
     Ok(())
 }
 
-// Notes why a file can't be read, if it can't.
+/// Notes why a file can't be read, if it can't.
 fn note(
     unread: &mut IndexMap<FileName, FileError>,
     name: FileName,
@@ -229,8 +229,8 @@ fn note(
     Ok(())
 }
 
-// Forgets why a file can't be read, and answers it. Where fewer than a quarter of the places are in use then, it gives
-// back memory. At least twice as many as are in use stay.
+/// Forgets why a file can't be read, and answers it. Where fewer than a quarter of the places are in use then, it gives
+/// back memory. At least twice as many as are in use stay.
 fn forget(unread: &mut IndexMap<FileName, FileError>, name: FileName) -> Option<FileError>
     ensures was { result ≡ get same_name unread.old name }
     ensures forgotten { (q : the_name.FileName) → get same_name unread.new q
@@ -244,7 +244,7 @@ fn forget(unread: &mut IndexMap<FileName, FileError>, name: FileName) -> Option<
     was
 }
 
-// The file of this name, if it can't be read.
+/// The file of this name, if it can't be read.
 fn unread_file(unread: &IndexMap<FileName, FileError>, name: FileName) -> Option<Unread>
     ensures { (r : Repository) → AreUnreadOf r unread.now → result ≡ unread_at r name }
 {
@@ -252,7 +252,7 @@ fn unread_file(unread: &IndexMap<FileName, FileError>, name: FileName) -> Option
     Some(Unread { name, refusal })
 }
 
-// The least of the names.
+/// The least of the names.
 fn least_name(unread: &IndexMap<FileName, FileError>) -> Option<FileName>
     ensures among { IfSome result (Contains (keys unread.now)) }
     ensures least { IfSome result (λ name. All (λ q. is_lt (name_cmp q name) ≡ false) (keys unread.now)) }
@@ -261,7 +261,7 @@ fn least_name(unread: &IndexMap<FileName, FileError>) -> Option<FileName>
     unread.keys().copied().min()
 }
 
-// The first of the files that can't be read, by name.
+/// The first of the files that can't be read, by name.
 fn first_of(unread: &IndexMap<FileName, FileError>) -> Option<Unread>
     ensures { (r : Repository) → AreUnreadOf r unread.now → result ≡ slice_get (unread_in r) 0 }
 {
@@ -269,7 +269,7 @@ fn first_of(unread: &IndexMap<FileName, FileError>) -> Option<Unread>
     unread_file(unread, name)
 }
 
-// The files that can't be read, by name.
+/// The files that can't be read, by name.
 pub(crate) fn unread_files(
     alloc: Global,
     unread: &IndexMap<FileName, FileError>,

@@ -31,7 +31,7 @@ impl<'a> Catalog<'a> {
     }
 }
 
-// The wrong blobs of these packs.
+/// The wrong blobs of these packs.
 fn hash_packs(
     alloc: Global,
     repo: &Repo,
@@ -49,7 +49,7 @@ fn hash_packs(
     Ok(wrong)
 }
 
-// The wrong blobs of a pack, each as often as its header has it.
+/// The wrong blobs of a pack, each as often as its header has it.
 fn hash_pack(
     alloc: Global,
     repo: &Repo,
@@ -85,7 +85,7 @@ fn hash_entries(
     Ok(blobs)
 }
 
-// Adds the blob of a place, if its bytes have another hash.
+/// Adds the blob of a place, if its bytes have another hash.
 fn hash_place(
     repo: &Repo,
     place: PackedBlob,
@@ -104,7 +104,7 @@ fn hash_place(
     Ok(())
 }
 
-// Tells each of a pack's blobs once.
+/// Tells each of a pack's blobs once.
 fn tell(
     alloc: Global,
     pack: Id,
@@ -121,7 +121,7 @@ fn tell(
     Ok(())
 }
 
-// Tells a blob of a pack that wasn't told.
+/// Tells a blob of a pack that wasn't told.
 fn tell_first(
     pack: Id,
     blob: BlobId,

@@ -32,7 +32,7 @@ abbrev pub in_either : List FileName → List Id → Facet → Bool
 in_either names packs (File name) = has_name names name
 in_either names packs (Mark pack) = has_pack packs pack
 
--- the same as some facet of either list being this one
+-- a facet is in either list just where some facet of the two equals it
 pub in_either_facets : (names : List FileName) (packs : List Id) (q : Facet) → in_either names packs q ≡ (list_any (facet_eq q) (map File names) || list_any (facet_eq q) (map Mark packs))
 in_either_facets names packs (File name) = sym (rw (no_packs packs) (or-false _ ∙ by_name names)) where
   no_packs : (ks : List Id) → list_any (facet_eq (File name)) (map Mark ks) ≡ false

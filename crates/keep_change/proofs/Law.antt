@@ -70,7 +70,7 @@ opposed_after c h ready = record {
 
 -- ---- what leaning on a change is
 
--- the same pairs of facets, looked at from the other side
+-- some facet of the first list is one of the second just where some facet of the second is one of the first
 any_swapped : (xs ys : List Facet) → list_any (λ x. list_any (facet_eq x) ys) xs ≡ list_any (λ y. list_any (facet_eq y) xs) ys
 any_swapped xs [] = none_pass xs
   where

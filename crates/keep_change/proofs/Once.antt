@@ -59,7 +59,7 @@ pub count_by-facets : (p : Facet → Bool) (c : Change) → count_by p (facets c
     + count_by p (map Mark c.marked) + count_by p (map Mark c.unmarked)
 count_by-facets p c = simp (map-append, map-map, sum_by-append) (omega arith)
 
--- the same by the names of the files and the packs of the marks
+-- the members of the eight lists, counted by the names of the files and the packs of the marks
 pub count_by-keys : (p : Facet → Bool) (c : Change) → count_by p (facets c) ≡
     count_by p (map File (file_names c.adds)) + count_by p (map File (file_names c.drops))
     + count_by p (map Mark (marked_packs c.sets)) + count_by p (map Mark (marked_packs c.clears))

@@ -31,7 +31,7 @@ added file = record { facet = File file.name; before = None; after = Some (Store
 abbrev pub set : PackMark → Written
 set m = record { facet = Mark m.pack; before = None; after = Some (Marked m.mark) }
 
--- the same the other way round
+-- what is written, the other way round: what it left has to be there, and what had to be there is left
 abbrev pub reversed : Written → Written
 reversed w = record { facet = w.facet; before = w.after; after = w.before }
 

@@ -12,7 +12,7 @@ use std::marker::Model;
 pub struct StoredFile {
     name: FileName,
     bytes: Bytes,
-    // Whether the name is known to be that of the bytes.
+    /// Whether the name is known to be that of the bytes.
     is_own: bool,
 }
 

@@ -47,7 +47,7 @@ serves-run takes answers kit left_kit asked options book left_book known rest ol
   follows = follows-where takes answers options (on_shelf left_book) _ (hooks_of left_book) _ middle new status ended left.ledger left.armed follows;
 }
 
--- the same over a shelf of which that book was opened
+-- a script that was answered so over a shelf of which that book was opened, and what followed
 pub serves-opened : {S I F g J E h : _} (takes : LeftData → Type 0) (answers : Result Tally NoCrew → Type 0) (shelf : Shelved) (kit : KitData) (options : OptionsData) (book : Book S I F g J E h) (known rest old new : Option (List ℕ)) (ended : Ending)
     → IsOpened shelf (on_shelf book) → hooks_of book ≡ record { vetoes = []; watches = [] }
     → Serves takes answers (Ends (begun_over (settings_of options) kit book) known rest) options old new ended

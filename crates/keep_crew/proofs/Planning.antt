@@ -14,7 +14,7 @@ pub is_planned : (due : Result Change PlanError) (shown : Shown) (answer : Resul
 is_planned due shown (Ok planned) change seen = (change, seen)
 is_planned due shown (Err error) change seen = change
 
--- the same on what is shown, where that is what the view was
+-- what a planner answers on a view is what an operator plans on what is shown, where that equals the view
 pub planned_on : (wanted : Shown → Result Change PlanError) (view shown : Shown) → view ≡ shown → (answer : Result Planned PlanError)
     → Answers Memory (λ (p : Planned). p.change) (wanted view) answer → IfOk answer (λ (p : Planned). p.seen ≡ view.length)
     → IsPlanned (wanted shown) shown answer

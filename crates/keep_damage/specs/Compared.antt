@@ -18,7 +18,7 @@ difference_between j q (Some there) None = Some (Untold q)
 difference_between j q None (Some asked) = Some (Missing q)
 difference_between j q None None = None
 
--- the same of two contents, where the key is a file's
+-- what is wrong under the key between what stands there and what is asked, where the key is a file's
 abbrev pub difference_at : Journal → Content → Content → Key → Option Finding
 difference_at j there asked q =
     if is_files q then difference_between j q (map.get there q) (map.get asked q) else None

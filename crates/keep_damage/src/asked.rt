@@ -26,7 +26,7 @@ pub(crate) fn asked(alloc: Global, history: &History, there: &Stock) -> Result<S
     wanted(alloc, history, &live)
 }
 
-// Does this of all kept changes in turn, be they met or not.
+/// Does this of all kept changes in turn, be they met or not.
 fn pass_all(alloc: Global, pass: Pass, history: &History, repo: &mut Repo) -> Result<(), AllocError>
     ensures { OnOk result (repo.new.files ≡ passed pass (kept history.now.journal) repo.old.files) }
 {
@@ -51,7 +51,7 @@ fn take_step(alloc: Global, pass: Pass, change: &Change, repo: &mut Repo) -> Res
     }
 }
 
-// Puts something under each name under which nothing is.
+/// Puts something under each name under which nothing is.
 fn fill(alloc: Global, names: &[FileName], repo: &mut Repo) -> Result<(), AllocError>
     ensures { OnOk result (repo.new.files ≡ filled names.now repo.old.files) }
 {

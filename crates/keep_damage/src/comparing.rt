@@ -30,7 +30,7 @@ pub(crate) fn compare(
     Ok(found)
 }
 
-// The keys of the one, and then those of the other that it hasn't.
+/// The keys of the one, and then those of the other that it hasn't.
 fn keys_of_both(there: &Stock, asked: &Stock) -> Result<Vec<Key>, AllocError>
     ensures { IfOk result (λ keys. keys.items ≡ keys_of_both there.now asked.now) }
 {
@@ -56,7 +56,7 @@ pub(crate) fn note(found: &mut Vec<Finding>, finding: Option<Finding>) -> Result
     Ok(())
 }
 
-// What is wrong with what stands under the key, if it is a file's.
+/// What is wrong with what stands under the key, if it is a file's.
 fn difference_at(history: &History, there: &Stock, asked: &Stock, key: Key) -> Option<Finding>
     ensures { result ≡ difference_at history.now.journal there.now asked.now key }
 {

@@ -45,7 +45,7 @@ pub fn damage_in(alloc: Global, stock: &Stock) -> Result<Vec<Finding>, AllocErro
     Ok(found)
 }
 
-// What is wrong with entries, where something is, and else with files.
+/// What is wrong with entries, where something is, and else with files.
 fn findings(alloc: Global, stock: &Stock) -> Result<Vec<Finding>, AllocError>
     ensures { IfOk result (λ found. IsDamage (map.get stock.now) found.items) }
 {
@@ -58,7 +58,7 @@ fn findings(alloc: Global, stock: &Stock) -> Result<Vec<Finding>, AllocError>
     }
 }
 
-// What is wrong with files, or else with the changes.
+/// What is wrong with files, or else with the changes.
 fn damage_of_files(
     alloc: Global,
     stock: &Stock,
@@ -74,7 +74,7 @@ fn damage_of_files(
     Ok(found)
 }
 
-// Where the files, with the last event's moves made, aren't as the history asks.
+/// Where the files, with the last event's moves made, aren't as the history asks.
 fn differences(alloc: Global, stock: &Stock, history: &History) -> Result<Vec<Finding>, AllocError>
     requires formed { AreWellFormed history.now.journal }
     ensures { IfOk result (λ found. AreDifferences (map.get stock.now) history.now.journal found.items) }
@@ -87,7 +87,7 @@ fn differences(alloc: Global, stock: &Stock, history: &History) -> Result<Vec<Fi
 
 ghost use Rattle.keep_damage.specs.Damage.{IsRest};
 
-// Nothing where it can be read, and else that the changes can't be made.
+/// Nothing where it can be read, and else that the changes can't be made.
 fn what_is_left(alloc: Global, stock: &Stock) -> Result<Vec<Finding>, AllocError>
     ensures { IfOk result (λ found. IsRest (map.get stock.now) found.items) }
 {

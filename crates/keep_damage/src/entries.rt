@@ -22,7 +22,7 @@ pub(crate) fn bad_entries(
     Ok(found)
 }
 
-// That it is no entry, or that it is this one, which can't follow those before it.
+/// That it is no entry, or that it is this one, which can't follow those before it.
 fn entry_finding(first: u64, sign: Sign) -> Option<Finding>
     ensures { result ≡ entry_finding first sign }
 {

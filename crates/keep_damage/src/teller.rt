@@ -22,7 +22,7 @@ pub(crate) fn teller_of(history: &History, key: Key) -> u64
     teller
 }
 
-// Whether the event made a change for the first time that has the bytes of the file.
+/// Whether the event made a change for the first time that has the bytes of the file.
 fn tells_file(history: &History, key: Key, notice: &Notice) -> bool
     ensures { result ≡ tells_file history.now.journal key notice.now }
 {
@@ -39,7 +39,7 @@ fn is_commit(what: What) -> bool
     matches!(what, What::Commit)
 }
 
-// Whether change n is kept and adds the file.
+/// Whether change n is kept and adds the file.
 fn adds_kept(history: &History, n: u64, name: FileName) -> bool
     ensures { result ≡ adds_kept history.now.journal n name }
 {

@@ -27,7 +27,7 @@ fn push_finding(alloc: Global, finding: Finding, text: &mut String) -> Result<()
     Ok(())
 }
 
-// What the finding says.
+/// What the finding says.
 fn words_of(alloc: Global, finding: Finding) -> Result<String, AllocError>
     ensures { IfOk result (λ words. string_bytes words ≡ finding_text finding) }
 {
@@ -53,7 +53,7 @@ fn words_of(alloc: Global, finding: Finding) -> Result<String, AllocError>
     }
 }
 
-// What the entry did to the bytes of a file there.
+/// What the entry did to the bytes of a file there.
 fn deed_of(key: Key) -> &'static str
     ensures { result.now ≡ deed_text key }
 {

@@ -27,7 +27,7 @@ IsAsked Holds (TakenBack came) = ⊥
 IsAsked Holds (Changed came) = ⊥
 IsAsked Holds (Pruned came) = ⊥
 
--- the same of changes that were to be taken back
+-- it is what came of changes that were to be taken back, and this holds of it
 abbrev pub IsTakenBack : (the_taken.TakenBack → Type 0) → the_came.Came → Type 0
 IsTakenBack Holds (Asked came) = ⊥
 IsTakenBack Holds (TakenBack came) = Holds came

@@ -59,7 +59,7 @@ pub record Going (opening : LedgerState) (on : List Event) (front : List ℕ) (n
   pub accepted : AreUndone (state_of opening on) front
   pub events : now ≡ on ++ map undoing front
 
--- the same of a list and a reason that are these
+-- a cascade that goes down so does it with a list and a reason that equal its own
 pub as_told : (opening : LedgerState) (n : ℕ) (on : List Event) (numbers : List ℕ) (stopped : Option DeskError) (told : List ℕ)
     (said : Option DeskError) (seen : List Event) → told ≡ numbers → said ≡ stopped → GoesDown opening n on numbers stopped seen
     → GoesDown opening n on told said seen

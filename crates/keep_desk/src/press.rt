@@ -97,8 +97,8 @@ impl<B: Naming, R: Wait + Drop> Press<B, R> {
     }
 }
 
-// The writer once the steps that wait are published, or as it was. A function of its own says so in few words, where what
-// follows of a closure has each page with all its parts.
+/// The writer once the steps that wait are published, or as it was. A function of its own says so in few words, where
+/// what follows of a closure has each page with all its parts.
 fn published<B: Naming, R: Wait>(
     writer: Writer<Page, Step, (), Published<B>>,
     rt: &R,

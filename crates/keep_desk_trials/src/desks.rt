@@ -43,7 +43,7 @@ pub enum Scene {
     BothTakenBack,
     /// Two operators in threads add `a` and `b`, and neither begins before both have come.
     BothAtOnce,
-    /// The same, where the first doesn't begin before the second is done.
+    /// Two operators in threads add `a` and `b`, and the first doesn't begin before the second is done.
     LastFirst,
     /// Eight operators in threads find nothing to do, and none begins before all have come.
     AllAtOnce,

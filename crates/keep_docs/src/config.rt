@@ -60,7 +60,7 @@ pub fn read_config(alloc: Global, bytes: &[u8]) -> Result<Config, ConfigError>
     config_in(alloc, &value)
 }
 
-// The config that a document holds.
+/// The config that a document holds.
 fn config_in(alloc: Global, value: &Value) -> Result<Config, ConfigError>
     ensures { Answers (Doc Memory) config_view (ok_or (spec.config_in (view value.now)) BadConfig) result }
 {

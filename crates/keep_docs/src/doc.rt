@@ -82,7 +82,7 @@ pub fn read_doc(alloc: Global, bytes: &[u8]) -> Result<Value, DocError>
     Ok(value)
 }
 
-// Whether a document may begin so. Most bytes that are none are told by their first one, without a reader made ready.
+/// Whether a document may begin so. Most bytes that are none are told by their first one, without a reader made ready.
 fn may_begin(bytes: &[u8]) -> bool
     ensures { result ≡ false → read bytes.now ≡ None }
 {
@@ -92,7 +92,7 @@ fn may_begin(bytes: &[u8]) -> bool
     }
 }
 
-// Whether a JSON text may begin with the byte (RFC 8259, sections 2 and 3).
+/// Whether a JSON text may begin with the byte (RFC 8259, sections 2 and 3).
 fn begins_text(byte: u8) -> bool
     ensures { result ≡ begins_text byte }
 {
@@ -114,7 +114,7 @@ pub fn write_doc(alloc: Global, value: &Value) -> Result<Vec<u8>, AllocError>
     value.to_vec(alloc)
 }
 
-// Whether the number is neither a u64 nor an i64.
+/// Whether the number is neither a u64 nor an i64.
 fn is_float(number: Number) -> bool
     ensures value { result ≡ find.is_float (number_view number) }
     ensures whole { result ≡ false → IsWhole (number_view number) }
@@ -125,7 +125,7 @@ fn is_float(number: Number) -> bool
     }
 }
 
-// Whether a number of the value is neither a u64 nor an i64.
+/// Whether a number of the value is neither a u64 nor an i64.
 #[cycle(has_float)]
 fn has_float(value: &Value) -> bool
     ensures value { result ≡ written.has_float (view value.now) }

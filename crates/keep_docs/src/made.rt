@@ -27,7 +27,7 @@ pub fn others(
     }
 }
 
-// Copies of the members whose keys aren't named.
+/// Copies of the members whose keys aren't named.
 fn not_named(
     alloc: Global,
     members: &Map<String, Value>,
@@ -47,14 +47,14 @@ fn not_named(
     Ok(found)
 }
 
-// Whether the key is among those named.
+/// Whether the key is among those named.
 fn is_named(named: &[&str], key: &str) -> bool
     ensures { result ≡ list_any (λ name. bytes_eq name key.now) (map (λ name. name.now) named.now) }
 {
     named.contains(&key)
 }
 
-/// The same members, once more.
+/// A copy of the members.
 pub fn members_copy(members: &Map<String, Value>) -> Result<Map<String, Value>, AllocError>
     ensures { IfOk result (λ copy. members_view copy.entries ≡ members_view members.now.entries) }
 {

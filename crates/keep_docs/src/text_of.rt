@@ -20,14 +20,14 @@ pub fn is_text_of(value: &Value, bytes: &[u8]) -> bool
     }
 }
 
-// What stands behind a piece of text.
+/// What stands behind a piece of text.
 fn behind_piece<'b>(piece: &[u8], bytes: &'b [u8]) -> Option<&'b [u8]>
     ensures { option_map (λ rest. rest.now) result ≡ behind piece.now bytes.now }
 {
     bytes.strip_prefix(piece)
 }
 
-// What stands behind a value.
+/// What stands behind a value.
 #[cycle(behind_value)]
 fn behind_value<'b>(value: &Value, bytes: &'b [u8]) -> Option<&'b [u8]>
     ensures { option_map (λ rest. rest.now) result ≡ behind (compact_text (view value.now)) bytes.now }
@@ -43,7 +43,7 @@ fn behind_value<'b>(value: &Value, bytes: &'b [u8]) -> Option<&'b [u8]>
     }
 }
 
-// What stands behind the values of a list and its closing bracket.
+/// What stands behind the values of a list and its closing bracket.
 #[cycle(behind_value)]
 fn behind_items<'b>(items: &Vec<Value>, bytes: &'b [u8]) -> Option<&'b [u8]>
     ensures { option_map (λ rest. rest.now) result
@@ -59,7 +59,7 @@ fn behind_items<'b>(items: &Vec<Value>, bytes: &'b [u8]) -> Option<&'b [u8]>
     behind_piece(b"]", rest)
 }
 
-// What stands behind the members of an object and its closing bracket.
+/// What stands behind the members of an object and its closing bracket.
 #[cycle(behind_value)]
 fn behind_members<'b>(members: &Map<String, Value>, bytes: &'b [u8]) -> Option<&'b [u8]>
     ensures { option_map (λ rest. rest.now) result
@@ -75,14 +75,14 @@ fn behind_members<'b>(members: &Map<String, Value>, bytes: &'b [u8]) -> Option<&
     behind_piece(b"}", rest)
 }
 
-// What stands behind the comma before what isn't the first.
+/// What stands behind the comma before what isn't the first.
 fn behind_comma<'b>(later: bool, bytes: &'b [u8]) -> Option<&'b [u8]>
     ensures { option_map (λ rest. rest.now) result ≡ behind (comma_if later) bytes.now }
 {
     behind_piece(if later { b"," } else { b"" }, bytes)
 }
 
-// What stands behind a key of an object.
+/// What stands behind a key of an object.
 fn behind_key<'b>(later: bool, key: &str, bytes: &'b [u8]) -> Option<&'b [u8]>
     ensures { option_map (λ rest. rest.now) result ≡ behind (key_text later key.now) bytes.now }
 {
@@ -91,7 +91,7 @@ fn behind_key<'b>(later: bool, key: &str, bytes: &'b [u8]) -> Option<&'b [u8]>
     behind_piece(b":", rest)
 }
 
-// What stands behind a number. A float has no text here.
+/// What stands behind a number. A float has no text here.
 fn behind_number<'b>(number: Number, bytes: &'b [u8]) -> Option<&'b [u8]>
     ensures { option_map (λ rest. rest.now) result ≡ behind (number_text (number_view number)) bytes.now }
 {
@@ -105,7 +105,7 @@ fn behind_number<'b>(number: Number, bytes: &'b [u8]) -> Option<&'b [u8]>
     }
 }
 
-// What stands behind a text in quotes.
+/// What stands behind a text in quotes.
 fn behind_quoted<'b>(text: &str, bytes: &'b [u8]) -> Option<&'b [u8]>
     ensures { option_map (λ rest. rest.now) result ≡ behind (quoted text.now) bytes.now }
 {
@@ -114,7 +114,7 @@ fn behind_quoted<'b>(text: &str, bytes: &'b [u8]) -> Option<&'b [u8]>
     behind_piece(b"\"", rest)
 }
 
-// What stands behind a text as it is written between quotes.
+/// What stands behind a text as it is written between quotes.
 fn behind_escaped<'b>(text: &[u8], bytes: &'b [u8]) -> Option<&'b [u8]>
     ensures { option_map (λ rest. rest.now) result ≡ behind (escape text.now) bytes.now }
 {
@@ -128,7 +128,7 @@ fn behind_escaped<'b>(text: &[u8], bytes: &'b [u8]) -> Option<&'b [u8]>
     Some(rest)
 }
 
-// Whether a text is written as it is. Each byte is looked at, since that is faster than to stop at one.
+/// Whether a text is written as it is. Each byte is looked at, since that is faster than to stop at one.
 fn is_plain(text: &[u8]) -> bool
     ensures { IsTrue result → escape text.now ≡ text.now }
 {
@@ -145,7 +145,7 @@ fn is_plain_byte(byte: u8) -> bool
     byte >= 0x20 && byte != b'"' && byte != b'\\'
 }
 
-// What stands behind a byte as it is written between quotes.
+/// What stands behind a byte as it is written between quotes.
 fn behind_byte<'b>(byte: u8, bytes: &'b [u8]) -> Option<&'b [u8]>
     ensures { option_map (λ rest. rest.now) result ≡ behind (escape_byte byte) bytes.now }
 {
@@ -167,7 +167,7 @@ fn behind_byte<'b>(byte: u8, bytes: &'b [u8]) -> Option<&'b [u8]>
     behind_piece(&[byte], bytes)
 }
 
-// The letter that stands for a byte behind a backslash, 0 where there is none.
+/// The letter that stands for a byte behind a backslash, 0 where there is none.
 fn letter_for(byte: u8) -> u8
     ensures { result ≡ escape_letter byte }
 {
@@ -182,7 +182,7 @@ fn letter_for(byte: u8) -> u8
     }
 }
 
-// The digit of a number below 16.
+/// The digit of a number below 16.
 fn hex_digit(digit: u8) -> u8
     requires { digit < 16 }
     ensures { result ≡ digit_char digit }

@@ -43,7 +43,7 @@ list_more write old new rest {xs} {ys} same e =
     sym (append_assoc new (codes "]") rest) ∙ ap (λ s. s ++ rest) e ∙ append_assoc old (list_text (map write xs)) rest
     ∙ ap (λ zs. old ++ (list_text (map write zs) ++ rest)) same
 
--- the same piece in other words
+-- what is appended may be said in other words
 pub same_piece : (old : List ℕ) {new one other : List ℕ} → one ≡ other → new ≡ old ++ one → new ≡ old ++ other
 same_piece old same e = e ∙ ap (λ s. old ++ s) same
 

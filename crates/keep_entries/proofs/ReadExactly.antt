@@ -136,7 +136,7 @@ record HasHead (form : Form) (d : Data) (word : List ℕ) (n : ℕ) : Type 0 whe
 abbrev IsEvent : Form → Data → Event → Type 0
 IsEvent form d event = (d ≡ event_data form event) × Fits event × (event_told form event ≡ event)
 
--- the same, of what an event of this number did
+-- the value is of an event of this number that did this, which fits and of which the form tells all
 abbrev IsDeed : Form → Data → ℕ → EventKind → Type 0
 IsDeed form d n kind = (d ≡ kind_data form n kind) × FitsKind kind × (kind_told form kind ≡ kind)
 

@@ -89,7 +89,7 @@ stored_in d = do
   bytes ← field (codes "bytes") as_bytes d
   Some (record { name = name; bytes = bytes })
 
--- the same, of an object that has nothing else
+-- a file with its bytes, of an object that has nothing else
 abbrev pub file_in : Data → Option NamedBytes
 file_in = sized 2 stored_in
 

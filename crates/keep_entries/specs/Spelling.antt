@@ -27,7 +27,7 @@ form_number Moments = 2
 abbrev pub name_text : FileName → List ℕ
 name_text name = kind_text name.kind ++ (codes "/" ++ id_text name.id)
 
--- the same, as a value
+-- a file's name, as a value
 abbrev pub name_data : FileName → Data
 name_data name = string (name_text name)
 

@@ -21,14 +21,14 @@ pub(crate) fn is_proper(kind: &EventKind) -> bool
     }
 }
 
-// Whether the change is well formed and within the limit of facets.
+/// Whether the change is well formed and within the limit of facets.
 fn can_be_committed(change: &Change) -> bool
     ensures { IsTrue result ↔ (IsWellFormed change.now × (length (facets change.now) ≤ facet_limit)) }
 {
     change.is_within_limit() && change.well_formed()
 }
 
-// Whether each mark's pack is above the one before.
+/// Whether each mark's pack is above the one before.
 fn are_in_order(marks: &[PackMark]) -> bool
     ensures { IsTrue result ↔ IsStrictlySortedBy id_cmp (marked_packs marks.now) }
 {

@@ -36,7 +36,7 @@ pub fn read_entry(alloc: Global, k: u64, bytes: &[u8]) -> Result<Entry, EntryErr
     }
 }
 
-// The event whose text the bytes are.
+/// The event whose text the bytes are.
 fn event_of(alloc: Global, k: u64, bytes: &[u8]) -> Result<Event, Misread>
     ensures entry { IfOk result (λ event. IsEntry (record { at = k; event = event })) }
     ensures spelled { IfOk result (λ event. Spells bytes.now event) }

@@ -27,7 +27,7 @@ pub(crate) fn read_in(alloc: Global, bytes: &[u8]) -> Result<Event, Misread>
     told_in(alloc, &value)
 }
 
-// The value whose text without spaces the bytes are.
+/// The value whose text without spaces the bytes are.
 fn compact_doc(alloc: Global, bytes: &[u8]) -> Result<Value, Misread>
     ensures { Answers Memory view (ok_or (spec.compact_doc bytes.now) OtherShape) result }
 {
@@ -38,7 +38,7 @@ fn compact_doc(alloc: Global, bytes: &[u8]) -> Result<Value, Misread>
     Ok(value)
 }
 
-// The event that a document says, in the form that it says.
+/// The event that a document says, in the form that it says.
 fn told_in(alloc: Global, value: &Value) -> Result<Event, Misread>
     ensures { Answers Memory (λ event. event)
         (ok_or (option_map (λ told. told.1) (spec.told_in (view value.now))) OtherShape) result }
@@ -47,7 +47,7 @@ fn told_in(alloc: Global, value: &Value) -> Result<Event, Misread>
     event_in(alloc, form, value)
 }
 
-// The form that a document says. It takes no memory.
+/// The form that a document says. It takes no memory.
 fn form_in(value: &Value) -> Result<Form, Misread>
     ensures { result ≡ ok_or (spec.form_in (view value.now)) OtherShape }
 {
@@ -55,7 +55,7 @@ fn form_in(value: &Value) -> Result<Form, Misread>
     form_of(number).ok_or(Misread::OtherShape)
 }
 
-// The event that an entry of the form says.
+/// The event that an entry of the form says.
 fn event_in(alloc: Global, form: Form, value: &Value) -> Result<Event, Misread>
     ensures { Answers Memory (λ event. event) (ok_or (spec.event_in form (view value.now)) OtherShape) result }
 {
@@ -64,7 +64,7 @@ fn event_in(alloc: Global, form: Form, value: &Value) -> Result<Event, Misread>
     Ok(Event { number, kind })
 }
 
-// What an event of the form did.
+/// What an event of the form did.
 fn kind_in(alloc: Global, form: Form, value: &Value) -> Result<EventKind, Misread>
     ensures { Answers Memory (λ kind. kind) (ok_or (spec.deed_in form (view value.now)) OtherShape) result }
 {
@@ -82,7 +82,7 @@ fn kind_in(alloc: Global, form: Form, value: &Value) -> Result<EventKind, Misrea
     }
 }
 
-// How many members an entry has that says the word.
+/// How many members an entry has that says the word.
 fn members_of(word: &str) -> Option<usize>
     ensures { result ≡ spec.members_of word.now }
 {
@@ -112,7 +112,7 @@ fn empty_in(alloc: Global, form: Form, value: &Value) -> Result<EventKind, Misre
     Ok(EventKind::Empty(marks))
 }
 
-// The change that a commit of the form says.
+/// The change that a commit of the form says.
 fn change_in(alloc: Global, form: Form, value: &Value) -> Result<Change, Misread>
     ensures { Answers Memory (λ change. change)
         (ok_or (spec.change_in form (view value.now)) OtherShape) result }

@@ -62,7 +62,7 @@ pub(crate) fn put_last(out: &mut Vec<u8>, change: &Change) -> Result<(), AllocEr
     put(out, b"]}")
 }
 
-// What stands between the marks that a change sets and the packs that it unmarks.
+/// What stands between the marks that a change sets and the packs that it unmarks.
 fn strictness(is_strict: bool) -> &'static [u8]
     ensures { result.now
         ≡ codes "],\"strict\":" ++ (token_text (token.boolean is_strict) ++ codes ",\"unmarked\":[") }

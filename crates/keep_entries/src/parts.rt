@@ -25,7 +25,7 @@ pub(crate) fn has_members(value: &Value, count: usize) -> bool
     }
 }
 
-// The kind that a word names.
+/// The kind that a word names.
 fn kind_named(word: &str) -> Option<Kind>
     ensures { result ≡ spec.kind_named word.now }
 {
@@ -37,14 +37,14 @@ fn kind_named(word: &str) -> Option<Kind>
     }
 }
 
-// The id whose digits these are.
+/// The id whose digits these are.
 fn id_of_text(text: &str) -> Option<Id>
     ensures { result ≡ fields.id_of_text text.now }
 {
     parse_id(text).ok()
 }
 
-// The name of a file that a text says.
+/// The name of a file that a text says.
 fn name_of_text(text: &str) -> Option<FileName>
     ensures { result ≡ spec.name_of_text text.now }
 {
@@ -61,14 +61,14 @@ pub(crate) fn name_in(value: &Value) -> Option<FileName>
     name_of_text(value.as_str()?)
 }
 
-// The bytes whose hex a text is.
+/// The bytes whose hex a text is.
 fn bytes_of_text(alloc: Global, text: &str) -> Result<Option<Vec<u8>>, AllocError>
     ensures { IfOk result (λ found. option_map (λ bytes. bytes.items) found ≡ spec.bytes_of_text text.now) }
 {
     decode_hex(alloc, text)
 }
 
-// The bytes that a value says.
+/// The bytes that a value says.
 fn bytes_in(alloc: Global, value: &Value) -> Result<Vec<u8>, Misread>
     ensures { Answers Memory (λ bytes. bytes.items) (ok_or (spec.as_bytes (view value.now)) OtherShape) result }
 {
@@ -101,7 +101,7 @@ pub(crate) fn mark_in(form: Form, value: &Value) -> Option<PackMark>
     }
 }
 
-// The mark that a value says with its moment.
+/// The mark that a value says with its moment.
 fn moment_in(value: &Value) -> Option<PackMark>
     ensures { result ≡ spec.mark_in Moments (view value.now) }
 {

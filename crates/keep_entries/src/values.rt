@@ -91,7 +91,7 @@ pub(crate) fn put(out: &mut Vec<u8>, piece: &[u8]) -> Result<(), AllocError>
     out.extend_from_slice(piece)
 }
 
-// Writes the comma before what isn't the first.
+/// Writes the comma before what isn't the first.
 fn put_comma(out: &mut Vec<u8>, later: bool) -> Result<(), AllocError>
     ensures { OnOk result (out.new.items ≡ out.old.items ++ comma_if later) }
 {
@@ -101,7 +101,7 @@ fn put_comma(out: &mut Vec<u8>, later: bool) -> Result<(), AllocError>
     Ok(())
 }
 
-// Writes a file's name.
+/// Writes a file's name.
 fn put_name(out: &mut Vec<u8>, name: FileName) -> Result<(), AllocError>
     ensures text { OnOk result (out.new.items ≡ out.old.items ++ compact_text (name_data name)) }
     ensures fit { OnOk result (FitsName name) }
@@ -111,7 +111,7 @@ fn put_name(out: &mut Vec<u8>, name: FileName) -> Result<(), AllocError>
     put(out, b"\"")
 }
 
-// What stands before the digits of a name: the quote, the word for the kind, and the slash.
+/// What stands before the digits of a name: the quote, the word for the kind, and the slash.
 fn opening_of(kind: Kind) -> &'static [u8]
     ensures { result.now ≡ codes "\"" ++ (kind_text kind ++ codes "/") }
 {
@@ -122,7 +122,7 @@ fn opening_of(kind: Kind) -> &'static [u8]
     }
 }
 
-// Writes a file: its bytes in hex, and its name.
+/// Writes a file: its bytes in hex, and its name.
 fn put_file(alloc: Global, out: &mut Vec<u8>, file: &StoredFile) -> Result<(), AllocError>
     ensures text { OnOk result (out.new.items ≡ out.old.items ++ compact_text (file_data file.now)) }
     ensures fit { OnOk result (FitsFile file.now) }
@@ -135,7 +135,7 @@ fn put_file(alloc: Global, out: &mut Vec<u8>, file: &StoredFile) -> Result<(), A
     put(out, b"}")
 }
 
-// Writes a mark with its moment.
+/// Writes a mark with its moment.
 fn put_mark(out: &mut Vec<u8>, mark: PackMark) -> Result<(), AllocError>
     ensures text { OnOk result (out.new.items ≡ out.old.items ++ compact_text (mark_data Moments mark)) }
     ensures fit { OnOk result (FitsMark mark) }
@@ -148,7 +148,7 @@ fn put_mark(out: &mut Vec<u8>, mark: PackMark) -> Result<(), AllocError>
     put(out, b"}")
 }
 
-// Writes a pack's id.
+/// Writes a pack's id.
 fn put_pack(out: &mut Vec<u8>, pack: Id) -> Result<(), AllocError>
     ensures text { OnOk result (out.new.items ≡ out.old.items ++ compact_text (id_data pack)) }
     ensures fit { OnOk result (IsDigest pack) }
@@ -158,7 +158,7 @@ fn put_pack(out: &mut Vec<u8>, pack: Id) -> Result<(), AllocError>
     put(out, b"\"")
 }
 
-// Writes an id's digits, which stand between quotes as they are.
+/// Writes an id's digits, which stand between quotes as they are.
 fn put_digits(out: &mut Vec<u8>, id: Id) -> Result<(), AllocError>
     ensures { OnOk result (out.new.items ≡ out.old.items ++ escape (id_text id)) }
 {
@@ -167,7 +167,7 @@ fn put_digits(out: &mut Vec<u8>, id: Id) -> Result<(), AllocError>
     put(out, &digits)
 }
 
-// Writes bytes in hex, which stands between quotes as it is.
+/// Writes bytes in hex, which stands between quotes as it is.
 fn put_hex(alloc: Global, out: &mut Vec<u8>, bytes: &[u8]) -> Result<(), AllocError>
     ensures { OnOk result (out.new.items ≡ out.old.items ++ escape (encode_lower bytes.now)) }
 {

@@ -24,7 +24,7 @@ pub(crate) fn event_text(alloc: Global, event: &Event) -> Result<Vec<u8>, AllocE
     Ok(bytes)
 }
 
-// Writes an event.
+/// Writes an event.
 fn put_event(alloc: Global, out: &mut Vec<u8>, event: &Event) -> Result<(), AllocError>
     ensures text { OnOk result (out.new.items ≡ out.old.items ++ compact_text (event_data Moments event.now)) }
     ensures fits { OnOk result (Fits event.now) }
@@ -38,7 +38,7 @@ fn put_event(alloc: Global, out: &mut Vec<u8>, event: &Event) -> Result<(), Allo
     }
 }
 
-// Writes a commit.
+/// Writes a commit.
 fn put_commit(
     alloc: Global,
     out: &mut Vec<u8>,
@@ -55,7 +55,7 @@ fn put_commit(
     put_last(out, change)
 }
 
-// Writes an undo or a redo: the text up to its number, which says the one or the other, and the rest.
+/// Writes an undo or a redo: the text up to its number, which says the one or the other, and the rest.
 fn put_turn(out: &mut Vec<u8>, beginning: &[u8], number: u64) -> Result<(), AllocError>
     ensures text { OnOk result (out.new.items ≡ out.old.items ++ (beginning.now ++ (decimal number ++ codes "}"))) }
     ensures number { OnOk result (number < 2 ^ 64) }
@@ -65,7 +65,7 @@ fn put_turn(out: &mut Vec<u8>, beginning: &[u8], number: u64) -> Result<(), Allo
     put(out, b"}")
 }
 
-// Writes an emptying.
+/// Writes an emptying.
 fn put_empty(out: &mut Vec<u8>, number: u64, marks: &[PackMark]) -> Result<(), AllocError>
     ensures text { OnOk result (out.new.items ≡ out.old.items ++ compact_text (empty_data Moments number marks.now)) }
     ensures number { OnOk result (number < 2 ^ 64) }

@@ -21,7 +21,7 @@ pub(crate) fn answer(alloc: Global, line: &str) -> Result<String, No> {
     }
 }
 
-// The word that a text begins with, and what stands behind it.
+/// The word that a text begins with, and what stands behind it.
 fn cut<'a>(text: &'a str) -> (&'a str, &'a str) {
     match text.split_once(' ') {
         Some(parts) => parts,
@@ -29,7 +29,7 @@ fn cut<'a>(text: &'a str) -> (&'a str, &'a str) {
     }
 }
 
-// A case whose bytes are written in hex.
+/// A case whose bytes are written in hex.
 fn answer_digits(alloc: Global, text: &str) -> Result<String, No> {
     let (word, rest) = cut(text);
     let (number, digits) = cut(rest);
@@ -51,7 +51,7 @@ fn answer_bytes(alloc: Global, word: &str, number: &str, bytes: &[u8]) -> Result
     }
 }
 
-// What an entry says, and whether it is written so.
+/// What an entry says, and whether it is written so.
 fn told(alloc: Global, number: u64, bytes: &[u8]) -> Result<String, No> {
     let entry = read_entry(alloc, number, bytes)?;
     let mut told = tell(alloc, &entry)?;
@@ -68,14 +68,14 @@ fn is_same(alloc: Global, entry: &Entry, bytes: &[u8]) -> Result<bool, No> {
     Ok(text.as_slice() == bytes)
 }
 
-// How an entry that was read is written.
+/// How an entry that was read is written.
 fn written(alloc: Global, number: u64, bytes: &[u8]) -> Result<String, No> {
     let entry = read_entry(alloc, number, bytes)?;
     let text = write_entry(alloc, &entry)?;
     Ok(String::from_utf8_lossy(alloc, &text)?)
 }
 
-// The number that is written in decimal.
+/// The number that is written in decimal.
 fn count_in(digits: &[u8]) -> Option<u32> {
     str::from_utf8(digits).ok()?.parse::<u32>().ok()
 }

@@ -39,7 +39,7 @@ fn one_file(alloc: Global) -> Result<Vec<StoredFile>, No> {
     Ok(files)
 }
 
-// One pack fewer than there are to be facets.
+/// One pack fewer than there are to be facets.
 fn packs(alloc: Global, count: u32) -> Result<Vec<Id>, No> {
     let mut packs = Vec::new(alloc);
     for number in 1..count {

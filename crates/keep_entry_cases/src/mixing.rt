@@ -38,7 +38,7 @@ fn parted(texts: &[u8]) -> Option<(&str, &str)> {
     str::from_utf8(texts).ok()?.split_once(" :: ")
 }
 
-// Whether this is the text of an entry.
+/// Whether this is the text of an entry.
 fn is_entry(alloc: Global, number: u64, text: &[u8]) -> Result<bool, No> {
     match read_entry(alloc, number, text) {
         Ok(_) => Ok(true),

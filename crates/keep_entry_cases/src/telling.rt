@@ -44,7 +44,7 @@ fn tell_change(alloc: Global, change: &Change, told: &mut String) -> Result<(), 
     Ok(())
 }
 
-// Writes a list's word, unless the list is empty.
+/// Writes a list's word, unless the list is empty.
 fn tell_word(alloc: Global, word: &str, count: usize, told: &mut String) -> Result<(), No> {
     if count > 0 {
         let text = format!(in alloc; " {word}")?;

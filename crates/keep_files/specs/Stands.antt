@@ -19,7 +19,7 @@ abbrev pub is_file : Option Node → Bool
 is_file (Some (File bytes)) = true
 is_file _ = false
 
--- the same, but for this at the path
+-- what stands at each path, with this put at the one
 abbrev pub put_at : Stands → List ℕ → Option Node → Stands
 put_at stands path node = update bytes_eq stands path node
 

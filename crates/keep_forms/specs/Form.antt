@@ -25,7 +25,7 @@ text name = record (new_rule name) { long = Some name; value_names = 1 }
 abbrev pub name : Text → Rule
 name label = record (text label) { parser = Some NonEmptyString }
 
--- the same, several times for several
+-- `--NAME TEXT`, of a text that isn't empty, several times for several
 abbrev pub names : Text → Rule
 names label = record (name label) { action = Some Append }
 

@@ -23,13 +23,13 @@ pub(crate) enum Kind {
     Text(&'static str),
     /// `--NAME TEXT`, of a text that isn't empty.
     Name(&'static str),
-    /// The same, which has to be there.
+    /// `--NAME TEXT`, of a text that isn't empty, which has to be there.
     NeededName(&'static str),
     /// `-N TEXT` or `--NAME TEXT`, of a text that isn't empty.
     Lettered(char, &'static str),
     /// `--NAME TEXT`, of a text that isn't empty, several times for several.
     Names(&'static str),
-    /// The same, of which there has to be one.
+    /// `--NAME TEXT`, of a text that isn't empty, once or several times.
     NeededNames(&'static str),
     /// `--NAME NUMBER`, from the least to the most.
     Number(u64, u64),

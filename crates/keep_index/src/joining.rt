@@ -27,12 +27,12 @@ pub fn join(alloc: Global, indexes: &[Index]) -> Result<Index, AllocError>
     Ok(Index { packs })
 }
 
-// What is listed of packs.
+/// What is listed of packs.
 #[derive(Drop)]
 struct Listed {
-    // The ids of the packs, in order. One may stand twice.
+    /// The ids of the packs, in order. One may stand twice.
     ids: Vec<Id>,
-    // The blobs of each pack, in order. One may stand twice.
+    /// The blobs of each pack, in order. One may stand twice.
     blobs: BTreeMap<Id, Vec<Blob>>,
 }
 
@@ -42,7 +42,7 @@ impl Listed {
     ghost use Rattle.keep_index.specs.Joining.{merged_packs};
     ghost use Rattle.keep_index.specs.Listed.{Gathers};
 
-    // Nothing is listed yet.
+    /// Nothing is listed yet.
     fn new(alloc: Global) -> Listed
         ensures { Gathers [] result }
     {
@@ -52,7 +52,7 @@ impl Listed {
         }
     }
 
-    // Adds what an index lists.
+    /// Adds what an index lists.
     fn add_all(&mut self, alloc: Global, packs: &[IndexedPack]) -> Result<(), AllocError>
         ensures { OnOk result ((before : List PackData) → Gathers before self.old
             → Gathers (before ++ map pack_view packs.now) self.new) }
@@ -63,7 +63,7 @@ impl Listed {
         Ok(())
     }
 
-    // Adds what an index lists of a pack.
+    /// Adds what an index lists of a pack.
     fn add(&mut self, alloc: Global, pack: &IndexedPack) -> Result<(), AllocError>
         ensures { OnOk result ((before : List PackData) → Gathers before self.old
             → Gathers (before ++ pack_view pack.now ∷ []) self.new) }
@@ -72,7 +72,7 @@ impl Listed {
         add_blobs(alloc, &mut self.blobs, pack.id, &pack.blobs)
     }
 
-    // The packs that are listed, each once, with its blobs, each once.
+    /// The packs that are listed, each once, with its blobs, each once.
     fn merged(&self, alloc: Global) -> Result<Vec<IndexedPack>, AllocError>
         ensures { IfOk result (λ packs. (all : List PackData) → Gathers all self.now
             → map pack_view packs.items ≡ merged_packs all) }
@@ -86,7 +86,7 @@ impl Listed {
         Ok(packs)
     }
 
-    // The blobs of a pack, each once.
+    /// The blobs of a pack, each once.
     fn blobs_once(&self, alloc: Global, id: Id) -> Result<Vec<Blob>, AllocError>
         ensures { IfOk result (λ blobs. blobs.items
             ≡ spec.first_of_each same_entry (kept_blobs self.now.blobs id)) }
@@ -98,7 +98,7 @@ impl Listed {
     }
 }
 
-// Puts blobs behind those of their pack.
+/// Puts blobs behind those of their pack.
 fn add_blobs(
     alloc: Global,
     blobs: &mut BTreeMap<Id, Vec<Blob>>,
@@ -114,7 +114,7 @@ fn add_blobs(
     Ok(())
 }
 
-// The first of each that are equal, in order.
+/// The first of each that are equal, in order.
 fn first_of_each<T: Ord + Copy>(alloc: Global, items: &[T]) -> Result<Vec<T>, AllocError>
     ensures { IfOk result (λ firsts. firsts.items ≡ spec.first_of_each (eq_by_cmp T.cmp) items.now) }
 {

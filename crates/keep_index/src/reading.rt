@@ -23,7 +23,7 @@ pub fn read_index(alloc: Global, bytes: &[u8]) -> Result<Index, IndexError>
     index_in(alloc, &value)
 }
 
-// The index that a document holds.
+/// The index that a document holds.
 fn index_in(alloc: Global, value: &Value) -> Result<Index, IndexError>
     ensures { Answers (Doc Memory) index_view (ok_or (spec.index_in (view value.now)) BadIndex) result }
 {
@@ -35,7 +35,7 @@ fn index_in(alloc: Global, value: &Value) -> Result<Index, IndexError>
     Ok(Index { packs })
 }
 
-// The packs that a list holds.
+/// The packs that a list holds.
 fn packs_in(alloc: Global, values: &[Value]) -> Result<Vec<IndexedPack>, IndexError>
     ensures { Answers (Doc Memory) (λ packs. map pack_view packs.items)
         (ok_or (each spec.pack_in (map view values.now)) BadIndex) result }
@@ -47,7 +47,7 @@ fn packs_in(alloc: Global, values: &[Value]) -> Result<Vec<IndexedPack>, IndexEr
     Ok(packs)
 }
 
-// The pack that an object holds.
+/// The pack that an object holds.
 fn pack_in(alloc: Global, value: &Value) -> Result<IndexedPack, IndexError>
     ensures { Answers (Doc Memory) pack_view (ok_or (spec.pack_in (view value.now)) BadIndex) result }
 {
@@ -57,7 +57,7 @@ fn pack_in(alloc: Global, value: &Value) -> Result<IndexedPack, IndexError>
     Ok(IndexedPack { id, blobs })
 }
 
-// The blobs that a list holds.
+/// The blobs that a list holds.
 fn blobs_in(alloc: Global, values: &[Value]) -> Result<Vec<Blob>, IndexError>
     ensures { Answers (Doc Memory) (λ blobs. blobs.items)
         (ok_or (each spec.blob_in (map view values.now)) BadIndex) result }
@@ -70,7 +70,7 @@ fn blobs_in(alloc: Global, values: &[Value]) -> Result<Vec<Blob>, IndexError>
     Ok(blobs)
 }
 
-// The blob that an object holds.
+/// The blob that an object holds.
 fn blob_in(value: &Value) -> Option<Blob>
     ensures { result ≡ spec.blob_in (view value.now) }
 {
@@ -86,7 +86,7 @@ fn blob_in(value: &Value) -> Option<Blob>
     })
 }
 
-// The type of blobs that a word names.
+/// The type of blobs that a word names.
 fn blob_type_of(word: &str) -> Option<BlobType>
     ensures { result ≡ type_named word.now }
 {

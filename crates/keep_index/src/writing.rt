@@ -23,7 +23,7 @@ pub fn write_index(alloc: Global, index: &Index) -> Result<Vec<u8>, AllocError>
     write_doc(alloc, &value)
 }
 
-// An index as a value.
+/// An index as a value.
 fn index_value(alloc: Global, index: &Index) -> Result<Value, AllocError>
     ensures value { IfOk result (λ value. view value ≡ index_data (index_view index.now)) }
     ensures fits { IfOk result (λ _. Fits (index_view index.now)) }
@@ -32,7 +32,7 @@ fn index_value(alloc: Global, index: &Index) -> Result<Value, AllocError>
     json!(in alloc; {"packs": packs})
 }
 
-// Packs as a value.
+/// Packs as a value.
 fn packs_value(alloc: Global, packs: &[IndexedPack]) -> Result<Value, AllocError>
     ensures value { IfOk result (λ value. view value ≡ list_data (map pack_data (map pack_view packs.now))) }
     ensures fits { IfOk result (λ _. Fits (map pack_view packs.now)) }
@@ -44,7 +44,7 @@ fn packs_value(alloc: Global, packs: &[IndexedPack]) -> Result<Value, AllocError
     Ok(Value::Array(values))
 }
 
-// A pack as a value.
+/// A pack as a value.
 fn pack_value(alloc: Global, id: Id, blobs: &[Blob]) -> Result<Value, AllocError>
     ensures value { IfOk result (λ value. view value ≡ pack_data (record { id = id; blobs = blobs.now })) }
     ensures fits { IfOk result (λ _. FitsPack (record { id = id; blobs = blobs.now })) }
@@ -55,7 +55,7 @@ fn pack_value(alloc: Global, id: Id, blobs: &[Blob]) -> Result<Value, AllocError
     json!(in alloc; {"blobs": blobs, "id": id})
 }
 
-// Blobs as a value.
+/// Blobs as a value.
 fn blobs_value(alloc: Global, blobs: &[Blob]) -> Result<Value, AllocError>
     ensures value { IfOk result (λ value. view value ≡ list_data (map blob_data blobs.now)) }
     ensures fits { IfOk result (λ _. AllByRecursion FitsBlob blobs.now) }
@@ -68,7 +68,7 @@ fn blobs_value(alloc: Global, blobs: &[Blob]) -> Result<Value, AllocError>
     Ok(Value::Array(values))
 }
 
-// A blob as a value.
+/// A blob as a value.
 fn blob_value(alloc: Global, entry: Blob) -> Result<Value, AllocError>
     ensures { IfOk result (λ value. view value ≡ blob_data entry) }
 {
@@ -77,17 +77,17 @@ fn blob_value(alloc: Global, entry: Blob) -> Result<Value, AllocError>
     json!(in alloc; {"id": id, "length": entry.length, "offset": entry.offset, "type": word})
 }
 
-// What the type of an id says of it.
+/// What the type of an id says of it.
 fn id_fits(id: Id)
     ensures { IsDigest id }
 {}
 
-// What the types of an entry's fields say of them.
+/// What the types of an entry's fields say of them.
 fn blob_fits(entry: Blob)
     ensures { FitsBlob entry }
 {}
 
-// The word that names a type of blobs.
+/// The word that names a type of blobs.
 fn type_word(blob_type: BlobType) -> &'static str
     ensures { result.now ≡ spec.type_word blob_type }
 {

@@ -29,7 +29,7 @@ pub record KitData : Type 0 where
   pub vetoes : List Rule
   pub watches : List WatchData
 
--- the same without the questions that they are stored with
+-- the filters, vetoes and watches of a kit, without the questions that they are stored with
 abbrev pub kit_view : {I J K F G H f g h : _} → Kit I J K F G H f g h → KitData
 kit_view kit = record {
   filters = filters_of kit;

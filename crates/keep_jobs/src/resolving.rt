@@ -67,7 +67,7 @@ fn rewrite_some(kit: &Kit, rewrite: RewriteLine) -> Result<Job<&Filter>, LineErr
     Ok(Job::Filtered { filter, task })
 }
 
-// The kit's filter of this name.
+/// The kit's filter of this name.
 fn filter_named<'a>(kit: &'a Kit, name: &str) -> Result<&'a Filter, LineError>
     ensures found { IfOk result (λ filter. rule_named name.now (filters_of kit.now) ≡ Some filter.now.rule) }
     ensures none { IfErr result (λ error. (error ≡ the_error.Bad NoFilter)
@@ -76,7 +76,7 @@ fn filter_named<'a>(kit: &'a Kit, name: &str) -> Result<&'a Filter, LineError>
     kit.filter(name).ok_or(LineError::Bad(Mistake::NoFilter))
 }
 
-// Who backs up, and when.
+/// Who backs up, and when.
 fn facts_of(alloc: Global, host: String, time: String) -> Result<BackupFacts, AllocError>
     ensures { IfOk result (λ facts. facts_view facts ≡ spec.facts_of (string_bytes host) (string_bytes time)) }
 {

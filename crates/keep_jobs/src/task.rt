@@ -37,7 +37,7 @@ pub(crate) fn plan_task(
     }
 }
 
-// The rewrite by the patterns that these texts spell.
+/// The rewrite by the patterns that these texts spell.
 fn rewrite(
     alloc: Global,
     view: &View,

@@ -171,7 +171,7 @@ chosen_around p j n c h is_c =
     ∙ ap (λ xs. xs ++ chosen (λ m. p m && nat_lt n m) j) (down ∙ ap (λ xs. xs ++ chosen (λ m. (p m && nat_le m n) && nat_lt (n - 1) m) j) front ∙ ap (λ xs. chosen (λ m. p m && nat_lt m n) j ++ xs) (middle ∙ only))
     ∙ append_assoc (chosen (λ m. p m && nat_lt m n) j) (cond (p n) (record { number = n; change = c } ∷ []) []) (chosen (λ m. p m && nat_lt n m) j)
 
--- the same by another test, which agrees with it below n and above n
+-- the changes around change n, by another test that agrees with the first one below n and above n
 pub chosen_around_as : (p q : ℕ → Bool) (passes : Bool) (j : Journal) (n : ℕ) (c : Change) → IsNumbered j → change_of j n ≡ Some c → p n ≡ passes
     → ((m : ℕ) → (p m && nat_lt m n) ≡ (q m && nat_lt m n)) → ((m : ℕ) → (p m && nat_lt n m) ≡ (q m && nat_lt n m))
     → chosen p j ≡ chosen (λ m. q m && nat_lt m n) j

@@ -17,7 +17,7 @@ above j n = chosen (nat_lt n) j
 abbrev pub unfinal : Journal → List Numbered
 unfinal j = above j (final_number j)
 
--- the same without their numbers
+-- the changes that aren't final, without their numbers
 abbrev pub unfinal_changes : Journal → List Change
 unfinal_changes j = map (λ n. n.change) (unfinal j)
 
@@ -37,7 +37,7 @@ kept j = chosen (is_kept j) j
 abbrev pub others : Journal → ℕ → List Numbered
 others j n = chosen (λ m. is_kept j m && not (m == n)) j
 
--- the same with change n at its place
+-- the kept changes, with change n at its place
 abbrev pub kept_with : Journal → ℕ → List Numbered
 kept_with j n = chosen (λ m. is_kept j m || m == n) j
 

@@ -5,5 +5,5 @@ pub fn histories_cross_threads() {
     cross::<History>()
 }
 
-// What can be handed to another thread, and lent to several at once.
+/// What can be handed to another thread, and lent to several at once.
 fn cross<T: Send + Sync>() {}

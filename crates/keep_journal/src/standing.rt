@@ -76,7 +76,7 @@ pub(crate) fn last_after(before: u64, event: &Event) -> u64
     }
 }
 
-/// The same notices once more.
+/// A copy of the notices.
 pub(crate) fn copy_notices(alloc: Global, notices: &[Notice]) -> Result<Vec<Notice>, AllocError>
     ensures { IfOk result (λ copy. copy.items ≡ notices.now) }
 {
@@ -87,7 +87,7 @@ pub(crate) fn copy_notices(alloc: Global, notices: &[Notice]) -> Result<Vec<Noti
     Ok(copy)
 }
 
-/// The same lists of names once more.
+/// A copy of the lists of names.
 pub(crate) fn copy_names(
     alloc: Global,
     lists: &[Listed<FileName>],
@@ -101,7 +101,7 @@ pub(crate) fn copy_names(
     Ok(copy)
 }
 
-/// The same standings once more. The changes are shared.
+/// A copy of the standings. The changes are shared.
 pub(crate) fn copy_standings(
     alloc: Global,
     standings: &[Standing],

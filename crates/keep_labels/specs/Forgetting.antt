@@ -24,7 +24,7 @@ abbrev pub forgetting : PolicyData → List NamedBytes → Result Change PlanErr
 forgetting policy files =
     if has_no_rule policy || is_empty files then Err NothingToDo else Ok (swapping files [])
 
--- the same for those of these snapshots that the policy doesn't keep
+-- those of these snapshots are dropped that the policy doesn't keep, if it has a rule, and there are any
 abbrev pub forgetting_of : Repository → PolicyData → List FactsData → Result Change PlanError
 forgetting_of r policy taken = forgetting policy (snapshot_files r (dropped_names policy taken))
 

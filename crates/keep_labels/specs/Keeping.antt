@@ -40,7 +40,7 @@ is_counted Weeks most all s = is_first_of group_cmp (turn_cmp Weeks) age_cmp mos
 is_counted Months most all s = is_first_of group_cmp (turn_cmp Months) age_cmp most all s
 is_counted Years most all s = is_first_of group_cmp (turn_cmp Years) age_cmp most all s
 
--- the same, if the policy counts these
+-- whether one of so many is kept, if the policy counts these
 abbrev pub by_count : Counted → Option ℕ → List FactsData → FactsData → Bool
 by_count counted None all s = false
 by_count counted (Some most) all s = is_counted counted most all s

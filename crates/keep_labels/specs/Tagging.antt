@@ -29,7 +29,7 @@ changed_by edit all = filter (λ s. not (are_same s.tags (edited edit s.tags))) 
 unfoldable pub tagged_file : SnapData → Id → Tags → NamedBytes
 tagged_file snap name tags = file_of Snapshot (compact_text (snap_data (retagged snap name tags)))
 
--- the same with the tags that the edit makes of its own, if the repository has the snapshot
+-- the file of the snapshot with the tags that the edit makes of its own, if the repository has it
 abbrev pub retagged_file : Repository → EditData → FactsData → Option NamedBytes
 retagged_file r edit s = option_map (λ snap. tagged_file snap s.name (edited edit s.tags)) (snap_in r s.name)
 

@@ -51,7 +51,7 @@ pub fn are_changed(before: &[String], after: &[String]) -> bool
     before != after
 }
 
-// The tags with those that aren't there yet behind them.
+/// The tags with those that aren't there yet behind them.
 fn added(tags: Vec<String>, add: &[String]) -> Result<Vec<String>, AllocError>
     ensures { IfOk result (λ made. map string_bytes made.items
         ≡ with_added (map string_bytes tags.items) (map string_bytes add.now)) }
@@ -66,7 +66,7 @@ fn added(tags: Vec<String>, add: &[String]) -> Result<Vec<String>, AllocError>
     Ok(tags)
 }
 
-// The tags that aren't removed.
+/// The tags that aren't removed.
 fn removed(alloc: Global, tags: &[String], remove: &[String]) -> Result<Vec<String>, AllocError>
     ensures { IfOk result (λ made. map string_bytes made.items
         ≡ with_removed (map string_bytes tags.now) (map string_bytes remove.now)) }

@@ -40,7 +40,7 @@ pub fn plan_forget(
     plan_of(alloc, view, policy, &taken)
 }
 
-// The same where these snapshots are taken.
+/// The change that drops those of these snapshots which the policy doesn't keep.
 fn plan_of(
     alloc: Global,
     view: &View,

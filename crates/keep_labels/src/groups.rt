@@ -32,7 +32,7 @@ pub(crate) fn rows_of(alloc: Global, taken: &[SnapFacts]) -> Result<Rows<'_>, Al
     Ok(rows)
 }
 
-// The snapshots by group. Only here are hosts and paths compared.
+/// The snapshots by group. Only here are hosts and paths compared.
 fn by_group<'a>(alloc: Global, taken: &'a [SnapFacts]) -> Result<Vec<&'a SnapFacts>, AllocError>
     ensures sorted { IfOk result (λ sorted. IsSortedByKey seen_view group_cmp sorted.items) }
     ensures same { IfOk result (λ sorted. IsPermutation (map facts_view taken.entry.now) (map seen_view sorted.items)) }
@@ -52,7 +52,7 @@ fn references<'a>(alloc: Global, taken: &'a [SnapFacts]) -> Result<Vec<&'a SnapF
     Ok(all)
 }
 
-// Each with the number of its group, from 1 on.
+/// Each with the number of its group, from 1 on.
 fn numbered<'a>(alloc: Global, sorted: &[&'a SnapFacts]) -> Result<Rows<'a>, AllocError>
     requires { IsSortedByKey seen_view group_cmp sorted.now }
     ensures { IfOk result (λ rows. map (λ row. seen_view row.facts) rows.items.items ≡ map seen_view sorted.now) }

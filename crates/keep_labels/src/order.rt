@@ -18,21 +18,21 @@ pub(crate) enum Counted {
     Years,
 }
 
-// By host, and then by the list of paths.
+/// By host, and then by the list of paths.
 pub(crate) fn compare_groups(left: &SnapFacts, right: &SnapFacts) -> Ordering
     ensures { result ≡ group_cmp (facts_view left.now) (facts_view right.now) }
 {
     left.host.cmp(&right.host).then(compare_paths(left, right))
 }
 
-// By the list of paths.
+/// By the list of paths.
 fn compare_paths(left: &SnapFacts, right: &SnapFacts) -> Ordering
     ensures { result ≡ paths_cmp (facts_view left.now) (facts_view right.now) }
 {
     left.paths.cmp(&right.paths)
 }
 
-// Whether the last one is of the same group.
+/// Whether the last one is of the same group.
 pub(crate) fn is_of_group(last: Option<&SnapFacts>, facts: &SnapFacts) -> bool
     ensures { result ≡ follows group_cmp (option_map seen_view last.entry) (facts_view facts.now) }
 {
@@ -42,7 +42,7 @@ pub(crate) fn is_of_group(last: Option<&SnapFacts>, facts: &SnapFacts) -> bool
     }
 }
 
-// By the number of the group, and in a group the later period first.
+/// By the number of the group, and in a group the later period first.
 pub(crate) fn compare_turns(counted: Counted, left: &Row, right: &Row) -> Ordering
     ensures { result ≡ ordering_then (nat_cmp left.now.group right.now.group)
         (period_cmp counted (seen_view left.now.facts) (seen_view right.now.facts)) }
@@ -52,7 +52,7 @@ pub(crate) fn compare_turns(counted: Counted, left: &Row, right: &Row) -> Orderi
         .then(compare_periods(counted, left, right))
 }
 
-// By the number of the group, then the later period first, and in a period the newer first.
+/// By the number of the group, then the later period first, and in a period the newer first.
 pub(crate) fn compare_all(counted: Counted, left: &Row, right: &Row) -> Ordering
     ensures { result ≡ ordering_then (ordering_then (nat_cmp left.now.group right.now.group)
         (period_cmp counted (seen_view left.now.facts) (seen_view right.now.facts)))
@@ -61,7 +61,7 @@ pub(crate) fn compare_all(counted: Counted, left: &Row, right: &Row) -> Ordering
     compare_turns(counted, left, right).then(compare_ages(left, right))
 }
 
-// The later period first, by the written date.
+/// The later period first, by the written date.
 fn compare_periods(counted: Counted, left: &Row, right: &Row) -> Ordering
     ensures { result ≡ period_cmp counted (seen_view left.now.facts) (seen_view right.now.facts) }
 {
@@ -74,7 +74,7 @@ fn compare_periods(counted: Counted, left: &Row, right: &Row) -> Ordering
     }
 }
 
-// The newer first, and of those of one instant the lesser name. The names are looked at only there.
+/// The newer first, and of those of one instant the lesser name. The names are looked at only there.
 fn compare_ages(left: &Row, right: &Row) -> Ordering
     ensures { result ≡ age_cmp (seen_view left.now.facts) (seen_view right.now.facts) }
 {

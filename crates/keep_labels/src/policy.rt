@@ -61,7 +61,7 @@ pub fn dropped(alloc: Global, policy: &Policy, taken: &[SnapFacts]) -> Result<Ve
     others(alloc, taken, &kept)
 }
 
-// Puts the names there of those that a count keeps.
+/// Puts the names there of those that a count keeps.
 fn keep_counted(
     alloc: Global,
     counted: Counted,
@@ -85,7 +85,7 @@ fn keep_counted(
     Ok(())
 }
 
-// The rows by group, by period, and in a period the newest first.
+/// The rows by group, by period, and in a period the newest first.
 fn in_order<'a>(alloc: Global, counted: Counted, rows: &Rows<'a>) -> Result<Rows<'a>, AllocError>
     requires { EachOnce (map (λ row. seen_view row.facts) rows.now.items.items) }
     ensures rises { IfOk result (λ sorted. Rises (sorting_cmp counted)
@@ -98,7 +98,7 @@ fn in_order<'a>(alloc: Global, counted: Counted, rows: &Rows<'a>) -> Result<Rows
     Ok(Rows { items })
 }
 
-// Puts the names there of those that have one of the tags.
+/// Puts the names there of those that have one of the tags.
 fn keep_tagged(
     tags: &[String],
     taken: &[SnapFacts],
@@ -127,7 +127,7 @@ fn has_tag_of(tags: &[String], facts: &SnapFacts) -> bool
     false
 }
 
-// The names of those whose name isn't there.
+/// The names of those whose name isn't there.
 fn others(alloc: Global, taken: &[SnapFacts], kept: &BTreeSet<Id>) -> Result<Vec<Id>, AllocError>
     ensures { IfOk result (λ names. names.items
         ≡ map (λ s. s.name) (filter (λ s. not (contains id_cmp kept.now s.name)) (map facts_view taken.now))) }

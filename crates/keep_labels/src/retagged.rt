@@ -49,7 +49,7 @@ pub(crate) fn retagged(
 }
 
 impl Relabeled {
-    // Puts the snapshot behind the others, if the edit changes its tags.
+    /// Puts the snapshot behind the others, if the edit changes its tags.
     fn put(
         &mut self,
         alloc: Global,
@@ -72,7 +72,7 @@ impl Relabeled {
     }
 }
 
-// Puts the file of the snapshot with these tags behind the files.
+/// Puts the file of the snapshot with these tags behind the files.
 fn put_retagged(
     alloc: Global,
     catalog: &Catalog,
@@ -91,7 +91,7 @@ fn put_retagged(
     Ok(())
 }
 
-// The file of the snapshot with these tags.
+/// The file of the snapshot with these tags.
 #[tactic(auto, unfolding(crate::specs::Tagging::tagged_file))]
 fn retagged_file(
     alloc: Global,

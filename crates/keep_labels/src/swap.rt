@@ -23,7 +23,7 @@ pub(crate) fn snapshot_files(
     Ok(files)
 }
 
-// Puts the file of the snapshot behind the files, if it is there.
+/// Puts the file of the snapshot behind the files, if it is there.
 fn put_snapshot(repo: &Repo, id: Id, files: &mut Vec<StoredFile>) -> Result<(), AllocError>
     ensures { OnOk result (files.new.items ≡ files.old.items ++ filter_map (spec.snapshot_file repo.now) (id ∷ [])) }
 {

@@ -49,7 +49,7 @@ pub fn plan_tag(
     plan_of(alloc, view, &catalog, edit, &taken)
 }
 
-// The same where these snapshots are taken.
+/// The change that puts snapshots with other tags in the place of these, where the edit changes their tags.
 fn plan_of(
     alloc: Global,
     view: &View,
@@ -72,7 +72,7 @@ fn plan_of(
     })
 }
 
-// The change that puts the new files in the place of the old ones.
+/// The change that puts the new files in the place of the old ones.
 fn put_in_place(
     alloc: Global,
     repo: &Repo,

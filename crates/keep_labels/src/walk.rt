@@ -11,8 +11,8 @@ use crate::row::Row;
 use keep_names::Id;
 use std::alloc::{AllocError, Global};
 
-// The names of those that a count keeps: the first of each of the first so many periods of a group. They stand
-// by group, by period, and in a period the newest first.
+/// The names of those that a count keeps: the first of each of the first so many periods of a group. They stand
+/// by group, by period, and in a period the newest first.
 pub(crate) fn first_names(
     alloc: Global,
     counted: Counted,
@@ -39,7 +39,7 @@ pub(crate) fn first_names(
     Ok(names)
 }
 
-// Whether the last one is of the same group.
+/// Whether the last one is of the same group.
 fn is_of_group(last: Option<Row>, row: &Row) -> bool
     ensures { result ≡ follows (on (λ (r : the_row.Row). r.group) nat_cmp) last.entry row.now }
 {
@@ -49,7 +49,7 @@ fn is_of_group(last: Option<Row>, row: &Row) -> bool
     }
 }
 
-// Whether the last one is of the same group and period.
+/// Whether the last one is of the same group and period.
 fn is_of_turn(counted: Counted, last: Option<Row>, row: &Row) -> bool
     ensures { result ≡ follows (then_cmp (on (λ (r : the_row.Row). r.group) nat_cmp)
         (on (λ (r : the_row.Row). seen_view r.facts) (period_cmp counted))) last.entry row.now }

@@ -20,7 +20,7 @@ abbrev pub blocked_at : Journal → Repository → ℕ → Change → Option ℕ
 blocked_at j live n c =
     if is_met (value_at (later j n) (held live)) c then first_leaning c (later j n) else Some n
 
--- the same of change n
+-- the number of what blocks change n at its place, if there is such a change
 abbrev pub blocked_by : Journal → Repository → ℕ → Option ℕ
 blocked_by j live n = option_and_then (blocked_at j live n) (change_of j n)
 

@@ -14,7 +14,7 @@ abbrev pub hex_text : List ℕ → List ℕ
 hex_text [] = codes "-"
 hex_text (b ∷ bs) = encode_lower (b ∷ bs)
 
--- the same of a vector of bytes
+-- a vector of bytes in lower case hex, none of them as a dash
 abbrev pub hex_word : Vec ℕ → List ℕ
 hex_word bytes = hex_text bytes.items
 

@@ -22,7 +22,7 @@ pub fn edit_of(alloc: Global, words: &[TagWord]) -> Result<Edit, AllocError>
     good_edit(alloc, words)
 }
 
-// The edit that the words say.
+/// The edit that the words say.
 fn good_edit(alloc: Global, words: &[TagWord]) -> Result<Edit, AllocError>
     ensures { IfOk result (λ edit. edit_view edit ≡ said_edit words.now) }
 {
@@ -37,7 +37,7 @@ fn good_edit(alloc: Global, words: &[TagWord]) -> Result<Edit, AllocError>
     })
 }
 
-// The edit that asks for nothing.
+/// The edit that asks for nothing.
 fn no_edit(alloc: Global) -> Edit
     ensures { edit_view result ≡ spec.no_edit }
 {
@@ -48,8 +48,8 @@ fn no_edit(alloc: Global) -> Edit
     }
 }
 
-// Whether the words say no good edit: they ask for nothing, or set beside adding or removing, or add or remove the
-// empty tag.
+/// Whether the words say no good edit: they ask for nothing, or set beside adding or removing, or add or remove the
+/// empty tag.
 #[tactic(auto, using(crate::proofs::EditWords::bad_words))]
 fn are_bad(words: &[TagWord]) -> bool
     ensures { result ≡ is_bad_edit (said_edit words.now) }
@@ -60,7 +60,7 @@ fn are_bad(words: &[TagWord]) -> bool
     !moves(words) || moves_empty(words)
 }
 
-// The tags of the words that do this with theirs, in their order. The empty text is none to set.
+/// The tags of the words that do this with theirs, in their order. The empty text is none to set.
 fn tags_of(alloc: Global, words: &[TagWord], deed: Deed) -> Result<Vec<String>, AllocError>
     ensures { IfOk result (λ tags. map string_bytes tags.items ≡ filter_map (tag_by deed) words.now) }
 {
@@ -73,7 +73,7 @@ fn tags_of(alloc: Global, words: &[TagWord], deed: Deed) -> Result<Vec<String>, 
     Ok(tags)
 }
 
-// Whether a word sets.
+/// Whether a word sets.
 fn sets(words: &[TagWord]) -> bool
     ensures { result ≡ list_any is_set words.now }
 {
@@ -85,7 +85,7 @@ fn sets(words: &[TagWord]) -> bool
     false
 }
 
-// Whether a word adds or removes.
+/// Whether a word adds or removes.
 fn moves(words: &[TagWord]) -> bool
     ensures { result ≡ list_any spec.moves words.now }
 {
@@ -97,7 +97,7 @@ fn moves(words: &[TagWord]) -> bool
     false
 }
 
-// Whether a word adds or removes the empty tag.
+/// Whether a word adds or removes the empty tag.
 fn moves_empty(words: &[TagWord]) -> bool
     ensures { result ≡ list_any spec.moves_empty words.now }
 {

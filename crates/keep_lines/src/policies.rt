@@ -22,7 +22,7 @@ pub fn policy_of(alloc: Global, rules: &[Rule]) -> Result<Policy, AllocError>
     })
 }
 
-// The count of the first rule that counts these.
+/// The count of the first rule that counts these.
 fn count_of(rules: &[Rule], span: Span) -> Option<Count>
     ensures { option_map (λ count. count.number) result ≡ count_in span rules.now }
 {
@@ -34,7 +34,7 @@ fn count_of(rules: &[Rule], span: Span) -> Option<Count>
     None
 }
 
-// The tags whose snapshots are kept, in their order.
+/// The tags whose snapshots are kept, in their order.
 fn kept_tags(alloc: Global, rules: &[Rule]) -> Result<Vec<String>, AllocError>
     ensures { IfOk result (λ tags. map string_bytes tags.items ≡ filter_map kept_by rules.now) }
 {

@@ -17,7 +17,7 @@ pub enum Revision {
 }
 
 impl Revision {
-    /// The same, as a book is asked it.
+    /// The request that asks a book for it.
     pub fn request(self) -> Request
         ensures { result ≡ request_of self }
     {

@@ -29,7 +29,7 @@ pub fn chosen_of<'a>(
     last_of(alloc, &found, latest)
 }
 
-// The last so many, or all.
+/// The last so many, or all.
 fn last_of<'a>(
     alloc: Global,
     rows: &[SnapshotRow<'a>],
@@ -63,7 +63,7 @@ fn is_of_host(host: Option<&str>, row: &SnapshotRow<'_>) -> bool
     }
 }
 
-// Whether the text is among these, where one is given.
+/// Whether the text is among these, where one is given.
 fn has(text: Option<&str>, texts: &[String]) -> bool
     ensures { result ≡ spec.has (text_of text.entry) (map string_bytes texts.now) }
 {

@@ -55,7 +55,7 @@ fn found_in(
     Ok(FoundPaths { rows, unlisted })
 }
 
-// Adds the paths of those of a snapshot's nodes that the pattern matches.
+/// Adds the paths of those of a snapshot's nodes that the pattern matches.
 #[tactic(auto, unfolding(crate::specs::Found::paths_in))]
 fn add_matched(
     alloc: Global,

@@ -12,7 +12,7 @@ use keep_read::RestoreError;
 use keep_view::View;
 use std::alloc::{AllocError, Global};
 
-// The nodes of the snapshot. One that can't be listed has none, and is put to the others that can't.
+/// The nodes of the snapshot. One that can't be listed has none, and is put to the others that can't.
 pub(crate) fn nodes_or_none(
     alloc: Global,
     view: &View,

@@ -89,7 +89,7 @@ fn mode_of(kind: &NodeKind, said: Option<u32>) -> u32
     said.unwrap_or(bare_mode(kind))
 }
 
-// The bits of a node of this kind to which no one has a right.
+/// The bits of a node of this kind to which no one has a right.
 fn bare_mode(kind: &NodeKind) -> u32
     ensures { result ≡ if tallies.is_folder (kind_view kind.now) then 2 ^ 31 else 0 }
 {
@@ -109,7 +109,7 @@ fn owner_of(alloc: Global, found: &Found) -> Result<String, AllocError>
     }
 }
 
-// How many bytes a file says that it has, or else its pieces have.
+/// How many bytes a file says that it has, or else its pieces have.
 fn size_of(
     entry: &Entry,
     said: Option<u64>,

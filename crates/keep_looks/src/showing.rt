@@ -65,7 +65,7 @@ fn shown_of(
     })
 }
 
-// The row of a snapshot that has this.
+/// The row of a snapshot that has this.
 fn row_of(
     alloc: Global,
     row: &keep_named::SnapshotRow<'_>,
@@ -92,7 +92,7 @@ fn row_of(
     })
 }
 
-// The moment of a time, on the zone's clock.
+/// The moment of a time, on the zone's clock.
 fn when_of(time: &str, zone: &MachineZone) -> When
     ensures { result.moment ≡ moment_due time.now }
 {
@@ -103,7 +103,7 @@ fn when_of(time: &str, zone: &MachineZone) -> When
     }
 }
 
-// The moment of a time. Each snapshot that was read has one.
+/// The moment of a time. Each snapshot that was read has one.
 #[tactic(auto, unfolding(crate::specs::Shown::moment_due))]
 fn moment_of(time: &str) -> i64
     ensures { result ≡ moment_due time.now }
@@ -111,7 +111,7 @@ fn moment_of(time: &str) -> i64
     parse_moment(time).unwrap_or(0)
 }
 
-// The host, empty where there is none.
+/// The host, empty where there is none.
 fn host_of(alloc: Global, host: &Option<String>) -> Result<String, AllocError>
     ensures { IfOk result (λ made. string_bytes made ≡ unwrap_or (option_map string_bytes host.now) []) }
 {

@@ -57,7 +57,7 @@ pub fn members_in(alloc: Global, carried: &Map<String, Value>) -> Result<Found, 
     })
 }
 
-// The member at a key.
+/// The member at a key.
 fn member<'c>(carried: &'c Map<String, Value>, key: &str) -> Option<&'c Value>
     ensures { option_map (λ value. view value.now) result ≡ get key.now (object (members_view carried.now.entries)) }
 {
@@ -70,7 +70,7 @@ fn whole_at(carried: &Map<String, Value>, key: &str) -> Option<u64>
     member(carried, key)?.as_u64()
 }
 
-// A number below 2^32.
+/// A number below 2^32.
 fn short_at(carried: &Map<String, Value>, key: &str) -> Option<u32>
     ensures { result ≡ field key.now as_short (object (members_view carried.now.entries)) }
 {
@@ -102,7 +102,7 @@ fn stamp_at(carried: &Map<String, Value>, key: &str) -> Option<Stamp>
     stamp_in(str_at(carried, key)?)
 }
 
-// The instant that a text writes.
+/// The instant that a text writes.
 fn stamp_in(text: &str) -> Option<Stamp>
     ensures { option_map stamp_view result ≡ spec.stamp_in text.now }
 {

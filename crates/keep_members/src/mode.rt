@@ -24,7 +24,7 @@ pub fn unix_mode(go: u32) -> u32
     kind * 4096 + (set_user + set_group + sticky) + go % 512
 }
 
-// Go's bits of a kind.
+/// Go's bits of a kind.
 fn go_kind(digit: u32) -> u32
     ensures value { result ≡ spec.go_kind digit }
     ensures bound { result ≤ 2 ^ 31 }
@@ -40,7 +40,7 @@ fn go_kind(digit: u32) -> u32
     }
 }
 
-// The digit of the kind that Go's bits say.
+/// The digit of the kind that Go's bits say.
 fn unix_kind(go: u32) -> u32
     ensures value { result ≡ spec.unix_kind go }
     ensures bound { result < 16 }
@@ -60,7 +60,7 @@ fn unix_kind(go: u32) -> u32
     if has_bit(go, 24) { 12 } else { 8 }
 }
 
-// The bit of the second place, where the mode has that of the first.
+/// The bit of the second place, where the mode has that of the first.
 fn moved(mode: u32, from: u32, to: u32) -> u32
     requires from_within { from < 32 }
     requires to_within { to < 24 }

@@ -3,7 +3,7 @@ ghost use Rattle.keep_members.specs.Members.{IsSaid, members_data};
 
 use crate::members::Members;
 
-// What the types say of the values.
+/// What the types say of the values.
 pub(crate) fn is_said(members: &Members)
     ensures { IsSaid (members_data members.now) }
 {

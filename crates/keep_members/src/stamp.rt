@@ -45,7 +45,7 @@ impl Stamp {
         }
     }
 
-    // The instant, if a node can say it.
+    /// The instant, if a node can say it.
     pub(crate) fn at(instant: Timestamp) -> Option<Stamp>
         ensures { option_map stamp_view result ≡ spec.stamp_at instant.nanosecond }
     {

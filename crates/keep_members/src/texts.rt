@@ -31,7 +31,7 @@ pub(crate) fn texts_of(alloc: Global, members: &Members) -> Result<TimeTexts, Al
     })
 }
 
-// The date and the time of day in UTC, as RFC 3339 writes them.
+/// The date and the time of day in UTC, as RFC 3339 writes them.
 fn text_of(alloc: Global, stamp: Stamp) -> Result<String, AllocError>
     ensures { IfOk result (λ text. IsStampText (stamp_view stamp) (string_bytes text)) }
 {

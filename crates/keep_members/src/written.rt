@@ -24,7 +24,7 @@ pub fn carried(alloc: Global, members: &Members) -> Result<Map<String, Value>, A
     carried_with(alloc, members, &texts)
 }
 
-// The members with these texts for the times.
+/// The members with these texts for the times.
 fn carried_with(
     alloc: Global,
     members: &Members,
@@ -86,7 +86,7 @@ fn put_place(
     put_counted(alloc, carried, "device", members.device)
 }
 
-// Writes a number, unless it is 0.
+/// Writes a number, unless it is 0.
 fn put_counted(
     alloc: Global,
     carried: &mut Map<String, Value>,
@@ -115,7 +115,7 @@ fn put_text(
     put(alloc, carried, key, value)
 }
 
-// Writes a text, if there is one.
+/// Writes a text, if there is one.
 fn put_text_if(
     alloc: Global,
     carried: &mut Map<String, Value>,

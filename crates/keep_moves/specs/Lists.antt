@@ -53,7 +53,7 @@ moves_turned turn.TakeBack n c = undo_moves n c
 abbrev pub trash_of : Journal → Numbered → List Key
 trash_of j c = map (λ f. Trash c.number f.name) (if is_kept j c.number then c.change.drops else c.change.adds)
 
--- the same of change m, if the journal has it
+-- what the trash of change m has, if the journal has the change
 abbrev pub trash_at : Journal → ℕ → List Key
 trash_at j m = option_map_or (λ c. trash_of j (record { number = m; change = c })) (change_of j m) []
 

@@ -41,7 +41,7 @@ pub fn turn_moves(
     Ok(moves)
 }
 
-// Appends the moves of these files into the trash of change n.
+/// Appends the moves of these files into the trash of change n.
 fn push_out(moves: &mut Vec<Move>, n: u64, files: &[StoredFile]) -> Result<(), AllocError>
     ensures { OnOk result (moves.new.items ≡ moves.old.items ++ map (out_of n) files.now) }
 {
@@ -52,7 +52,7 @@ fn push_out(moves: &mut Vec<Move>, n: u64, files: &[StoredFile]) -> Result<(), A
     Ok(())
 }
 
-// Appends the moves of these files back from the trash of change n.
+/// Appends the moves of these files back from the trash of change n.
 fn push_back(moves: &mut Vec<Move>, n: u64, files: &[StoredFile]) -> Result<(), AllocError>
     ensures { OnOk result (moves.new.items ≡ moves.old.items ++ map (back_of n) files.now) }
 {

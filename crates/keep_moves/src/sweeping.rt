@@ -26,7 +26,7 @@ pub fn swept_moves(alloc: Global, history: &History, n: u64) -> Result<Vec<Move>
     Ok(moves)
 }
 
-// Appends the erasures of what the trash of change m has, which isn't final yet.
+/// Appends the erasures of what the trash of change m has, which isn't final yet.
 fn sweep_change(moves: &mut Vec<Move>, history: &History, m: u64) -> Result<(), AllocError>
     requires { last_final history.now.journal < m }
     ensures { OnOk result (moves.new.items
@@ -41,7 +41,7 @@ fn sweep_change(moves: &mut Vec<Move>, history: &History, m: u64) -> Result<(), 
     }
 }
 
-// Appends the erasures of these files from the trash of change m.
+/// Appends the erasures of these files from the trash of change m.
 fn push_erasures(moves: &mut Vec<Move>, m: u64, files: &[StoredFile]) -> Result<(), AllocError>
     ensures { OnOk result (moves.new.items
         ≡ moves.old.items ++ map Erase (map (λ f. Trash m f.name) files.now)) }
@@ -52,7 +52,7 @@ fn push_erasures(moves: &mut Vec<Move>, m: u64, files: &[StoredFile]) -> Result<
     Ok(())
 }
 
-// Appends the erasures of the entries that tell nothing once all changes up to n are final.
+/// Appends the erasures of the entries that tell nothing once all changes up to n are final.
 fn sweep_entries(
     moves: &mut Vec<Move>,
     notices: &[Notice],
@@ -70,7 +70,7 @@ fn sweep_entries(
     Ok(())
 }
 
-// Whether the event still tells something where changes up to this number are final.
+/// Whether the event still tells something where changes up to this number are final.
 fn tells(final_number: u64, notice: &Notice) -> bool
     ensures { result ≡ tells_something final_number notice.now }
 {

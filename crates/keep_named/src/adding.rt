@@ -5,7 +5,7 @@ use keep_change::StoredFile;
 use keep_journal::History;
 use keep_names::{FileName, Id};
 
-// The last kept change that adds the snapshot. Each kept change is looked at.
+/// The last kept change that adds the snapshot. Each kept change is looked at.
 pub(crate) fn adding(history: &History, snapshot: Id) -> Option<u64>
     ensures { result ≡ spec.adding history.now.journal snapshot }
 {
@@ -16,7 +16,7 @@ pub(crate) fn adding(history: &History, snapshot: Id) -> Option<u64>
     found
 }
 
-// Change n, where it is kept and adds the snapshot, else the one that was found before it.
+/// Change n, where it is kept and adds the snapshot, else the one that was found before it.
 fn last_of(history: &History, n: u64, snapshot: Id, before: Option<u64>) -> Option<u64>
     ensures { result ≡ if spec.adds history.now.journal n snapshot then Some n else before }
 {
@@ -27,7 +27,7 @@ fn last_of(history: &History, n: u64, snapshot: Id, before: Option<u64>) -> Opti
     }
 }
 
-// Whether change n is kept and adds the snapshot.
+/// Whether change n is kept and adds the snapshot.
 fn adds(history: &History, n: u64, snapshot: Id) -> bool
     ensures { result ≡ spec.adds history.now.journal n snapshot }
 {
@@ -37,7 +37,7 @@ fn adds(history: &History, n: u64, snapshot: Id) -> bool
     }
 }
 
-// Whether the snapshot is one of these files.
+/// Whether the snapshot is one of these files.
 fn has_snapshot(snapshot: Id, files: &[StoredFile]) -> bool
     ensures { result ≡ spec.has_snapshot snapshot files.now }
 {

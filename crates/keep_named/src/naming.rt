@@ -35,7 +35,7 @@ pub fn named(
     }
 }
 
-// The last of the rows.
+/// The last of the rows.
 fn latest(rows: &[SnapshotRow]) -> Result<Id, NamedError>
     ensures { result ≡ latest_due rows.now }
 {
@@ -45,14 +45,14 @@ fn latest(rows: &[SnapshotRow]) -> Result<Id, NamedError>
     }
 }
 
-// What stands behind `@`.
+/// What stands behind `@`.
 fn behind_at(text: &str) -> Option<&str>
     ensures { option_map (λ rest. rest.now) result ≡ spec.behind_at text.entry.now }
 {
     text.strip_prefix('@')
 }
 
-// The number that digits write.
+/// The number that digits write.
 fn number_in(digits: &str) -> Option<u64>
     ensures { result ≡ spec.number_in digits.now }
 {
@@ -68,7 +68,7 @@ fn are_digits(bytes: &[u8]) -> bool
     bytes.iter().all(|byte| byte.is_ascii_digit())
 }
 
-// The snapshot that the change of this number added.
+/// The snapshot that the change of this number added.
 fn added(alloc: Global, history: &History, number: Option<u64>) -> Result<Id, NamedError>
     ensures { Answers Memory (λ id. id) (added_due history.now.journal number) result }
 {
@@ -80,7 +80,7 @@ fn added(alloc: Global, history: &History, number: Option<u64>) -> Result<Id, Na
     only(NamedError::NoneAdded, NamedError::SeveralAdded, &ids)
 }
 
-// The ids of those names that are of snapshots.
+/// The ids of those names that are of snapshots.
 fn snapshots_among(alloc: Global, names: &[FileName]) -> Result<Vec<Id>, AllocError>
     ensures { IfOk result (λ ids. ids.items ≡ ids_among Snapshot names.now) }
 {
@@ -88,7 +88,7 @@ fn snapshots_among(alloc: Global, names: &[FileName]) -> Result<Vec<Id>, AllocEr
     names.map(|name| name.id).collect(alloc)
 }
 
-// The snapshot whose id begins with the text.
+/// The snapshot whose id begins with the text.
 fn begun(alloc: Global, repo: &Repo, text: &str) -> Result<Id, NamedError>
     ensures { Answers Memory (λ id. id) (begun_due repo.now text.now) result }
 {
@@ -100,7 +100,7 @@ fn begun(alloc: Global, repo: &Repo, text: &str) -> Result<Id, NamedError>
     only(NamedError::NoneBegins, NamedError::SeveralBegin, &ids)
 }
 
-// Those of the ids whose hex digits begin with the text.
+/// Those of the ids whose hex digits begin with the text.
 fn beginning(alloc: Global, ids: &[Id], text: &str) -> Result<Vec<Id>, AllocError>
     ensures { IfOk result (λ found. found.items ≡ begun_by text.now ids.now) }
 {
@@ -114,7 +114,7 @@ fn beginning(alloc: Global, ids: &[Id], text: &str) -> Result<Vec<Id>, AllocErro
     Ok(found)
 }
 
-// Whether the id's hex digits begin with the text.
+/// Whether the id's hex digits begin with the text.
 fn begins(alloc: Global, id: Id, text: &str) -> Result<bool, AllocError>
     ensures { IfOk result (λ begins. begins ≡ spec.begins text.now id) }
 {
@@ -122,7 +122,7 @@ fn begins(alloc: Global, id: Id, text: &str) -> Result<bool, AllocError>
     Ok(digits.as_bytes().starts_with(text.as_bytes()))
 }
 
-// The one of these, if there is just one.
+/// The one of these, if there is just one.
 fn only(none: NamedError, several: NamedError, ids: &[Id]) -> Result<Id, NamedError>
     ensures { result ≡ spec.only none several ids.now }
 {

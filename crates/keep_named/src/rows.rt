@@ -29,7 +29,7 @@ pub fn snapshots_of<'a>(
     Ok(rows)
 }
 
-// The rows of snapshots, by name.
+/// The rows of snapshots, by name.
 fn rows_by_name<'a>(
     alloc: Global,
     snaps: &'a BTreeMap<Id, Snap>,
@@ -45,7 +45,7 @@ fn rows_by_name<'a>(
     Ok(rows)
 }
 
-// Adds the row of a snapshot. One that was read has a time.
+/// Adds the row of a snapshot. One that was read has a time.
 fn add_row<'a>(
     id: Id,
     snap: &'a Snap,
@@ -66,7 +66,7 @@ fn add_row<'a>(
     Ok(())
 }
 
-// The earlier first, and of those of one instant the lesser name.
+/// The earlier first, and of those of one instant the lesser name.
 fn compare(left: &SnapshotRow, right: &SnapshotRow) -> Ordering
     ensures { result ≡ moment_cmp (row_view left.now) (row_view right.now) }
 {

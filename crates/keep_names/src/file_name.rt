@@ -101,7 +101,7 @@ pub fn path_of(alloc: Global, name: FileName) -> Result<String, AllocError>
     }
 }
 
-// The folder of a pack: packs are spread over 256 of them.
+/// The folder of a pack: packs are spread over 256 of them.
 fn folder_of(alloc: Global, id: Id) -> Result<String, AllocError>
     ensures { IfOk result (λ folder. string_bytes folder ≡ take 2 (id_text id)) }
 {

@@ -52,7 +52,7 @@ fn members_of(alloc: Global, words: &[&str]) -> Result<Members, No> {
     })
 }
 
-// Seconds and nanoseconds, with a colon between.
+/// Seconds and nanoseconds, with a colon between.
 fn stamp_in(word: &str) -> Result<Stamp, No> {
     let (seconds, nanoseconds) = word.split_once(':').ok_or(No::Case)?;
     let seconds: i64 = seconds.parse().map_err(|_| No::Case)?;

@@ -22,13 +22,13 @@ pub(crate) fn answer(alloc: Global, line: &str) -> Result<String, No> {
     }
 }
 
-// The name of these bytes, quoted.
+/// The name of these bytes, quoted.
 fn quoted(alloc: Global, digits: &str) -> Result<String, No> {
     let name = bytes_in(alloc, digits)?;
     Ok(quote(alloc, &name)?)
 }
 
-// The bytes of a quoted name, in hex.
+/// The bytes of a quoted name, in hex.
 fn unquoted(alloc: Global, text: &str) -> Result<String, No> {
     match unquote(alloc, text)? {
         Some(bytes) => Ok(hex::encode(alloc, bytes)?),
@@ -36,7 +36,7 @@ fn unquoted(alloc: Global, text: &str) -> Result<String, No> {
     }
 }
 
-// The same of a text that is written in hex.
+/// The bytes, in hex, of a quoted name whose own text is written in hex.
 fn unquoted_digits(alloc: Global, digits: &str) -> Result<String, No> {
     let text = bytes_in(alloc, digits)?;
     match str::from_utf8(&text) {

@@ -48,7 +48,7 @@ fn push_stamp(alloc: Global, told: &mut String, stamp: Option<Stamp>) -> Result<
     }
 }
 
-// A word, with a space before it where it isn't the first.
+/// A word, with a space before it where it isn't the first.
 fn push_word(told: &mut String, word: Option<&str>) -> Result<(), AllocError> {
     if !told.is_empty() {
         told.push(' ')?;

@@ -17,7 +17,7 @@ content_at r path (dir subtree) = []
 content_at r path (file content) = (path, Some (joined r content)) ∷ []
 content_at r path (other type_name) = (path, None) ∷ []
 
--- the same of a node that is listed
+-- what a restore has of a listed node
 abbrev pub content_of : Repository → EntryData → List ContentData
 content_of r entry = content_at r entry.path entry.node.kind
 

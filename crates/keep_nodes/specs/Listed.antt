@@ -75,6 +75,7 @@ listed_by r refusal (Err why) = Err why
 abbrev pub nodes_due : Repository → Id → Result (List EntryData) RestoreError
 nodes_due r snapshot = listed_by r (tree_refusal r) (root_due r snapshot)
 
--- the same where all that it reaches is to be had, pieces of files too, in the order in which a restore finds them
+-- what the snapshot of this name has by path, or the first refusal of all that it reaches, pieces of files too, in the
+-- order in which a restore finds them
 abbrev pub whole_nodes_due : Repository → Id → Result (List EntryData) RestoreError
 whole_nodes_due r snapshot = listed_by r (whole_refusal r) (root_due r snapshot)

@@ -9,10 +9,10 @@ use crate::Entry;
 use std::alloc::{AllocError, Global};
 use std::collections::BTreeMap;
 
-// Nodes by path.
+/// Nodes by path.
 pub(crate) type ByPath<'a> = BTreeMap<String, &'a Entry>;
 
-// The nodes by path; of two at one path the later.
+/// The nodes by path; of two at one path the later.
 pub(crate) fn by_path<'a>(alloc: Global, entries: &'a [Entry]) -> Result<ByPath<'a>, AllocError>
     ensures { IfOk result (λ nodes. paths_of nodes ≡ spec.by_path (map entry_view entries.entry.now)) }
 {
@@ -21,7 +21,7 @@ pub(crate) fn by_path<'a>(alloc: Global, entries: &'a [Entry]) -> Result<ByPath<
     Ok(nodes)
 }
 
-// Puts these nodes there, one after the other.
+/// Puts these nodes there, one after the other.
 pub(crate) fn put_all<'a>(nodes: &mut ByPath<'a>, entries: &'a [Entry]) -> Result<(), AllocError>
     ensures { OnOk result (paths_of nodes.new
         ≡ spec.put_all (paths_of nodes.old) (map entry_view entries.entry.now)) }
@@ -32,7 +32,7 @@ pub(crate) fn put_all<'a>(nodes: &mut ByPath<'a>, entries: &'a [Entry]) -> Resul
     Ok(())
 }
 
-// Puts the node there.
+/// Puts the node there.
 fn put<'a>(nodes: &mut ByPath<'a>, entry: &'a Entry) -> Result<(), AllocError>
     ensures { OnOk result (paths_of nodes.new
         ≡ finite.insert (paths_of nodes.old) (lent_view entry.entry).path (lent_view entry.entry)) }
@@ -42,7 +42,7 @@ fn put<'a>(nodes: &mut ByPath<'a>, entry: &'a Entry) -> Result<(), AllocError>
     Ok(())
 }
 
-// The node at this path.
+/// The node at this path.
 pub(crate) fn node_at<'a>(nodes: &ByPath<'a>, path: &str) -> Option<&'a Entry>
     ensures { option_map lent_view result ≡ finite.get (paths_of nodes.now) path.now }
 {

@@ -67,7 +67,7 @@ pub fn matched<'a>(
     Ok(found)
 }
 
-// Whether the path is this one, or begins with this folder.
+/// Whether the path is this one, or begins with this folder.
 fn is_below(top: &str, folder: &str, path: &str) -> bool
     requires { folder.now ≡ top.now ++ codes "/" }
     ensures { result ≡ spec.is_below top.now path.now }
@@ -75,7 +75,7 @@ fn is_below(top: &str, folder: &str, path: &str) -> bool
     path == top || path.as_bytes().starts_with(folder.as_bytes())
 }
 
-// Without the `/` that it ends with.
+/// Without the `/` that it ends with.
 fn before_slash<'a>(text: &'a str) -> &'a str
     ensures { result.now ≡ parsing.before_slash text.now }
 {
@@ -85,7 +85,7 @@ fn before_slash<'a>(text: &'a str) -> &'a str
     }
 }
 
-// Without the `/` that it begins with.
+/// Without the `/` that it begins with.
 fn after_slash<'a>(text: &'a str) -> &'a str
     ensures { result.now ≡ parsing.after_slash text.now }
 {
@@ -95,7 +95,7 @@ fn after_slash<'a>(text: &'a str) -> &'a str
     }
 }
 
-// The characters of the names of a path.
+/// The characters of the names of a path.
 fn names_of(alloc: Global, path: &str) -> Result<Vec<Letters>, AllocError>
     ensures { IfOk result (λ names. names.items ≡ map chars (names_in path.now)) }
 {
@@ -108,7 +108,7 @@ fn names_of(alloc: Global, path: &str) -> Result<Vec<Letters>, AllocError>
     Ok(names)
 }
 
-// The names of a path.
+/// The names of a path.
 fn parts_of<'a>(alloc: Global, path: &'a str) -> Result<Vec<&'a str>, AllocError>
     ensures { IfOk result (λ parts. map (λ part. part.now) parts.items ≡ names_in path.entry.now) }
 {
@@ -116,7 +116,7 @@ fn parts_of<'a>(alloc: Global, path: &'a str) -> Result<Vec<&'a str>, AllocError
     Ok(parts)
 }
 
-// Whether one of the patterns matches a path.
+/// Whether one of the patterns matches a path.
 fn is_matched(patterns: &[Pattern], path: &[Letters]) -> bool
     ensures { result ≡ without.is_matched (map pattern_view patterns.now) path.now }
 {

@@ -32,7 +32,7 @@ pub fn differences<'a>(
     found_at(alloc, &old_nodes, &new_nodes, &all)
 }
 
-// The differences at the paths of these nodes.
+/// The differences at the paths of these nodes.
 fn found_at<'a>(
     alloc: Global,
     old: &ByPath<'a>,
@@ -49,7 +49,7 @@ fn found_at<'a>(
     Ok(found)
 }
 
-// Adds the difference at this path, if there is one.
+/// Adds the difference at this path, if there is one.
 fn add_difference<'a>(
     alloc: Global,
     old: &ByPath<'a>,
@@ -67,7 +67,7 @@ fn add_difference<'a>(
     Ok(())
 }
 
-// How what stood at a path differs from what stands there.
+/// How what stood at a path differs from what stands there.
 fn difference<'a>(
     alloc: Global,
     old: Option<&'a Entry>,
@@ -92,7 +92,7 @@ fn difference<'a>(
     Ok(Some(Difference::Changed { old, new }))
 }
 
-// Whether a tree writes the two nodes alike.
+/// Whether a tree writes the two nodes alike.
 fn is_same(alloc: Global, old: &Entry, new: &Entry) -> Result<bool, AllocError>
     ensures { IfOk result (λ same. same ≡ spec.is_same (node_view old.now.node) (node_view new.now.node)) }
 {
@@ -101,7 +101,7 @@ fn is_same(alloc: Global, old: &Entry, new: &Entry) -> Result<bool, AllocError>
     Ok(old.as_slice() == new.as_slice())
 }
 
-// The node as a tree of it alone is written.
+/// The node as a tree of it alone is written.
 fn text_of(alloc: Global, entry: &Entry) -> Result<Vec<u8>, AllocError>
     ensures { IfOk result (λ text. text.items ≡ node_text (node_view entry.now.node)) }
 {

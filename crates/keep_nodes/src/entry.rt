@@ -11,6 +11,6 @@ pub struct Entry {
     /// `/` and the names from the root on, joined by `/`.
     pub path: String,
     pub node: Node,
-    // A document has no floating-point numbers, so that one text says what the node is.
+    /// A document has no floating-point numbers, so that one text says what the node is.
     pub ghost whole: { has_float (tree_data (node_view node ∷ [])) ≡ false },
 }

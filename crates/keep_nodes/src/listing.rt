@@ -36,8 +36,8 @@ pub fn nodes_of(alloc: Global, view: &View, snapshot: Id) -> Result<Vec<Entry>, 
     Ok(entries)
 }
 
-/// The same nodes, if the snapshot can be restored whole: each piece of its files is looked for and hashed too, and
-/// what is missing refuses it, as it refuses a restore.
+/// The nodes that `nodes_of` gives, if the snapshot can be restored whole: each piece of its files is looked for and
+/// hashed too, and what is missing refuses it, as it refuses a restore.
 pub fn whole_nodes_of(alloc: Global, view: &View, snapshot: Id) -> Result<Vec<Entry>, RestoreError>
     ensures none { is_filled view.now.repo (snapshot_facet snapshot) ≡ false → result ≡ Err NoSnapshot }
     ensures nodes { Answers (Reach Memory) (λ entries. map entry_view entries.items)

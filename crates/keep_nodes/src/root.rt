@@ -17,7 +17,7 @@ use keep_repo::Repo;
 use keep_snap::{SnapError, read_snap};
 use std::alloc::Global;
 
-// The tree of the root of the snapshot of this name, or why there is none.
+/// The tree of the root of the snapshot of this name, or why there is none.
 pub(crate) fn root(
     alloc: Global,
     repo: &Repo,
@@ -33,7 +33,7 @@ pub(crate) fn root(
     }
 }
 
-// The tree of the snapshot's root, if the snapshot can be read.
+/// The tree of the snapshot's root, if the snapshot can be read.
 fn root_in(catalog: &Catalog, snapshot: Id) -> Option<Id>
     ensures { result ≡ option_map (λ snap. snap.tree) (snap_in catalog.now snapshot) }
 {
@@ -41,7 +41,7 @@ fn root_in(catalog: &Catalog, snapshot: Id) -> Option<Id>
     Some(snap.tree)
 }
 
-// Why the snapshot can't be read.
+/// Why the snapshot can't be read.
 fn why_unread(alloc: Global, repo: &Repo, snapshot: Id) -> RestoreError
     requires { snap_in repo.now snapshot ≡ None }
     ensures { result ≢ Reach Memory → root_due repo.now snapshot ≡ Err result }

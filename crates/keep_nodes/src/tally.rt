@@ -23,7 +23,7 @@ pub struct Tally {
     pub bytes: u64,
 }
 
-// The tally of these nodes, by the lengths that are known and those that become so.
+/// The tally of these nodes, by the lengths that are known and those that become so.
 pub(crate) fn tally_with(
     catalog: &Catalog,
     entries: &[Entry],
@@ -81,7 +81,7 @@ fn is_other(kind: &NodeKind) -> bool
     matches!(kind, NodeKind::Other { type_name: _ })
 }
 
-// How many bytes the files have.
+/// How many bytes the files have.
 fn bytes_among(
     catalog: &Catalog,
     entries: &[Entry],
@@ -99,7 +99,7 @@ fn bytes_among(
     Ok(bytes)
 }
 
-// How many bytes a node of this kind has.
+/// How many bytes a node of this kind has.
 fn kind_bytes(
     catalog: &Catalog,
     kind: &NodeKind,
@@ -115,7 +115,7 @@ fn kind_bytes(
     }
 }
 
-// How many bytes the pieces have together.
+/// How many bytes the pieces have together.
 fn content_bytes(
     catalog: &Catalog,
     content: &[Id],
@@ -133,7 +133,7 @@ fn content_bytes(
     Ok(bytes)
 }
 
-// How many bytes the piece has. It is looked up once.
+/// How many bytes the piece has. It is looked up once.
 fn piece_bytes(catalog: &Catalog, id: Id, known: &mut BTreeMap<Id, u32>) -> Result<u32, AllocError>
     requires { AreLengths catalog.now known.old }
     ensures known { AreLengths catalog.now known.new }
@@ -147,7 +147,7 @@ fn piece_bytes(catalog: &Catalog, id: Id, known: &mut BTreeMap<Id, u32>) -> Resu
     Ok(length)
 }
 
-// How many bytes the piece has at its chosen place.
+/// How many bytes the piece has at its chosen place.
 fn length_there(catalog: &Catalog, id: Id) -> u32
     ensures { result ≡ piece_length catalog.now id }
 {

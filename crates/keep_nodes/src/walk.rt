@@ -16,14 +16,14 @@ use keep_reach::levels;
 use keep_tree::{Node, NodeKind};
 use std::alloc::{AllocError, Global};
 
-// A walk over the trees of a catalog.
+/// A walk over the trees of a catalog.
 #[derive(Clone, Copy)]
 struct Walk<'a> {
     alloc: Global,
     catalog: &'a Catalog<'a>,
 }
 
-// What is below the tree, or its first refusal. Each tree is read as often as it is come to.
+/// What is below the tree, or its first refusal. Each tree is read as often as it is come to.
 pub(crate) fn entries_below(
     alloc: Global,
     catalog: &Catalog,
@@ -39,7 +39,7 @@ pub(crate) fn entries_below(
 }
 
 impl Walk<'_> {
-    // Adds what is below the tree at this path, where trees may stand at so many levels.
+    /// Adds what is below the tree at this path, where trees may stand at so many levels.
     #[cycle(walking)]
     fn add_tree(
         &self,
@@ -65,7 +65,7 @@ impl Walk<'_> {
         Ok(())
     }
 
-    // Adds the node, at its name below the path, and what is below it.
+    /// Adds the node, at its name below the path, and what is below it.
     #[cycle(walking)]
     fn add_node(
         &self,
@@ -96,14 +96,14 @@ impl Walk<'_> {
     }
 }
 
-// The path of what has this name in the folder of this path.
+/// The path of what has this name in the folder of this path.
 fn path_below(alloc: Global, path: &str, name: &str) -> Result<String, AllocError>
     ensures { IfOk result (λ below. string_bytes below ≡ path.now ++ (codes "/" ++ name.now)) }
 {
     format!(in alloc; "{path}/{name}")
 }
 
-// Adds a node at its path.
+/// Adds a node at its path.
 fn add(entries: &mut Vec<Entry>, path: String, node: Node) -> Result<(), AllocError>
     requires { has_float (tree_data (node_view node ∷ [])) ≡ false }
     ensures { OnOk result (map entry_view entries.new.items

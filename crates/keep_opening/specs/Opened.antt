@@ -27,7 +27,7 @@ marks_alone leaves = record { files = map.empty; marks = put_marks (marks_in (en
 abbrev pub live_with : Content → Repository → Repository
 live_with content marked = live_into content (map.keys content) marked
 
--- the same with the kept changes taken back, what they did to files
+-- the repository of the live files, with these marks, once what the kept changes did to files is taken back
 abbrev pub opening_in : Journal → Content → Repository → Repository
 opening_in j content marked = record (live_with content marked) { files = (unfold_of (kept j) (live_with content marked)).files }
 

@@ -27,7 +27,7 @@ over_test n told (Live name) = false
 over_test n told (Trash m name) = nat_le m n
 over_test n told (Entry k) = not (told k)
 
--- the same of the journal that is told
+-- whether what is under the key says nothing any more, where changes up to n are final and this journal is told
 abbrev pub is_over : ℕ → Journal → Key → Bool
 is_over n j key = over_test n (λ k. is_some (entry_at j.entries k)) key
 

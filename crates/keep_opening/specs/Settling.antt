@@ -18,7 +18,7 @@ moves_what Undo n c = undo_moves n c
 moves_what Redo n c = redo_moves n c
 moves_what Empty n c = []
 
--- the same of a change that may be missing
+-- the moves of an event that did this to change n, and none where the change is missing
 abbrev pub moves_for : What → ℕ → Option Change → List Move
 moves_for what n change = option_map_or (moves_what what n) change []
 

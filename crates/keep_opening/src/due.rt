@@ -28,7 +28,7 @@ pub fn due_moves(alloc: Global, stock: &Stock, history: &History) -> Result<Vec<
     }
 }
 
-// Those of the moves that are still to be made.
+/// Those of the moves that are still to be made.
 fn left_of(alloc: Global, stock: &Stock, moves: Vec<Move>) -> Result<Vec<Move>, AllocError>
     ensures { IfOk result (λ left. left.items ≡ filter (remains_in (map.get stock.now)) moves.items) }
 {

@@ -76,7 +76,7 @@ pub fn make_files(change: &Change, repo: &mut Repo) -> Result<(), AllocError>
     Ok(())
 }
 
-// Puts the files one by one, in the place of those that are there.
+/// Puts the files one by one, in the place of those that are there.
 fn put_files(files: &[StoredFile], repo: &mut Repo) -> Result<(), AllocError>
     ensures { OnOk result (repo.new ≡ record repo.old { files = made.put_files files.now repo.old.files }) }
 {
@@ -110,7 +110,7 @@ pub(crate) fn remake(history: &History, repo: &mut Repo) -> Result<bool, AllocEr
     Ok(true)
 }
 
-// Makes the change where it is met, and answers whether it is.
+/// Makes the change where it is met, and answers whether it is.
 fn make_met(change: &Change, repo: &mut Repo) -> Result<bool, AllocError>
     ensures met { IfOk result (λ met. met ≡ is_met (held repo.old) change.now) }
     ensures made { IfOk result (λ met. IsTrue met → repo.new ≡ made.result_of change.now repo.old) }

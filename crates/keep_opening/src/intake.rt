@@ -21,7 +21,7 @@ pub fn take_in<S: Shelf>(alloc: Global, shelf: &mut S) -> Result<Stock, OpenErro
     fill(alloc, shelf, keys.as_slice())
 }
 
-// What stands under these keys.
+/// What stands under these keys.
 fn fill<S: Shelf>(alloc: Global, shelf: &mut S, keys: &[Key]) -> Result<Stock, OpenError>
     ensures all { IfOk result (λ stock. stock ≡ taken_into (S.shelved shelf.old).content keys.now map.empty) }
     ensures calls { let before = S.shelved shelf.old in

@@ -24,7 +24,7 @@ pub fn leaves_of(alloc: Global, stock: &Stock) -> Result<Vec<Leaf>, AllocError>
     Ok(leaves)
 }
 
-// Appends the leaf under the key, if it is that of an entry.
+/// Appends the leaf under the key, if it is that of an entry.
 fn push_leaf(
     alloc: Global,
     stock: &Stock,
@@ -43,7 +43,7 @@ fn push_leaf(
     Ok(())
 }
 
-// The leaf of this number, with these bytes.
+/// The leaf of this number, with these bytes.
 fn leaf_of(alloc: Global, held: &Repo, k: u64, bytes: &Bytes) -> Result<Leaf, AllocError>
     ensures number { IfOk result (λ leaf. leaf.at ≡ k) }
     ensures tells { IfOk result (λ leaf. Tells k bytes.now leaf.event) }

@@ -23,7 +23,7 @@ pub(crate) fn marks_in(alloc: Global, leaves: &[Leaf]) -> Result<Repo, AllocErro
     Ok(repo)
 }
 
-// The marks of the last emptying.
+/// The marks of the last emptying.
 fn last_marks(leaves: &[Leaf]) -> Option<&[PackMark]>
     ensures { option_copied result ≡ marks_told (all_of (entries_of leaves.now)) }
 {

@@ -48,8 +48,8 @@ pub fn read(alloc: Global, stock: &Stock) -> Result<Opened, OpenError>
     test(alloc, &settled, history, marked)
 }
 
-// Makes the opening of the files, once the last event's moves are made, and tests that they are those that the history
-// tells.
+/// Makes the opening of the files, once the last event's moves are made, and tests that they are those that the history
+/// tells.
 fn test(alloc: Global, settled: &Stock, history: History, marked: Repo) -> Result<Opened, OpenError>
     requires formed { AreWellFormed history.journal }
     ensures opening { IfOk result (λ opened. opened.opening ≡ opening_in history.journal settled.now marked) }

@@ -28,7 +28,7 @@ pub(crate) fn over_moves(
     erase_over(alloc, &told, n, keys.as_slice())
 }
 
-// The numbers of the events that still tell something.
+/// The numbers of the events that still tell something.
 fn told_numbers(alloc: Global, history: &History) -> Result<BTreeSet<u64>, AllocError>
     ensures { IfOk result (λ told. (k : ℕ)
         → tree.contains nat_cmp told k ≡ list_any (λ notice. notice.at == k) (notices_of history.now.journal)) }
@@ -58,7 +58,7 @@ fn erase_over(
     Ok(moves)
 }
 
-// Whether what is under the key says nothing any more.
+/// Whether what is under the key says nothing any more.
 fn is_over(told: &BTreeSet<u64>, n: u64, key: Key) -> bool
     ensures { result ≡ over_test n (tree.contains nat_cmp told.now) key }
 {

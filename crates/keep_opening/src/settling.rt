@@ -50,7 +50,7 @@ pub fn last_moves(
     }
 }
 
-// Makes those of the moves that remain.
+/// Makes those of the moves that remain.
 fn finish(stock: &mut Stock, moves: &[Move]) -> Result<(), AllocError>
     ensures { OnOk result (map.get stock.new ≡ finished_all moves.now (map.get stock.old)) }
 {
@@ -86,7 +86,7 @@ fn make(stock: &mut Stock, step: &Move) -> Result<(), AllocError>
     Ok(())
 }
 
-// Takes away the trash of the changes up to n.
+/// Takes away the trash of the changes up to n.
 fn clear(stock: &mut Stock, n: u64) -> Result<(), AllocError>
     ensures { OnOk result (map.get stock.new ≡ cleared n (map.get stock.old)) }
 {
@@ -99,7 +99,7 @@ fn clear(stock: &mut Stock, n: u64) -> Result<(), AllocError>
     Ok(())
 }
 
-// Whether it is the key of trash of a change up to n.
+/// Whether it is the key of trash of a change up to n.
 fn is_old(n: u64, key: Key) -> bool
     ensures { result ≡ is_old_trash n key }
 {

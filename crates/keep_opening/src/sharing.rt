@@ -6,8 +6,8 @@ use keep_repo::{Bytes, Repo};
 use keep_shelf::{Key, Stock};
 use std::alloc::{AllocError, Global};
 
-// The files of the stock by name, live or in the trash, with their bytes shared. It is only looked into for bytes that
-// are held already, so where two keys have one name either file will do.
+/// The files of the stock by name, live or in the trash, with their bytes shared. It is only looked into for bytes that
+/// are held already, so where two keys have one name either file will do.
 pub(crate) fn files_held(alloc: Global, stock: &Stock, keys: &[Key]) -> Result<Repo, AllocError> {
     let mut held = Repo::new(alloc);
     for key in keys {
@@ -20,7 +20,7 @@ pub(crate) fn files_held(alloc: Global, stock: &Stock, keys: &[Key]) -> Result<R
     Ok(held)
 }
 
-// The same event. Where the bytes of its change are held, they are shared.
+/// The event, with the bytes of its change shared where they are held.
 pub(crate) fn shared_event(alloc: Global, held: &Repo, event: Event) -> Result<Event, AllocError>
     ensures { IfOk result (λ shared. shared ≡ event) }
 {
@@ -68,7 +68,7 @@ fn shared_files(
     Ok(Listed::from_vec(shared))
 }
 
-// The file's bytes: those that are held under its name, if they are equal, and else its own.
+/// The file's bytes: those that are held under its name, if they are equal, and else its own.
 fn held_bytes(held: &Repo, file: &StoredFile) -> Result<Bytes, AllocError>
     ensures { IfOk result (λ bytes. bytes ≡ file.now.bytes) }
 {

@@ -30,7 +30,7 @@ pub fn history_of(alloc: Global, leaves: Vec<Leaf>) -> Result<History, OpenError
     Ok(history)
 }
 
-// The number up to which the last emptying makes changes final, 0 where there is none.
+/// The number up to which the last emptying makes changes final, 0 where there is none.
 fn final_in(leaves: &[Leaf]) -> u64
     ensures { result ≡ final_number_of (all_of (entries_of leaves.now)) }
 {
@@ -59,7 +59,7 @@ fn final_after(before: u64, event: &Event) -> u64
     }
 }
 
-// Appends what the leaf tells, where nothing is wrong with it. The number is that up to which changes are final then.
+/// Appends what the leaf tells, where nothing is wrong with it. The number is that up to which changes are final then.
 fn take_leaf(
     alloc: Global,
     history: &mut History,
@@ -91,7 +91,7 @@ fn take_leaf(
     Ok(next)
 }
 
-// Whether the event is wrong where the last emptying so far was of changes up to top.
+/// Whether the event is wrong where the last emptying so far was of changes up to top.
 fn is_misfit(history: &History, final_number: u64, top: u64, event: &Event) -> bool
     ensures exact { result ≡ is_misfit_after final_number top history.now.journal event.now }
     ensures numbered { IsNumbered history.now.journal }
@@ -100,7 +100,7 @@ fn is_misfit(history: &History, final_number: u64, top: u64, event: &Event) -> b
     event.number <= top || is_told(final_number, event) && !fits
 }
 
-// Whether the event still tells something where changes up to this number are final.
+/// Whether the event still tells something where changes up to this number are final.
 fn is_told(final_number: u64, event: &Event) -> bool
     ensures { result ≡ is_told_at final_number event.now }
 {
@@ -110,7 +110,7 @@ fn is_told(final_number: u64, event: &Event) -> bool
     }
 }
 
-// Whether a told event fits the history.
+/// Whether a told event fits the history.
 fn fits(history: &History, event: &Event) -> bool
     ensures exact { result ≡ fits_by history.now.journal event.now.number event.now.kind }
     ensures numbered { IsNumbered history.now.journal }

@@ -42,7 +42,7 @@ fn put_names(live: &Repo, names: &[FileName], stock: &mut Stock) -> Result<(), A
     Ok(())
 }
 
-// Puts the trash of the changes that aren't final, where there is none.
+/// Puts the trash of the changes that aren't final, where there is none.
 fn put_trash(history: &History, stock: &mut Stock) -> Result<(), AllocError>
     requires formed { AreWellFormed history.now.journal }
     requires none { (n : ℕ) (name : FileName) → map.get stock.old (key.Trash n name) ≡ None }

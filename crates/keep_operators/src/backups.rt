@@ -35,7 +35,7 @@ pub fn crew_of(
     Ok(works)
 }
 
-// What the operator of this number backs up.
+/// What the operator of this number backs up.
 fn backup_of(alloc: Global, operator: u32, time: &str) -> Result<Job<EachSnapshot>, AllocError>
     ensures { IfOk result (λ job. job_of job ≡ crew.backup_of time.now operator) }
 {
@@ -53,7 +53,7 @@ fn file_of(alloc: Global, operator: u32) -> Result<(String, Vec<u8>), AllocError
     Ok((path, bytes))
 }
 
-// Who backs up, at this time.
+/// Who backs up, at this time.
 fn facts_at(alloc: Global, time: &str) -> Result<BackupFacts, AllocError>
     ensures { IfOk result (λ facts. facts_view facts ≡ spec.facts_of (codes "crew") time.now) }
 {

@@ -58,7 +58,7 @@ pub record OptionsData : Type 0 where
   pub folder : Option (List ℕ)
   pub crew : ℕ
 
--- the same without where the texts lie in memory
+-- the options, without where their texts lie in memory
 abbrev pub options_view : Options → OptionsData
 options_view options = record {
   cut = options.cut;

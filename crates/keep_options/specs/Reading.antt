@@ -25,6 +25,6 @@ abbrev pub IsFolderRead : Option (Option (List ℕ)) → Result (Option (Bor (Li
 IsFolderRead given (Ok folder) = given ≡ Some (option_map (λ text. text.now) folder)
 IsFolderRead given (Err error) = (given ≡ None) × (error ≡ Refused)
 
--- the same of those that the words give
+-- the options that the words give, a refusal just where they give none, or want of memory
 abbrev pub Reads : List (List ℕ) → Result Options BadOptions → Type 0
 Reads words result = Says (options_of words) result

@@ -19,7 +19,7 @@ pub struct Options<'a> {
     pub cut: u32,
     /// The moment for marks and sweeps: whole seconds since 1970-01-01T00:00:00Z.
     pub now: i64,
-    /// The same moment, as the words write it.
+    /// The moment for marks and sweeps, as the words write it.
     pub time: &'a str,
     /// The host whose snapshots the filter `host` takes. It may be empty.
     pub host: &'a str,

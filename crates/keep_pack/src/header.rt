@@ -9,7 +9,7 @@ use crate::pack_error::PackError;
 use keep_names::{Blob, BlobId, BlobType, Id};
 use std::alloc::Global;
 
-// An entry as it stands: the type, the length of the blob in four bytes, its id.
+/// An entry as it stands: the type, the length of the blob in four bytes, its id.
 type RawEntry = [u8; 37];
 
 /// The entries of a pack's header, in their order. The blobs themselves aren't looked at: an entry's id may
@@ -28,7 +28,7 @@ pub fn read_header(alloc: Global, pack: &[u8]) -> Result<Vec<Blob>, PackError>
     entries_in(alloc, pack)
 }
 
-// The listed entries, or the first refusal. All refusals come before memory is taken.
+/// The listed entries, or the first refusal. All refusals come before memory is taken.
 #[tactic(auto, unfolding(crate::specs::Reading::header_of))]
 fn entries_in(alloc: Global, pack: &[u8]) -> Result<Vec<Blob>, PackError>
     ensures { Gives result (header_of pack.now) }
@@ -43,7 +43,7 @@ fn entries_in(alloc: Global, pack: &[u8]) -> Result<Vec<Blob>, PackError>
     list_entries(alloc, raw)
 }
 
-// The bytes before the header, and the header's entries.
+/// The bytes before the header, and the header's entries.
 #[tactic(auto, unfolding(crate::specs::Reading::header_of))]
 fn split_pack(pack: &[u8]) -> Result<(&[u8], &[RawEntry]), PackError>
     ensures parts { IfOk result (λ parts. IsSplit pack.now parts.0.now parts.1.now) }
@@ -61,14 +61,14 @@ fn split_pack(pack: &[u8]) -> Result<(&[u8], &[RawEntry]), PackError>
     Ok((blobs, header.as_chunks::<37>().0))
 }
 
-// Whether an entry is of no type.
+/// Whether an entry is of no type.
 fn has_bad_type(raw: &[RawEntry]) -> bool
     ensures { result ≡ list_any spec.has_bad_type raw.now }
 {
     raw.iter().any(|entry| entry[0] > 1)
 }
 
-// How many bytes the listed blobs have together.
+/// How many bytes the listed blobs have together.
 fn total_length(raw: &[RawEntry]) -> u64
     requires { length raw.now < 2 ^ 32 }
     ensures { result ≡ sum_by length_in raw.now }
@@ -76,7 +76,7 @@ fn total_length(raw: &[RawEntry]) -> u64
     raw.iter().map(|entry| u64::from(length_of(entry))).sum()
 }
 
-// The entries of blobs that lie one after the other from the first byte on.
+/// The entries of blobs that lie one after the other from the first byte on.
 fn list_entries(alloc: Global, raw: &[RawEntry]) -> Result<Vec<Blob>, PackError>
     requires { sum_by length_in raw.now < 2 ^ 64 }
     ensures { Gives result (Ok (entries_from 0 (map listed_in raw.now))) }

@@ -28,7 +28,7 @@ pub fn build_pack<B: AsSlice<u8>>(
     Ok(pack)
 }
 
-// Writes the header's entry of a blob behind the pack so far.
+/// Writes the header's entry of a blob behind the pack so far.
 fn put_entry(pack: &mut Vec<u8>, blob: BlobId, bytes: &[u8]) -> Result<(), AllocError>
     requires { length bytes.now < 2 ^ 32 }
     ensures { OnOk result (pack.new.items

@@ -4,7 +4,7 @@ use keep_change::{Change, Listed, StoredFile};
 use keep_journal::{Event, EventKind};
 use std::alloc::{AllocError, Global};
 
-/// The same event once more. A commit's change is shared, and the marks of an emptying are copied.
+/// A copy of the event. A commit's change is shared, and the marks of an emptying are copied.
 pub fn copy_event(alloc: Global, event: &Event) -> Result<Event, AllocError>
     ensures { IfOk result (λ copy. copy ≡ event.now) }
 {
@@ -32,7 +32,7 @@ fn copy_kind(alloc: Global, kind: &EventKind) -> Result<EventKind, AllocError>
     }
 }
 
-/// The same change once more, with the bytes shared.
+/// A copy of the change, with the bytes shared.
 pub(crate) fn copy_change(alloc: Global, change: &Change) -> Result<Change, AllocError>
     ensures { IfOk result (λ copy. copy ≡ change.now) }
 {

@@ -26,5 +26,5 @@ pub fn sheets_cross_threads() {
     cross::<Sheet>()
 }
 
-// What can be handed to another thread, and lent to several at once.
+/// What can be handed to another thread, and lent to several at once.
 fn cross<T: Send + Sync>() {}

@@ -49,7 +49,7 @@ module _ {K X : Type 0} {R : K → K → Ordering} (total : IsTotalOrder R) wher
   pub entries_there : (m : FinMap R X) → AllByRecursion (λ e. get m e.0 ≡ Some e.1) (entries m)
   entries_there m = each_at m (entries m) (each_found (entries m) (entries_sorted m))
 
--- the same of the part of a map whose keys pass a test
+-- each entry of the part of a map whose keys pass a test is what the map has at its key
 module _ {K X : Type 0} {R : K → K → Ordering} (total : IsTotalOrder R) (exact : IsAntisymmetric R) (m : FinMap R X) (p : K → Bool) where
   in_whole : (q : K) (v : X) → get (retain_keys m p) q ≡ Some v → get m q ≡ Some v
   in_whole q v h = cases (p q) (sym (get-retain_keys m p q (λ x tied. ap p (sym (exact q x tied)))) ∙ h) where

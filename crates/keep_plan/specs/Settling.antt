@@ -34,7 +34,7 @@ under_name file = (file.name, file)
 abbrev pub absent_of : Repository → List NamedBytes → List (FileName × NamedBytes)
 absent_of r files = map under_name (filter (λ file. not (is_there r file.name)) files)
 
--- the same by name, and of files of one name the first
+-- those of the files that the repository hasn't, by name, and of files of one name the first
 abbrev pub absent_files : Repository → List NamedBytes → List NamedBytes
 absent_files r files = map (λ e. e.1) (finite.entries (finite.from_entries {R = name_cmp} (absent_of r files)))
 

@@ -71,7 +71,7 @@ impl Filter {
         Ok(taken)
     }
 
-    // Puts the facts of the snapshot there, if the filter takes it.
+    /// Puts the facts of the snapshot there, if the filter takes it.
     fn take_one(
         &self,
         alloc: Global,

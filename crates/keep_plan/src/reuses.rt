@@ -46,7 +46,7 @@ impl Reuses {
     }
 }
 
-// The files that such a use rests on.
+/// The files that such a use rests on.
 fn files_used(pack: Id, index: Id) -> (FileName, FileName)
     ensures { result.0 ∷ result.1 ∷ [] ≡ spec.files_used (pack, index) }
 {

@@ -40,7 +40,7 @@ pub fn settle_files(
     files_in(alloc, adds)
 }
 
-/// The same of files that are all to be new: none, if the repository has one of them, or two have one name.
+/// The files by name, where all are to be new: none, if the repository has one of them, or two have one name.
 pub fn settle_new(
     alloc: Global,
     repo: &Repo,
@@ -68,7 +68,7 @@ fn files_in(
     files.into_iter().map(|(_, file)| file).collect(alloc)
 }
 
-// The same of one file. Of two files of one name the first is added.
+/// Adds a file that the repository hasn't, and no second one of its name. Else its name has to be present.
 fn settle_file(
     repo: &Repo,
     adds: &mut BTreeMap<FileName, StoredFile>,
@@ -93,8 +93,8 @@ fn settle_file(
     Ok(())
 }
 
-// The marks on the packs among the files, by pack. The other packs are put among those that must not be
-// marked.
+/// The marks on the packs among the files, by pack. The other packs are put among those that must not be
+/// marked.
 pub(crate) fn settle_marks(
     alloc: Global,
     repo: &Repo,
@@ -124,7 +124,7 @@ fn marks_in(alloc: Global, marks: BTreeMap<Id, Mark>) -> Result<Vec<PackMark>, A
         .collect(alloc)
 }
 
-// The packs among the files.
+/// The packs among the files.
 fn packs_in(alloc: Global, files: &[StoredFile]) -> Result<Vec<Id>, AllocError>
     ensures { IfOk result (λ packs. packs.items ≡ packs_among files.now) }
 {
@@ -136,7 +136,7 @@ fn packs_in(alloc: Global, files: &[StoredFile]) -> Result<Vec<Id>, AllocError>
         .collect(alloc)
 }
 
-// The same of one pack.
+/// Puts the pack's mark among those to clear, or the pack among those that must not be marked.
 fn settle_mark(
     repo: &Repo,
     clears: &mut BTreeMap<Id, Mark>,
@@ -161,7 +161,7 @@ fn settle_mark(
     }
 }
 
-// Names in order.
+/// Names in order.
 pub(crate) fn names_in(
     alloc: Global,
     names: BTreeSet<FileName>,
@@ -172,7 +172,7 @@ pub(crate) fn names_in(
     names.into_iter().collect(alloc)
 }
 
-// Packs in order.
+/// Packs in order.
 pub(crate) fn ids_in(alloc: Global, ids: BTreeSet<Id>) -> Result<Vec<Id>, AllocError>
     ensures ids { IfOk result (λ listed. listed.items ≡ ids.keys) }
     ensures ordered { bag.IsOrdered id_cmp ids }

@@ -29,7 +29,7 @@ pub fn selections_of_books_are_sound()
     selections_are_sound();
 }
 
-/// None does in the book as it is.
+/// In a sound book as it is, no snapshot misses a blob.
 pub fn books_are_sound()
     ensures { BooksAreSound }
 {

@@ -13,7 +13,7 @@ pub(crate) fn answer(alloc: Global, line: &str) -> Result<String, No> {
     }
 }
 
-// A case whose text is written in hex.
+/// A case whose text is written in hex.
 fn answer_digits(alloc: Global, text: &str) -> Result<String, No> {
     let (word, digits) = cut(text);
     let text = text_in(alloc, digits)?;

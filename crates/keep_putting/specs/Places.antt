@@ -9,7 +9,7 @@ use Rattle.keep_tree.specs.Names.{is_name}
 use Rattle.keep_putting.specs.Folders.{Folders}
 use Rattle.keep_putting.specs.declared.wanted.Wanted.{Wanted}
 
--- the same, but for this one
+-- the places of the folders, with this place at the path
 abbrev pub placed : Folders → List ℕ → List ℕ → Folders
 placed folders path place = update bytes_eq folders path (Some place)
 

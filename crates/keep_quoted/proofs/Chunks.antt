@@ -63,7 +63,7 @@ pub quoted_empty : (bs : List ℕ) → length bs ≡ 0 → quoted bs ≡ []
 unfolding quoted
 quoted_empty bs none = ap quoted (nil_from_length bs none) ∙ rw chars-nil
 
--- the same of a chunk of `utf8_chunks`, which cuts bs into valid, invalid and rest
+-- other bytes by a chunk of `utf8_chunks`, which cuts bs into valid, invalid and rest
 some_invalid : (bs valid invalid rest : List ℕ) → bs ≡ valid ++ (invalid ++ rest) → length valid ≡ utf8_valid_len bs
     → length invalid ≡ utf8_invalid_len (drop (utf8_valid_len bs) bs) → 0 < length invalid
     → quoted bs ≡ text_quoted valid ++ (bytes_quoted invalid ++ quoted rest)

@@ -26,7 +26,7 @@ one_piece c text piece is =
     ap (option_and_then (λ (p : Piece). before (bytes_of p.0) (unquoted_behind p.1 text))) is
     ∙ ap (before (bytes_of piece.0)) (unquoted-drop piece.1 text)
 
--- the same behind bytes that were found
+-- behind bytes that were found, a text gives what its first piece gives, before what is behind that
 pub one_more : (bytes rest text : List ℕ) (c : ℕ) (behind : List ℕ) (piece : Piece) → rest ≡ c ∷ behind → piece_at c behind ≡ Some piece
     → before bytes (unquoted rest) ≡ unquoted text → before (bytes ++ bytes_of piece.0) (unquoted (drop piece.1 behind)) ≡ unquoted text
 one_more bytes rest text c behind piece split is so_far =

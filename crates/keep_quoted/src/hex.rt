@@ -36,7 +36,7 @@ fn push_pair(text: &mut String, byte: u8) -> Result<(), AllocError>
     push_ascii(text, digit(byte % 16))
 }
 
-// The digit of a number below 16.
+/// The digit of a number below 16.
 fn digit(number: u8) -> char
     requires { number < 16 }
     ensures value { result ≡ digit_char number }

@@ -22,7 +22,7 @@ pub(crate) fn piece_at(first: u8, behind: &[u8]) -> Option<(Meaning, usize)>
     }
 }
 
-// What stands behind a backslash.
+/// What stands behind a backslash.
 fn escape_piece(text: &[u8]) -> Option<(Meaning, usize)>
     ensures value { result ≡ spec.escape_piece text.now }
     ensures within { IfSome result (λ piece. piece.1 ≤ length text.now) }
@@ -37,7 +37,7 @@ fn escape_piece(text: &[u8]) -> Option<(Meaning, usize)>
     }
 }
 
-// The byte with a number.
+/// The byte with a number.
 fn byte_piece(more: usize, number: u32) -> Option<(Meaning, usize)>
     ensures value { result ≡ spec.byte_piece more number }
     ensures more { IfSome result (λ piece. piece.1 ≡ more) }
@@ -46,7 +46,7 @@ fn byte_piece(more: usize, number: u32) -> Option<(Meaning, usize)>
     Some((Meaning::Byte(byte), more))
 }
 
-// The character with a number.
+/// The character with a number.
 fn letter_piece(more: usize, number: u32) -> Option<(Meaning, usize)>
     ensures value { result ≡ spec.letter_piece more number }
     ensures more { IfSome result (λ piece. piece.1 ≡ more) }
@@ -63,7 +63,7 @@ fn named_piece(letter: u8) -> Option<(Meaning, usize)>
     Some((Meaning::Byte(byte), 1))
 }
 
-// The number that so many hex digits write with which a text begins.
+/// The number that so many hex digits write with which a text begins.
 fn front_number(text: &[u8], count: usize) -> Option<u32>
     requires { count ≤ 8 }
     ensures value { result ≡ spec.front_number 16 count text.now }
@@ -86,7 +86,7 @@ fn hex_number(digits: &[u8]) -> Option<u32>
     Some(value)
 }
 
-// The number that three octal digits write with which a text begins.
+/// The number that three octal digits write with which a text begins.
 fn octal_number(text: &[u8]) -> Option<u32>
     ensures value { result ≡ spec.front_number 8 3 text.now }
     ensures within { IfSome result (λ _. 3 ≤ length text.now) }

@@ -49,7 +49,7 @@ fn push_letter(text: &mut String, letter: char) -> Result<(), AllocError>
     push_number(text, letter as u32)
 }
 
-// Writes a character by its number.
+/// Writes a character by its number.
 fn push_number(text: &mut String, number: u32) -> Result<(), AllocError>
     ensures { OnOk result (string_bytes text.new ≡ string_bytes text.old ++ number_escape number) }
 {

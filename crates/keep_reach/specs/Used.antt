@@ -23,12 +23,12 @@ abbrev pub reached_from : Naming → ℕ → BlobId → List BlobId
 reached_from named zero blob = if has_type_tree blob.blob_type then [] else blob ∷ []
 reached_from named (suc levels) blob = blob ∷ flat_map (reached_from named levels) (names_or_none named blob)
 
--- the same from the root of a snapshot; nothing where it isn't there or can't be read
+-- the blobs that are reached from the root of a snapshot; none where it isn't there or can't be read
 abbrev pub reached_by : Repository → Id → List BlobId
 reached_by r snapshot =
     option_map_or (λ snap. reached_from (named_by r) most_levels (root_of snap)) (snap_in r snapshot) []
 
--- the same of all snapshots that can be read
+-- the blobs that are reached from all snapshots that can be read, each as often as it is come to
 abbrev pub reached_in : Repository → List BlobId
 reached_in r = flat_map (reached_by r) (finite.keys (snaps_in r))
 

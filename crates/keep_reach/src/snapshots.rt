@@ -78,7 +78,7 @@ pub fn broken(alloc: Global, catalog: &Catalog) -> Result<Vec<(Id, ReachError)>,
     broken_among(alloc, catalog, catalog.snaps())
 }
 
-// Those of these snapshots that have a refusal, by name.
+/// Those of these snapshots that have a refusal, by name.
 fn broken_among(
     alloc: Global,
     catalog: &Catalog,
@@ -96,21 +96,21 @@ fn broken_among(
     Ok(broken)
 }
 
-// The root tree of a snapshot.
+/// The root tree of a snapshot.
 fn root(snap: &Snap) -> BlobId
     ensures { result ≡ root_of (snap_view snap.now) }
 {
     BlobId::tree(snap.tree)
 }
 
-// The names of snapshots, in order.
+/// The names of snapshots, in order.
 fn snapshot_names(alloc: Global, snaps: &BTreeMap<Id, Snap>) -> Result<Vec<Id>, AllocError>
     ensures { IfOk result (λ names. names.items ≡ tree.keys snaps.now) }
 {
     snaps.keys().copied().collect(alloc)
 }
 
-// The root trees of those of the snapshots that there are.
+/// The root trees of those of the snapshots that there are.
 fn roots(
     alloc: Global,
     snaps: &BTreeMap<Id, Snap>,
@@ -126,7 +126,7 @@ fn roots(
     Ok(roots)
 }
 
-// Adds the root tree of a snapshot, if there is one.
+/// Adds the root tree of a snapshot, if there is one.
 fn add_root(
     roots: &mut Vec<BlobId>,
     snaps: &BTreeMap<Id, Snap>,
@@ -141,7 +141,7 @@ fn add_root(
     Ok(())
 }
 
-// The first refusal from this root, after others were walked.
+/// The first refusal from this root, after others were walked.
 fn refusal(
     alloc: Global,
     catalog: &Catalog,
@@ -159,7 +159,7 @@ fn refusal(
     }
 }
 
-// Adds a snapshot that has a refusal.
+/// Adds a snapshot that has a refusal.
 fn note_broken(
     broken: &mut Vec<(Id, ReachError)>,
     name: Id,

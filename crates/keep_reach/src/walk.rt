@@ -18,7 +18,7 @@ pub fn levels() -> u16
     256
 }
 
-// Walks over what the blob reaches, with this many levels of trees left, and tells its height.
+/// Walks over what the blob reaches, with this many levels of trees left, and tells its height.
 #[cycle(walking)]
 pub(crate) fn walk(
     alloc: Global,
@@ -71,7 +71,7 @@ pub(crate) fn walk(
     }
 }
 
-// The same of each of the blobs, in their order, and their greatest height.
+/// Walks over what each of the blobs reaches, in their order, and tells their greatest height.
 #[cycle(walking)]
 pub(crate) fn walk_all(
     alloc: Global,

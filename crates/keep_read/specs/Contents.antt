@@ -47,7 +47,7 @@ contents_in r below (dir subtree) = below subtree
 contents_in r below (file content) = ([], Some (joined r content)) ∷ []
 contents_in r below (other type_name) = ([], None) ∷ []
 
--- the same, by the path from the folder: `/`, the node's name, and on from there
+-- what a node has at and below itself, by the path from the folder: `/`, the node's name, and on from there
 abbrev pub contents_of : Repository → (Id → List ContentData) → NodeData → List ContentData
 contents_of r below node = map (under (codes "/" ++ node.name)) (contents_in r below node.kind)
 

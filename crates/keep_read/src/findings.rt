@@ -29,7 +29,7 @@ pub fn audit(alloc: Global, view: &View) -> Result<Vec<Finding>, AllocError>
     Ok(findings)
 }
 
-// The files whose bytes have another SHA-256.
+/// The files whose bytes have another SHA-256.
 fn wrong_names(alloc: Global, repo: &Repo) -> Result<Vec<Finding>, AllocError>
     ensures { IfOk result (λ findings. findings.items ≡ map WrongName (misnamed_in repo.now)) }
 {
@@ -41,7 +41,7 @@ fn wrong_names(alloc: Global, repo: &Repo) -> Result<Vec<Finding>, AllocError>
         .collect(alloc)
 }
 
-// Whether the file is there and its bytes have another SHA-256.
+/// Whether the file is there and its bytes have another SHA-256.
 fn is_misnamed(repo: &Repo, name: FileName) -> bool
     ensures { result ≡ spec.is_misnamed repo.now name }
 {

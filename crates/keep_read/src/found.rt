@@ -11,7 +11,7 @@ use keep_reach::Reached;
 use keep_tree::Node;
 use std::alloc::{AllocError, Global};
 
-// The nodes of a tree that was found.
+/// The nodes of a tree that was found.
 pub(crate) fn nodes_in(
     alloc: Global,
     catalog: &Catalog,
@@ -41,7 +41,7 @@ fn is_memory(why: ReachError) -> bool
     matches!(why, ReachError::Memory)
 }
 
-// The pieces of a file, joined in their order.
+/// The pieces of a file, joined in their order.
 #[tactic(auto, unfolding(crate::specs::Contents::joined))]
 pub(crate) fn joined(
     alloc: Global,
@@ -59,7 +59,7 @@ pub(crate) fn joined(
     Ok(joined)
 }
 
-// The bytes of a piece that was found.
+/// The bytes of a piece that was found.
 fn piece_bytes<'a>(catalog: &'a Catalog, reached: &Reached, piece: Id) -> &'a [u8]
     requires { IsPlaced catalog.now reached.now (piece_of piece) }
     ensures { result.now ≡ spec.piece_bytes catalog.entry.now piece }
@@ -67,7 +67,7 @@ fn piece_bytes<'a>(catalog: &'a Catalog, reached: &Reached, piece: Id) -> &'a [u
     bytes_of(catalog, reached, BlobId::content(piece)).unwrap_or(&[])
 }
 
-// The bytes of a blob that was found.
+/// The bytes of a blob that was found.
 fn bytes_of<'a>(catalog: &'a Catalog, reached: &Reached, blob: BlobId) -> Option<&'a [u8]>
     requires { IsPlaced catalog.now reached.now blob }
     ensures { option_map (λ bytes. bytes.now) result ≡ spec.bytes_of catalog.entry.now blob }

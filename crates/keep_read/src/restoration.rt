@@ -43,7 +43,7 @@ pub fn restore(alloc: Global, view: &View, snapshot: Id) -> Result<Restored, Res
     Ok(restored)
 }
 
-// The tree of the snapshot's root, if the snapshot can be read.
+/// The tree of the snapshot's root, if the snapshot can be read.
 fn root_in(catalog: &Catalog, snapshot: Id) -> Option<Id>
     ensures { result ≡ option_map (λ snap. snap.tree) (snap_in catalog.now snapshot) }
 {
@@ -51,7 +51,7 @@ fn root_in(catalog: &Catalog, snapshot: Id) -> Option<Id>
     Some(snap.tree)
 }
 
-// Why the snapshot can't be read.
+/// Why the snapshot can't be read.
 fn why_unread(alloc: Global, repo: &Repo, snapshot: Id) -> RestoreError
     requires { snap_in repo.now snapshot ≡ None }
     ensures { result ≢ Reach Memory → restored repo.now snapshot ≡ Err result }

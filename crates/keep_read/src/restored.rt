@@ -15,7 +15,7 @@ pub struct Restored {
     pub skipped: u64,
 }
 
-// The files among the contents of a tree, and how many of them are none.
+/// The files among the contents of a tree, and how many of them are none.
 pub(crate) fn restored_of(alloc: Global, mut contents: Vec<Content>) -> Result<Restored, AllocError>
     ensures { IfOk result (λ restored.
         restored_view restored ≡ restored_of (map content_view contents.items)) }
@@ -30,7 +30,7 @@ pub(crate) fn restored_of(alloc: Global, mut contents: Vec<Content>) -> Result<R
     Ok(Restored { files, skipped })
 }
 
-// How many of these are no files.
+/// How many of these are no files.
 fn skipped_among(contents: &[Content]) -> u64
     ensures { result ≡ count_by (λ content. is_none content.bytes) contents.now }
 {

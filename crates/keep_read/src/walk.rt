@@ -17,14 +17,14 @@ use keep_tree::{Node, NodeKind};
 use std::alloc::{AllocError, Global};
 use std::collections::BTreeSet;
 
-// What a walk has come by: what stands at the paths, and trees below which nothing stands.
+/// What a walk has come by: what stands at the paths, and trees below which nothing stands.
 #[derive(Drop)]
 struct Walked {
     contents: Vec<Content>,
     bare: BTreeSet<Id>,
 }
 
-// A walk over the trees of a catalog, whose blobs were found where they were reached.
+/// A walk over the trees of a catalog, whose blobs were found where they were reached.
 #[derive(Clone, Copy)]
 struct Walk<'a> {
     alloc: Global,
@@ -32,7 +32,7 @@ struct Walk<'a> {
     reached: &'a Reached,
 }
 
-// What stands below the tree, which isn't refused.
+/// What stands below the tree, which isn't refused.
 pub(crate) fn contents_of(
     alloc: Global,
     catalog: &Catalog,
@@ -59,7 +59,7 @@ pub(crate) fn contents_of(
 }
 
 impl Walk<'_> {
-    // Adds what stands below the tree at this path. A tree below which nothing stands is walked once.
+    /// Adds what stands below the tree at this path. A tree below which nothing stands is walked once.
     #[cycle(walking)]
     fn add_tree(
         &self,
@@ -90,7 +90,7 @@ impl Walk<'_> {
         Ok(())
     }
 
-    // Adds what the node is, at its name below the path, and what stands below it.
+    /// Adds what the node is, at its name below the path, and what stands below it.
     #[cycle(walking)]
     fn add_node(
         &self,
@@ -122,14 +122,14 @@ impl Walk<'_> {
     }
 }
 
-// The path of what has this name in the folder of this path.
+/// The path of what has this name in the folder of this path.
 fn path_below(alloc: Global, path: &str, name: &str) -> Result<String, AllocError>
     ensures { IfOk result (λ below. string_bytes below ≡ path.now ++ (codes "/" ++ name.now)) }
 {
     format!(in alloc; "{path}/{name}")
 }
 
-// Adds what stands at a path.
+/// Adds what stands at a path.
 fn add(contents: &mut Vec<Content>, path: String, bytes: Option<Vec<u8>>) -> Result<(), AllocError>
     ensures { OnOk result (map content_view contents.new.items
         ≡ map content_view contents.old.items ++ content_view (record { path = path; bytes = bytes }) ∷ []) }

@@ -36,7 +36,7 @@ is_misfit f top j e = nat_le e.number top || (is_told f e && not (fits_by j e.nu
 abbrev pub is_wrong : ℕ → ℕ → Journal → Leaf → Bool
 is_wrong f top j leaf = option_map_or (is_misfit f top j) leaf.event true
 
--- the same after these entries
+-- whether something is wrong with the leaf that comes after these entries
 abbrev pub is_bad : ℕ → List the_entry.Entry → Leaf → Bool
 is_bad f before leaf = is_wrong f (final_number (all_of before)) (told_by f before) leaf
 
@@ -47,7 +47,7 @@ first_bad_after f before (leaf ∷ leaves) =
     if is_bad f before leaf then Some leaf.at
     else first_bad_after f (before ++ entries_of (leaf ∷ [])) leaves
 
--- the same of all leaves: what is told depends on the last emptying that can be read
+-- the number of the first bad leaf of all: what is told depends on the last emptying that can be read
 abbrev pub first_bad : List Leaf → Option ℕ
 first_bad leaves = first_bad_after (final_number (all_of (entries_of leaves))) [] leaves
 

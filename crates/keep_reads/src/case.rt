@@ -14,7 +14,7 @@ pub(crate) fn answer(alloc: Global, line: &str) -> Result<String, No> {
     }
 }
 
-// A case whose bytes are written in hex.
+/// A case whose bytes are written in hex.
 fn answer_digits(alloc: Global, text: &str) -> Result<String, No> {
     let (word, digits) = cut(text);
     let bytes = bytes_in(alloc, digits)?;
@@ -50,7 +50,7 @@ fn answer_text(alloc: Global, word: &str, text: &str) -> Result<String, No> {
     }
 }
 
-// A case of several parts.
+/// A case of several parts.
 fn answer_parts(alloc: Global, word: &str, text: &str) -> Result<String, No> {
     match word {
         "nodes" => trees::nodes(alloc, text),

@@ -49,7 +49,7 @@ pub(crate) fn build(alloc: Global, text: &str) -> Result<String, No> {
     Ok(hex::encode(alloc, pack)?)
 }
 
-// A blob of at most 1,000 bytes under its name.
+/// A blob of at most 1,000 bytes under its name.
 fn blob(alloc: Global, kind: &str, digits: &str) -> Result<(BlobId, Vec<u8>), No>
     ensures id { IfOk result (λ made. made.0.id.0 ≡ sha256 made.1.items) }
     ensures short { IfOk result (λ made. length made.1.items < 2 ^ 32) }

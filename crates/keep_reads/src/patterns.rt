@@ -73,7 +73,7 @@ fn files_in(alloc: Global, names: &str) -> Result<Vec<Node>, AllocError> {
     Ok(nodes)
 }
 
-// The names as a path has them.
+/// The names as a path has them.
 fn names_of(alloc: Global, nodes: &[Node]) -> Result<String, AllocError> {
     let mut names = String::new(alloc);
     for node in nodes {

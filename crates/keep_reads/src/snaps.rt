@@ -67,7 +67,7 @@ fn told(alloc: Global, facts: &SnapFacts) -> Result<String, No> {
     )?)
 }
 
-// Each text between brackets.
+/// Each text between brackets.
 fn listed(alloc: Global, texts: &[String]) -> Result<String, AllocError> {
     let mut told = String::new(alloc);
     for text in texts {

@@ -82,7 +82,7 @@ module _ (rules : List Rule) (opening : LedgerState) (request : Request) (on now
     counted = ap length written;
   }
 
-  -- the same of a ledger that says what those events leave, and of vetoes that are these
+  -- a request is recorded where the ledger says what those events leave, and the vetoes are these
   pub recorded : (b : LedgerState) → b ≡ state_of opening on → (vetoes : List Rule) → vetoes ≡ rules
       → (answer : Result Told Refusal) → (answer ≢ Err Fault → Replies b vetoes request (heard b request answer))
       → after ≡ state_after b request (heard b request answer)

@@ -89,7 +89,7 @@ impl Absorb<Step> for Page {
 
     ghost applied = { page_after };
 
-    // The page can follow each event that the book accepts: it is refused for want of memory alone.
+    /// The page can follow each event that the book accepts: it is refused for want of memory alone.
     fn absorb_first(&mut self, step: &Step, _other: &Page) -> Result<(), AllocError> {
         if !self.sheet.can_follow(&step.event) {
             return Err(AllocError);

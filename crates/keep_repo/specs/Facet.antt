@@ -17,7 +17,7 @@ use Rattle.keep_repo.specs.contracts.facet.FacetOrd.TheImpl as the_facet_order
 abbrev pub facet_cmp : Facet → Facet → Ordering
 facet_cmp = (the_facet_order.ghosts).cmp
 
--- the same in plain words
+-- the order of facets in plain words
 pub record FacetsAreOrdered : Type 0 where
   pub files_first : (name : FileName) (pack : Id) → facet_cmp (File name) (Mark pack) ≡ Less
   pub files_by_name : (a b : FileName) → facet_cmp (File a) (File b) ≡ name_cmp a b

@@ -12,7 +12,7 @@ use Rattle.keep_names.specs.declared.id.Id.{Id}
 abbrev pub by_id : List (Id × List ℕ) → FinMap id_cmp (List ℕ)
 by_id files = from_entries files
 
--- the same by name
+-- the files of one kind, by name
 abbrev pub of_kind : Kind → List (Id × List ℕ) → List (FileName × List ℕ)
 of_kind kind files = map (λ e. (named kind e.0, e.1)) files
 

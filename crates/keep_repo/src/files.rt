@@ -11,8 +11,8 @@ use keep_names::{FileName, Id, Kind};
 use std::alloc::{AllocError, Global};
 use std::marker::Model;
 
-// Files' bytes by name. A file is found by its id's hash, in about the same time however many there are. Those of each
-// kind stand apart, so that the ids of one are found without the others; they are sorted when they are asked for.
+/// Files' bytes by name. A file is found by its id's hash, in about the same time however many there are. Those of each
+/// kind stand apart, so that the ids of one are found without the others; they are sorted when they are asked for.
 pub(crate) struct Files {
     alloc: Global,
     packs: IndexMap<Id, Bytes>,
@@ -76,7 +76,7 @@ impl Files {
         self.packs.len() + self.indexes.len() + self.snapshots.len()
     }
 
-    // Puts the bytes there, in the place of those that are.
+    /// Puts the bytes there, in the place of those that are.
     pub(crate) fn insert(&mut self, name: FileName, bytes: Bytes) -> Result<(), AllocError>
         ensures ok { OnOk result (self.new ≡ map.insert self.old name bytes) }
         ensures err { OnErr result (self.new ≡ self.old) }
@@ -101,7 +101,7 @@ impl Files {
         }
     }
 
-    // The ids of the files of this kind, in order.
+    /// The ids of the files of this kind, in order.
     pub(crate) fn ids(&self, kind: Kind) -> Result<Vec<Id>, AllocError>
         ensures { IfOk result (λ ids. ids.items ≡ ids_among kind (map.keys self.now)) }
     {
@@ -112,7 +112,7 @@ impl Files {
         }
     }
 
-    // The names of the files, in order.
+    /// The names of the files, in order.
     pub(crate) fn names(&self) -> Result<Vec<FileName>, AllocError>
         ensures { IfOk result (λ names. names.items ≡ map.keys self.now) }
     {
@@ -122,7 +122,7 @@ impl Files {
         Ok(names)
     }
 
-    // The same files, apart from these. The bytes are shared.
+    /// A copy of the files, which shares their bytes.
     pub(crate) fn copy(&self) -> Result<Files, AllocError>
         ensures { IfOk result (λ made. made ≡ self.now) }
     {
@@ -143,7 +143,7 @@ impl Files {
     }
 }
 
-// The ids under which there is something, in order.
+/// The ids under which there is something, in order.
 fn sorted(alloc: Global, files: &IndexMap<Id, Bytes>) -> Result<Vec<Id>, AllocError>
     ensures { IfOk result (λ ids. ids.items ≡ map.keys (by_id files.now.entries)) }
 {
@@ -152,7 +152,7 @@ fn sorted(alloc: Global, files: &IndexMap<Id, Bytes>) -> Result<Vec<Id>, AllocEr
     Ok(ids)
 }
 
-// The names of these files of the kind, in order.
+/// The names of these files of the kind, in order.
 fn named(
     alloc: Global,
     kind: Kind,
@@ -166,7 +166,7 @@ fn named(
         .collect(alloc)
 }
 
-// Puts the bytes under the id, in the place of those that are.
+/// Puts the bytes under the id, in the place of those that are.
 fn put(files: &mut IndexMap<Id, Bytes>, id: Id, bytes: Bytes) -> Result<(), AllocError>
     ensures ok { OnOk result (by_id files.new.entries ≡ map.insert (by_id files.old.entries) id bytes) }
     ensures err { OnErr result (files.new.entries ≡ files.old.entries) }
@@ -175,8 +175,8 @@ fn put(files: &mut IndexMap<Id, Bytes>, id: Id, bytes: Bytes) -> Result<(), Allo
     Ok(())
 }
 
-// Takes away what is under the id. Where fewer than a quarter of the places are in use then, it gives back memory: at
-// least twice as many as are in use stay, so that taking one by one takes the same time for each on average.
+/// Takes away what is under the id. Where fewer than a quarter of the places are in use then, it gives back memory: at
+/// least twice as many as are in use stay, so that taking one by one takes the same time for each on average.
 fn take(files: &mut IndexMap<Id, Bytes>, id: Id)
     ensures { by_id files.new.entries ≡ map.remove (by_id files.old.entries) id }
 {

@@ -88,7 +88,7 @@ pub some_level : (named : Naming) (levels : ℕ) (tree : Id) → refusal_at name
 some_level named zero tree had = cc had
 some_level named (suc levels) tree had = omega arith
 
--- the same for any number of levels
+-- a tree that is had with any number of levels has the nodes that are read of it
 pub nodes_of_had : (r : Repository) (n : ℕ) (tree : Id) → refusal_at (named_by r) n (tree_at tree) ≡ None → nodes_under r tree ≡ Ok (nodes_in r tree)
 nodes_of_had r zero tree had = cc had
 nodes_of_had r (suc levels) tree had = nodes_had r levels tree had

@@ -50,7 +50,7 @@ module _ (r : Repository) (patterns : List PatternData) where
     trees_so = λ levels had at leaves b h. kept b (known.trees_so levels had at leaves b h);
   }
 
-  -- the same is remembered, and no finished tree is lost
+  -- what is remembered stays, and no finished tree is lost
   pub more_right : (old new : Walked) → new.left ≡ old.left → ((b : BlobData) → HasBlobData (trees_of old) b → HasBlobData (trees_of new) b) → IsRight r patterns old → IsRight r patterns new
   more_right old new same kept right = record {
     each = λ asked left is. more_known old new kept asked left (right.each asked left (sym (ap (λ m. tree.get asked_cmp m asked) same) ∙ is));

@@ -92,14 +92,14 @@ change_of r forget stored retreed adds = record {
   strict = false;
 }
 
--- the same, unless one of the new snapshots is there already, or two are the same, or there is none
+-- the change that rewrites, unless one of the new snapshots is there already, or two are the same, or there is none
 abbrev pub rewriting : Repository → Bool → List Retreed → Stored → Result Change PlanError
 rewriting r forget retreed stored =
     if is_any_taken r (new_files r forget retreed) then Err SnapshotThere
     else (if is_nil retreed then Err NothingToDo
     else Ok (change_of r forget stored retreed (absent_files r (new_files r forget retreed))))
 
--- the same of what is stored, or why nothing is
+-- the change that rewrites, by what is stored, or why nothing is
 abbrev pub rewriting_of : Repository → Bool → List Retreed → Result Stored PlanError → Result Change PlanError
 rewriting_of r forget retreed (Ok stored) = rewriting r forget retreed stored
 rewriting_of r forget retreed (Err why) = Err why

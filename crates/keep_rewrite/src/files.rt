@@ -43,7 +43,7 @@ impl Rewritten {
         Ok(change)
     }
 
-    // The files of the new snapshots, if there are any and none of them is there.
+    /// The files of the new snapshots, if there are any and none of them is there.
     fn adds(
         &self,
         alloc: Global,
@@ -65,7 +65,7 @@ impl Rewritten {
         Ok(adds)
     }
 
-    // The change that stores this and adds these files of new snapshots.
+    /// The change that stores this and adds these files of new snapshots.
     fn storing(
         &self,
         alloc: Global,
@@ -88,7 +88,7 @@ impl Rewritten {
         Ok(change)
     }
 
-    // The files of the snapshots with the trees that are left.
+    /// The files of the snapshots with the trees that are left.
     fn new_files(&self, alloc: Global, catalog: &Catalog) -> Result<Vec<StoredFile>, AllocError>
         ensures { IfOk result (λ files. files.items
             ≡ spec.new_files catalog.now self.now.forget self.now.retreed.items) }
@@ -100,7 +100,7 @@ impl Rewritten {
         Ok(files)
     }
 
-    // Puts the new file behind the files, if there is the old snapshot.
+    /// Puts the new file behind the files, if there is the old snapshot.
     fn put_new(
         &self,
         alloc: Global,
@@ -119,7 +119,7 @@ impl Rewritten {
         Ok(())
     }
 
-    // The files of the old snapshots, where they are forgotten.
+    /// The files of the old snapshots, where they are forgotten.
     fn dropped_files(&self, alloc: Global, repo: &Repo) -> Result<Vec<StoredFile>, AllocError>
         ensures { IfOk result (λ files. files.items
             ≡ (if self.now.forget then spec.old_files repo.now self.now.retreed.items else [])) }
@@ -130,7 +130,7 @@ impl Rewritten {
         old_files(alloc, repo, &self.retreed)
     }
 
-    // These names, and behind them those of the old snapshots, where they stay.
+    /// These names, and behind them those of the old snapshots, where they stay.
     fn present_names(&self, present: Vec<FileName>) -> Result<Vec<FileName>, AllocError>
         ensures { IfOk result (λ names. names.items
             ≡ (if self.now.forget then present.items else present.items ++ spec.old_names self.now.retreed.items)) }
@@ -146,7 +146,7 @@ impl Rewritten {
     }
 }
 
-// The file of the snapshot with another tree.
+/// The file of the snapshot with another tree.
 #[tactic(auto, unfolding(crate::specs::Rewriting::retreed_file))]
 fn retreed_file(
     alloc: Global,
@@ -162,7 +162,7 @@ fn retreed_file(
     StoredFile::of(alloc, Kind::Snapshot, text)
 }
 
-// The files of the old snapshots.
+/// The files of the old snapshots.
 fn old_files(
     alloc: Global,
     repo: &Repo,
@@ -177,7 +177,7 @@ fn old_files(
     Ok(files)
 }
 
-// Puts the file of the snapshot behind the files, if it is there.
+/// Puts the file of the snapshot behind the files, if it is there.
 fn put_old(repo: &Repo, new: (Id, Id), files: &mut Vec<StoredFile>) -> Result<(), AllocError>
     ensures { OnOk result (files.new.items ≡ files.old.items ++ option_to_list (spec.old_file repo.now new)) }
 {
@@ -189,7 +189,7 @@ fn put_old(repo: &Repo, new: (Id, Id), files: &mut Vec<StoredFile>) -> Result<()
     Ok(())
 }
 
-// The first files, and then the others.
+/// The first files, and then the others.
 fn joined(first: Vec<StoredFile>, others: Vec<StoredFile>) -> Result<Vec<StoredFile>, AllocError>
     ensures { IfOk result (λ files. files.items ≡ first.items ++ others.items) }
 {

@@ -59,7 +59,7 @@ pub fn plan_rewrite(
     plan_of(&walk, view, forget, &taken)
 }
 
-// The catalog, if each pack, index and snapshot can be read.
+/// The catalog, if each pack, index and snapshot can be read.
 fn catalog<'a>(alloc: Global, view: &View<'a>) -> Result<Catalog<'a>, PlanError>
     ensures catalog { IfOk result (λ catalog. catalog ≡ view.now.repo) }
     ensures all_read { IfOk result (λ _. unread_first view.now.repo ≡ None) }
@@ -69,7 +69,7 @@ fn catalog<'a>(alloc: Global, view: &View<'a>) -> Result<Catalog<'a>, PlanError>
     Ok(catalog)
 }
 
-// Nothing, if all that the snapshots reach can be had.
+/// Nothing, if all that the snapshots reach can be had.
 fn ask_reach(alloc: Global, catalog: &Catalog, taken: &[SnapFacts]) -> Result<(), PlanError>
     ensures had { OnOk result (refusals_of catalog.now (map (λ s. s.name) (map facts_view taken.now)) ≡ []) }
     ensures refused { IfErr result (λ error. error ≢ the_error.Memory
@@ -90,7 +90,7 @@ fn names_of(alloc: Global, taken: &[SnapFacts]) -> Result<Vec<Id>, AllocError>
     Ok(names)
 }
 
-// The change where these snapshots are taken, by the walk over their trees.
+/// The change where these snapshots are taken, by the walk over their trees.
 fn plan_of(
     walk: &Walk,
     view: &View,
@@ -116,7 +116,7 @@ fn plan_of(
     })
 }
 
-// What is stored of trees.
+/// What is stored of trees.
 fn stored_trees(
     alloc: Global,
     view: &View,

@@ -44,7 +44,7 @@ pub(crate) fn retreed(
     Ok((retreed, finished))
 }
 
-// Puts the name of the snapshot and the tree that is left behind the others, if something goes.
+/// Puts the name of the snapshot and the tree that is left behind the others, if something goes.
 fn retree_one(
     walk: &Walk,
     facts: &SnapFacts,

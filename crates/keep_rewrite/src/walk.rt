@@ -19,7 +19,7 @@ use keep_plan::PlanError;
 use keep_tree::{Node, NodeKind, Pattern, Rests, Tree, letters_of, write_tree};
 use std::alloc::{AllocError, Global};
 
-// A walk over the trees of a catalog that asks what goes by the patterns.
+/// A walk over the trees of a catalog that asks what goes by the patterns.
 #[derive(Clone, Copy)]
 pub(crate) struct Walk<'a> {
     pub(crate) alloc: Global,
@@ -28,8 +28,8 @@ pub(crate) struct Walk<'a> {
 }
 
 impl Walk<'_> {
-    // Tells what is left of the tree where this is left open, and writes anew what isn't yet. A tree is walked over
-    // once for each thing that is asked of it.
+    /// Tells what is left of the tree where this is left open, and writes anew what isn't yet. A tree is walked over
+    /// once for each thing that is asked of it.
     #[cycle(walking)]
     pub(crate) fn leave(
         &self,
@@ -66,8 +66,8 @@ impl Walk<'_> {
         Ok(left)
     }
 
-    // Puts the node behind those that are kept, with what is left of its tree, if it stays. Tells whether it goes, or
-    // something below it.
+    /// Puts the node behind those that are kept, with what is left of its tree, if it stays. Tells whether it goes, or
+    /// something below it.
     #[cycle(walking)]
     fn leave_node(
         &self,
@@ -114,7 +114,7 @@ impl Walk<'_> {
     }
 }
 
-// Puts the node, with another tree, behind those that are kept.
+/// Puts the node, with another tree, behind those that are kept.
 fn keep_folder(node: Node, subtree: Id, kept: &mut Vec<Node>) -> Result<(), AllocError>
     ensures { OnOk result (map node_view kept.new.items ≡ map node_view kept.old.items
         ++ record (node_view node) { kind = dir subtree } ∷ []) }
@@ -128,8 +128,8 @@ fn keep_folder(node: Node, subtree: Id, kept: &mut Vec<Node>) -> Result<(), Allo
     Ok(())
 }
 
-// What is left of a tree: itself, or where something goes the tree of these nodes. That is written and put behind
-// those that are finished.
+/// What is left of a tree: itself, or where something goes the tree of these nodes. That is written and put behind
+/// those that are finished.
 #[tactic(auto, unfolding(keep_build::specs::Blobs::tree_blob))]
 fn finish(
     alloc: Global,

@@ -22,6 +22,6 @@ begun settings kit ledger = record {
   faulted = false;
 }
 
--- the same of a book, with what is armed over it
+-- a book with what is armed over it, no notes, and nothing answered yet
 abbrev pub begun_over : {S I F g J E h : _} → SettingsData → KitData → Book S I F g J E h → State
 begun_over settings kit book = record (begun settings kit (on_shelf book)) { armed = hooks_of book }

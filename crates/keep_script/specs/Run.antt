@@ -77,8 +77,8 @@ Ends state known left text Untold after =
     IfSome known (λ script. BreaksOff state (lines_of script) text after) × (after.faulted ≡ true)
 Ends state known left text (NotOpened error) after = ⊥
 
--- the same of a run from the ledger that is opened of this shelf, with nothing armed: its shelf has the calls of the
--- opening, and then those of each line that was answered
+-- what is written by a run from the ledger that is opened of this shelf, with nothing armed: its shelf has the calls of
+-- the opening, and then those of each line that was answered
 abbrev pub EndsFrom : Shelved → SettingsData → KitData → Option (List ℕ) → Option (List ℕ) → List ℕ → Status → State → Type 0
 EndsFrom shelf settings kit known left text status after =
     (ledger : OnShelf) × IsOpened shelf ledger × Ends (begun settings kit ledger) known left text status after

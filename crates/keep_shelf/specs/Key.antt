@@ -14,7 +14,7 @@ use Rattle.keep_shelf.specs.contracts.key.KeyOrd.TheImpl as the_key_order
 abbrev pub key_cmp : Key → Key → Ordering
 key_cmp = (the_key_order.ghosts).cmp
 
--- the same in plain words
+-- the order of keys in plain words
 pub record KeysAreOrdered : Type 0 where
   pub live_before_trash : (live name : FileName) (n : ℕ) → key_cmp (Live live) (Trash n name) ≡ Less
   pub live_before_entries : (live : FileName) (k : ℕ) → key_cmp (Live live) (Entry k) ≡ Less

@@ -153,8 +153,8 @@ impl Stock {
         }
     }
 
-    // Gives back the memory of files' places where fewer than a quarter are in use. At least twice as many as are in
-    // use stay, so that erasing one by one takes the same time for each on average.
+    /// Gives back the memory of files' places where fewer than a quarter are in use. At least twice as many as are in
+    /// use stay, so that erasing one by one takes the same time for each on average.
     fn give_back(&mut self)
         ensures { self.new ≡ self.old }
     {

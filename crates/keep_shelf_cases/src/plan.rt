@@ -19,7 +19,7 @@ impl Plan {
         }
     }
 
-    /// The same calls, where so many others come first.
+    /// The plan that lets so many calls pass first, and then goes as this one.
     pub fn after(self, calls: usize) -> Plan {
         let calls = calls as u64;
         match self {

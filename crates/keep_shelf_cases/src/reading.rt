@@ -14,7 +14,7 @@ pub(crate) fn read_all<S: Shelf>(alloc: Global, shelf: &mut S) -> Result<MemoryS
     read_keys(alloc, shelf, keys.as_slice())
 }
 
-/// The same of what stands under these keys.
+/// A shelf in memory with what stands under these keys, each of which is read once.
 fn read_keys<S: Shelf>(alloc: Global, shelf: &mut S, keys: &[Key]) -> Result<MemoryShelf, Fault>
     ensures copy { let content = (S.shelved shelf.old).content in
         IfOk result (λ copy. copy.content ≡ found_under content keys.now map.empty) }

@@ -98,8 +98,8 @@ fn show_each(case: &Case, out: &mut String) -> Result<(), Stop> {
     Ok(())
 }
 
-/// The same of a script, whose run keeps the shelf: a call that fails shows in what it answers, so the first number at
-/// which nothing does is past the last call.
+/// Runs the script, and then once more for each of its calls. The run keeps the shelf, and a call that fails shows in
+/// its answers, so the first number at which nothing shows is past the last call.
 fn show_each_of_script(case: &Case, out: &mut String) -> Result<(), Stop> {
     let mut right = String::new(case.alloc);
     show(case, NO_FAILURE, Form::Brief, &mut right)?;

@@ -5,8 +5,8 @@ use Rattle.std.specs.Str.{bytes_eq}
 use Rattle.keep_names.specs.declared.id.Id.{Id}
 use Rattle.keep_snap.specs.Snap.{SnapData}
 
--- the same snapshot with these tags, made from the one of this name: `original` stays where it is there, and is
--- that name where it is missing
+-- the snapshot with these tags, made from the one of this name: `original` stays where it is there, and is that name
+-- where it is missing
 abbrev pub retagged : SnapData → Id → List (List ℕ) → SnapData
 retagged s old tags = record s { tags = tags; original = Some (unwrap_or s.original old) }
 
@@ -19,7 +19,7 @@ abbrev pub rewritten_tags : Bool → List (List ℕ) → List (List ℕ)
 rewritten_tags tagged tags =
     if tagged then (if has_rewrite tags then tags else tags ++ codes "rewrite" ∷ []) else tags
 
--- the same snapshot with this tree, made from the one of this name, which is always its `original`
+-- the snapshot with this tree, made from the one of this name, which is always its `original`
 abbrev pub retreed : SnapData → Id → Id → Bool → SnapData
 retreed s old tree tagged =
     record s { tree = tree; tags = rewritten_tags tagged s.tags; original = Some old }

@@ -5,5 +5,5 @@ pub fn snaps_cross_threads() {
     cross::<Snap>()
 }
 
-// What can be handed to another thread, and lent to several at once.
+/// What can be handed to another thread, and lent to several at once.
 fn cross<T: Send + Sync>() {}

@@ -55,7 +55,7 @@ pub fn retree(
     })
 }
 
-// The tags, with `rewrite` behind them where it is asked for and isn't among them.
+/// The tags, with `rewrite` behind them where it is asked for and isn't among them.
 fn tags_of_rewritten(
     alloc: Global,
     tags: &[String],

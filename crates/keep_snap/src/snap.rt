@@ -113,7 +113,7 @@ pub fn read_snap(alloc: Global, bytes: &[u8]) -> Result<Snap, SnapError>
     timed_snap(alloc, bytes)
 }
 
-// The snapshot that the bytes hold, if its time is one.
+/// The snapshot that the bytes hold, if its time is one.
 fn timed_snap(alloc: Global, bytes: &[u8]) -> Result<Snap, SnapError>
     ensures { Answers (Doc Memory) snap_view (snap_of bytes.now) result }
 {
@@ -124,7 +124,7 @@ fn timed_snap(alloc: Global, bytes: &[u8]) -> Result<Snap, SnapError>
     Ok(snap)
 }
 
-// The snapshot that the bytes hold, whatever its time is.
+/// The snapshot that the bytes hold, whatever its time is.
 fn read_shape(alloc: Global, bytes: &[u8]) -> Result<Snap, SnapError>
     ensures { Answers (Doc Memory) snap_view (shape_of bytes.now) result }
 {
@@ -132,7 +132,7 @@ fn read_shape(alloc: Global, bytes: &[u8]) -> Result<Snap, SnapError>
     snap_in(alloc, &value)
 }
 
-// The snapshot that a document holds.
+/// The snapshot that a document holds.
 fn snap_in(alloc: Global, value: &Value) -> Result<Snap, SnapError>
     ensures { Answers (Doc Memory) snap_view (ok_or (spec.snap_in (view value.now)) BadSnapshot) result }
 {
@@ -161,7 +161,7 @@ fn snap_in(alloc: Global, value: &Value) -> Result<Snap, SnapError>
     })
 }
 
-// The paths, or where they are missing the one text of `dir`.
+/// The paths, or where they are missing the one text of `dir`.
 fn paths_in(alloc: Global, value: &Value) -> Result<Vec<String>, SnapError>
     ensures { Answers (Doc Memory) (λ paths. map string_bytes paths.items)
         (ok_or (spec.paths_in (view value.now)) BadSnapshot) result }
@@ -186,7 +186,7 @@ fn tags_in(alloc: Global, value: &Value) -> Result<Vec<String>, SnapError>
     texts(alloc, items)?.ok_or(SnapError::BadSnapshot)
 }
 
-// The members that a snapshot has no fields for.
+/// The members that a snapshot has no fields for.
 fn unnamed(alloc: Global, value: &Value) -> Result<Map<String, Value>, AllocError>
     ensures { IfOk result (λ found. members_view found.entries ≡ other_members spec.named (view value.now)) }
 {

@@ -59,7 +59,7 @@ pub fn parse_moment(text: &str) -> Option<i64>
     Some(time.instant.div_euclid(1_000_000_000) as i64)
 }
 
-// The time that a date with a time of day, a fraction and a zone write.
+/// The time that a date with a time of day, a fraction and a zone write.
 fn time_from(wall: &[u8], fraction: &[u8], zone: &[u8]) -> Option<Time>
     requires { length wall.now ≡ 19 }
     ensures { result ≡ spec.time_from wall.now fraction.now zone.now }
@@ -72,7 +72,7 @@ fn time_from(wall: &[u8], fraction: &[u8], zone: &[u8]) -> Option<Time>
     time_at(date, instant_of(day, seconds, offset, nanoseconds))
 }
 
-// Where the zone begins.
+/// Where the zone begins.
 fn zone_at(text: &[u8]) -> Option<usize>
     ensures value { result ≡ position spec.begins_zone text.now }
     ensures within { IfSome result (λ at. at < length text.now) }
@@ -86,7 +86,7 @@ fn begins_zone(byte: u8) -> bool
     matches!(byte, b'Z' | b'+' | b'-')
 }
 
-// `YYYY-MM-DD`
+/// `YYYY-MM-DD`
 fn date_in(text: &[u8]) -> Option<Date>
     requires { length text.now ≡ 10 }
     ensures { option_map written result ≡ spec.date_in text.now }
@@ -100,7 +100,7 @@ fn date_in(text: &[u8]) -> Option<Date>
     date_of(year, month, day)
 }
 
-// The date with these parts, if the calendar has it.
+/// The date with these parts, if the calendar has it.
 fn date_of(year: u32, month: u32, day: u32) -> Option<Date>
     requires year_fits { year < 10_000 }
     requires month_fits { month < 100 }
@@ -110,7 +110,7 @@ fn date_of(year: u32, month: u32, day: u32) -> Option<Date>
     Date::new(year as i16, month as i8, day as i8).ok()
 }
 
-// `HH:MM`, in minutes.
+/// `HH:MM`, in minutes.
 fn minutes_in(text: &[u8]) -> Option<u32>
     requires { length text.now ≡ 5 }
     ensures value { result ≡ spec.minutes_in text.now }
@@ -124,7 +124,7 @@ fn minutes_in(text: &[u8]) -> Option<u32>
     Some(hour * 60 + minute)
 }
 
-// `THH:MM:SS`, in seconds.
+/// `THH:MM:SS`, in seconds.
 fn clock_in(text: &[u8]) -> Option<u32>
     requires { length text.now ≡ 9 }
     ensures { result ≡ spec.clock_in text.now }
@@ -137,7 +137,7 @@ fn clock_in(text: &[u8]) -> Option<u32>
     Some(minutes * 60 + second)
 }
 
-// `Z`, or a sign and `HH:MM`, in seconds.
+/// `Z`, or a sign and `HH:MM`, in seconds.
 fn offset_in(text: &[u8]) -> Option<i32>
     ensures { result ≡ spec.offset_in text.now }
 {
@@ -156,7 +156,7 @@ fn behind_by(minutes: u32) -> i32
     -(minutes as i32 * 60)
 }
 
-// Nothing, or a point and one to nine digits, in nanoseconds.
+/// Nothing, or a point and one to nine digits, in nanoseconds.
 fn fraction_in(text: &[u8]) -> Option<u64>
     ensures { result ≡ spec.fraction_in text.now }
 {
@@ -170,14 +170,14 @@ fn fraction_in(text: &[u8]) -> Option<u64>
     }
 }
 
-// Nanoseconds since 1970.
+/// Nanoseconds since 1970.
 fn instant_of(day: i32, seconds: u32, offset: i32, nanoseconds: u64) -> i128
     ensures { result ≡ spec.instant_of day seconds offset nanoseconds }
 {
     (day as i128 * 86_400 + seconds as i128 - offset as i128) * 1_000_000_000 + nanoseconds as i128
 }
 
-// What is to be known of a written date at an instant that jiff holds as a timestamp.
+/// What is to be known of a written date at an instant that jiff holds as a timestamp.
 fn time_at(date: Date, instant: i128) -> Option<Time>
     ensures { result ≡ spec.time_at (written date) instant }
 {
@@ -196,7 +196,7 @@ fn time_at(date: Date, instant: i128) -> Option<Time>
     })
 }
 
-// The day number of the Monday that begins the week of a day.
+/// The day number of the Monday that begins the week of a day.
 fn monday_of(day: i32, weekday: Weekday) -> i32
     requires { IsEpochDay day }
     ensures { result ≡ day -ℤ pos (monday_zero weekday) }
@@ -204,7 +204,7 @@ fn monday_of(day: i32, weekday: Weekday) -> i32
     day - weekday.to_monday_zero_offset() as i32
 }
 
-// The number that one to nine digits write.
+/// The number that one to nine digits write.
 fn number(digits: &[u8]) -> Option<u32>
     requires { IsInRange 1 9 (length digits.now) }
     ensures value { result ≡ spec.number digits.now }

@@ -47,7 +47,7 @@ pub fn retreed_snapshots_can_be_written()
         → IsSnap (retreed s old tree tagged) }
 {}
 
-// A snapshot as an object.
+/// A snapshot as an object.
 fn snap_value(alloc: Global, snap: &Snap) -> Result<Value, AllocError>
     ensures { IfOk result (λ value. view value ≡ snap_data (snap_view snap.now)) }
 {
@@ -71,7 +71,7 @@ fn snap_value(alloc: Global, snap: &Snap) -> Result<Value, AllocError>
     Ok(Value::Object(members))
 }
 
-// Writes a member, if there is one to write.
+/// Writes a member, if there is one to write.
 fn put_if(
     alloc: Global,
     members: &mut Map<String, Value>,
@@ -114,7 +114,7 @@ fn original_value(alloc: Global, original: Option<Id>) -> Result<Option<Value>, 
     }
 }
 
-// The tags, unless there are none.
+/// The tags, unless there are none.
 fn tags_value(alloc: Global, tags: &[String]) -> Result<Option<Value>, AllocError>
     ensures { IfOk result (λ value. option_map view value ≡ tags_data (map string_bytes tags.now)) }
 {

@@ -59,7 +59,7 @@ impl Ground {
         }
     }
 
-    // Puts a repository by itself under its changes.
+    /// Puts a repository by itself under its changes.
     fn put_under_changes(&mut self, alloc: Global) -> Result<(), Stop> {
         if let Ground::Alone(alone) = self {
             let ledger = ledger_over(alloc, alone.live.repo())?;

@@ -121,12 +121,12 @@ fn answers(rt: &HostRuntime) -> Result<Answers, Stop> {
     answers_with(rt, kit)
 }
 
-/// The same with what is stored.
+/// The answers to the lines with these stored questions, and why they end before all are answered.
 fn answers_with(rt: &HostRuntime, kit: Kit) -> Result<Answers, Stop> {
     answers_from(rt, &mut State::new(rt.alloc(), kit))
 }
 
-/// The same from this state on.
+/// The answers to the lines from this state on, and why they end before all are answered.
 fn answers_from(rt: &HostRuntime, state: &mut State) -> Result<Answers, Stop> {
     let mut out = String::new(rt.alloc());
     let end = answer_lines(rt, state, &mut out)?;

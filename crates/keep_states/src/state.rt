@@ -92,7 +92,7 @@ impl State {
         Ok(())
     }
 
-    // This repository by itself, without events.
+    /// This repository by itself, without events.
     fn stand_on(&mut self, repo: Repo) {
         self.ground = Ground::new(self.alloc, repo);
     }

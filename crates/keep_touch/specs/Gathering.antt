@@ -25,7 +25,7 @@ is_walked found facet = bag.contains (the_facet_eq.ghosts).eq found.walked facet
 abbrev pub touches_kept : Journal → Facet → ℕ → Bool
 touches_kept j facet m = option_map_or (λ c. touches c facet) (kept_change j m) false
 
--- the same of a change after change n
+-- whether change m comes after change n, is in force and not final, and touches the facet
 abbrev pub touches_after : Journal → ℕ → Facet → ℕ → Bool
 touches_after j n facet m = nat_lt n m && touches_kept j facet m
 

@@ -10,7 +10,7 @@ abbrev pub used_at : List (List ℕ) → PatternData → List ℕ
 used_at path pattern =
     filter (λ used. matches pattern.0 (take used pattern.1) path) (range_with_len 0 (length pattern.1 + 1))
 
--- the same, with the place of the pattern
+-- what a path has left open of a pattern, with the pattern's place among the others
 abbrev pub left_of : List (List ℕ) → ℕ × PatternData → List Rest
 left_of path placed = map (λ used. record { pattern = placed.0; used = used }) (used_at path placed.1)
 

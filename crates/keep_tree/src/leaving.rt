@@ -36,7 +36,7 @@ pub fn without(
     Ok(kept)
 }
 
-// The characters of each name.
+/// The characters of each name.
 fn path_of(alloc: Global, names: &[String]) -> Result<Vec<Letters>, AllocError>
     ensures { IfOk result (λ path. path.items ≡ map chars (map string_bytes names.now)) }
 {
@@ -48,7 +48,7 @@ fn path_of(alloc: Global, names: &[String]) -> Result<Vec<Letters>, AllocError>
     Ok(path)
 }
 
-// Whether one of the patterns matches a path.
+/// Whether one of the patterns matches a path.
 fn is_matched(patterns: &[Pattern], path: &[Letters]) -> bool
     ensures { result ≡ spec.is_matched (map pattern_view patterns.now) path.now }
 {
@@ -61,7 +61,7 @@ fn is_matched(patterns: &[Pattern], path: &[Letters]) -> bool
     false
 }
 
-// A node like this one.
+/// A node like this one.
 fn copy_of(node: &Node) -> Result<Node, AllocError>
     ensures { IfOk result (λ copy. node_view copy ≡ node_view node.now) }
 {

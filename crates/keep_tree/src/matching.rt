@@ -7,14 +7,14 @@ use crate::letters::Letters;
 use crate::name_match::name_fits;
 use crate::pattern::{Component, Pattern};
 
-// How a walk through components and a path ends.
+/// How a walk through components and a path ends.
 #[derive(Clone, Copy)]
 pub(crate) enum Halt<'a> {
-    // Both are used up.
+    /// Both are used up.
     Taken,
-    // The path doesn't fit.
+    /// The path doesn't fit.
     Missed,
-    // At `**`: what is behind it, and what is left of the path.
+    /// At `**`: what is behind it, and what is left of the path.
     Deep(&'a [Component], &'a [Letters]),
 }
 
@@ -30,7 +30,7 @@ pub fn matches_path(pattern: &Pattern, path: &[Letters]) -> bool
     }
 }
 
-// Whether the whole path fits.
+/// Whether the whole path fits.
 fn path_fits(components: &[Component], path: &[Letters]) -> bool
     ensures { result ≡ spec.path_fits components.now path.now }
 {
@@ -41,7 +41,7 @@ fn path_fits(components: &[Component], path: &[Letters]) -> bool
     }
 }
 
-// Whether some tail of the path fits.
+/// Whether some tail of the path fits.
 fn fits_tail(components: &[Component], path: &[Letters]) -> bool
     ensures { result ≡ any_tail (spec.path_fits components.now) path.now }
 {
@@ -59,7 +59,7 @@ fn fits_tail(components: &[Component], path: &[Letters]) -> bool
     }
 }
 
-// To the next `**`, from the first tail of the path that fits so far.
+/// To the next `**`, from the first tail of the path that fits so far.
 #[tactic(auto, using(crate::proofs::Tails::any_tail_here))]
 fn seek<'a>(components: &'a [Component], path: &'a [Letters]) -> Halt<'a>
     ensures { SoughtPath components.now path.now result }
@@ -78,7 +78,7 @@ fn seek<'a>(components: &'a [Component], path: &'a [Letters]) -> Halt<'a>
     }
 }
 
-// To the next `**`.
+/// To the next `**`.
 fn walk<'a>(components: &'a [Component], path: &'a [Letters]) -> Halt<'a>
     ensures { WalkedPath components.now path.now result }
 {
@@ -110,7 +110,7 @@ pub(crate) fn is_deep(component: &Component) -> bool
     matches!(component, Component::AnyDepth)
 }
 
-// Whether a component takes a name.
+/// Whether a component takes a name.
 pub(crate) fn takes_name(component: &Component, name: &Letters) -> bool
     ensures { result ≡ spec.takes_name component.now name.now }
 {

@@ -2,18 +2,18 @@ ghost use Rattle.std.specs.Prelude.{◌≡◌};
 ghost use Rattle.keep_tree.specs.Matching as spec;
 ghost use Rattle.keep_tree.specs.Walks.{Walked, Sought};
 
-// How a walk through a pattern and a text ends.
+/// How a walk through a pattern and a text ends.
 #[derive(Clone, Copy)]
 pub(crate) enum Stop<'a> {
-    // Both are used up.
+    /// Both are used up.
     Whole,
-    // The text doesn't fit.
+    /// The text doesn't fit.
     Apart,
-    // At a star: what is behind it, and what is left of the text.
+    /// At a star: what is behind it, and what is left of the text.
     Star(&'a [char], &'a [char]),
 }
 
-// Whether a name fits a pattern of characters. It takes no memory.
+/// Whether a name fits a pattern of characters. It takes no memory.
 pub(crate) fn name_fits(pattern: &[char], name: &[char]) -> bool
     ensures { result ≡ spec.name_fits pattern.now name.now }
 {
@@ -34,7 +34,7 @@ pub(crate) fn name_fits(pattern: &[char], name: &[char]) -> bool
     }
 }
 
-// To the next star, from the first tail of the text that fits so far.
+/// To the next star, from the first tail of the text that fits so far.
 #[tactic(auto, using(crate::proofs::Tails::any_tail_here))]
 fn seek<'a>(pattern: &'a [char], text: &'a [char]) -> Stop<'a>
     ensures { Sought pattern.now text.now result }
@@ -53,7 +53,7 @@ fn seek<'a>(pattern: &'a [char], text: &'a [char]) -> Stop<'a>
     }
 }
 
-// To the next star.
+/// To the next star.
 fn walk<'a>(pattern: &'a [char], text: &'a [char]) -> Stop<'a>
     ensures { Walked pattern.now text.now result }
 {
@@ -79,7 +79,7 @@ fn walk<'a>(pattern: &'a [char], text: &'a [char]) -> Stop<'a>
     }
 }
 
-// Whether a character of a pattern that is no star takes a character.
+/// Whether a character of a pattern that is no star takes a character.
 fn takes(piece: char, letter: char) -> bool
     ensures { result ≡ spec.takes piece letter }
 {

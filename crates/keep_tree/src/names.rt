@@ -14,7 +14,7 @@ pub fn is_name(name: &str) -> bool
     !matches!(name, "" | "." | "..") && !has_never_in_names(name)
 }
 
-// Whether the text has NUL or `/`.
+/// Whether the text has NUL or `/`.
 fn has_never_in_names(name: &str) -> bool
     ensures { result ≡ list_any spec.is_never_in_names name.now }
 {
@@ -27,7 +27,7 @@ fn is_never_in_names(byte: u8) -> bool
     matches!(byte, 0 | b'/')
 }
 
-// Whether no two nodes have one name.
+/// Whether no two nodes have one name.
 pub(crate) fn are_distinct(alloc: Global, nodes: &[Node]) -> Result<bool, AllocError>
     ensures { IfOk result (λ distinct. distinct ≡ spec.are_distinct (names_of (map node_view nodes.now))) }
 {

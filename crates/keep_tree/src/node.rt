@@ -65,7 +65,7 @@ impl Node {
     }
 }
 
-// The nodes that a list of values holds.
+/// The nodes that a list of values holds.
 pub(crate) fn nodes_in(alloc: Global, items: &[Value]) -> Result<Vec<Node>, TreeError>
     ensures { Answers (Doc Memory) (λ nodes. map node_view nodes.items)
         (ok_or (each spec.node_in (map view items.now)) BadTree) result }
@@ -78,7 +78,7 @@ pub(crate) fn nodes_in(alloc: Global, items: &[Value]) -> Result<Vec<Node>, Tree
     Ok(nodes)
 }
 
-// The node that a value holds.
+/// The node that a value holds.
 fn node_in(alloc: Global, value: &Value) -> Result<Node, TreeError>
     ensures { Answers (Doc Memory) node_view (ok_or (spec.node_in (view value.now)) BadTree) result }
 {
@@ -93,7 +93,7 @@ fn node_in(alloc: Global, value: &Value) -> Result<Node, TreeError>
     Ok(Node { name, kind, others })
 }
 
-// What a node of this type is.
+/// What a node of this type is.
 fn kind_in(alloc: Global, type_name: &str, value: &Value) -> Result<NodeKind, TreeError>
     ensures { Answers (Doc Memory) kind_view
         (ok_or (spec.kind_in type_name.now (view value.now)) BadTree) result }
@@ -111,7 +111,7 @@ fn kind_in(alloc: Global, type_name: &str, value: &Value) -> Result<NodeKind, Tr
     Ok(NodeKind::Other { type_name })
 }
 
-// The keys whose members a node of this kind has for itself.
+/// The keys whose members a node of this kind has for itself.
 fn own_keys(kind: &NodeKind) -> &'static [&'static str]
     ensures { map (λ key. key.now) result.now ≡ spec.own_keys (kind_view kind.now) }
 {

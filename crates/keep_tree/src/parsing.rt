@@ -46,7 +46,7 @@ pub fn parse_pattern(alloc: Global, text: &str) -> Result<Pattern, PatternError>
     })
 }
 
-// What stands between the slashes.
+/// What stands between the slashes.
 fn parts_of<'a>(alloc: Global, text: &'a str) -> Result<Vec<&'a str>, AllocError>
     ensures { IfOk result (λ parts. map (λ part. part.now) parts.items ≡ spec.parts_of text.now) }
 {
@@ -54,7 +54,7 @@ fn parts_of<'a>(alloc: Global, text: &'a str) -> Result<Vec<&'a str>, AllocError
     Ok(parts)
 }
 
-// Without the `/` that it begins with.
+/// Without the `/` that it begins with.
 fn after_slash<'a>(text: &'a str) -> &'a str
     ensures { result.now ≡ spec.after_slash text.now }
 {
@@ -64,7 +64,7 @@ fn after_slash<'a>(text: &'a str) -> &'a str
     }
 }
 
-// Without the `/` that it ends with.
+/// Without the `/` that it ends with.
 fn before_slash<'a>(text: &'a str) -> &'a str
     ensures { result.now ≡ spec.before_slash text.now }
 {
@@ -74,7 +74,7 @@ fn before_slash<'a>(text: &'a str) -> &'a str
     }
 }
 
-// Whether the text spells no pattern.
+/// Whether the text spells no pattern.
 fn is_bad(text: &str, parts: &[&str]) -> bool
     ensures { result ≡ (spec.begins_with 33 text.now || list_any spec.is_reserved text.now
         || list_any (λ part. is_nil part.now) parts.now) }
@@ -133,7 +133,7 @@ fn is_empty(part: &str) -> bool
     }
 }
 
-// The components that the parts spell.
+/// The components that the parts spell.
 fn components_of(alloc: Global, parts: &[&str]) -> Result<Vec<Component>, AllocError>
     ensures { IfOk result (λ made. made.items ≡ map (λ part. spec.component_of part.now) parts.now) }
 {
@@ -145,7 +145,7 @@ fn components_of(alloc: Global, parts: &[&str]) -> Result<Vec<Component>, AllocE
     Ok(made)
 }
 
-// The component that a part spells.
+/// The component that a part spells.
 fn component_of(alloc: Global, part: &str) -> Result<Component, AllocError>
     ensures { IfOk result (λ made. made ≡ spec.component_of part.now) }
 {

@@ -2,7 +2,7 @@
 /// then by how many are used.
 #[derive(Clone, Copy, PartialEq, Eq, PartialOrd, Ord)]
 pub(crate) struct Rest {
-    // The place of the pattern among others.
+    /// The place of the pattern among others.
     pub(crate) pattern: usize,
     pub(crate) used: usize,
 }

@@ -70,7 +70,7 @@ impl Rests {
     }
 }
 
-/// The same rests once more.
+/// A clone equals its source.
 impl Clone for Rests {
     ghost is_clone = { λ source made. made ≡ source };
 
@@ -152,7 +152,7 @@ fn push_opening(
     Ok(())
 }
 
-// What is left open behind a name.
+/// What is left open behind a name.
 fn found_of(
     alloc: Global,
     patterns: &[Pattern],
@@ -172,7 +172,7 @@ fn found_of(
     Ok(left)
 }
 
-// Adds what a walk through the components finds, and tells where it ends.
+/// Adds what a walk through the components finds, and tells where it ends.
 fn push_found<'a>(
     left: &mut Vec<Rest>,
     begun: Step<'a>,
@@ -198,7 +198,7 @@ fn push_found<'a>(
     Ok(stand)
 }
 
-// Whether a name uses up one of the patterns.
+/// Whether a name uses up one of the patterns.
 fn is_taken(patterns: &[Pattern], rests: &[Rest], name: &Letters) -> bool
     ensures { result ≡ takes_from name.now 0 (map pattern_view patterns.now) rests.now }
 {
@@ -217,7 +217,7 @@ fn is_taken(patterns: &[Pattern], rests: &[Rest], name: &Letters) -> bool
     false
 }
 
-// To the end of the components.
+/// To the end of the components.
 fn walk<'a>(begun: Step<'a>, components: &[Component], name: &Letters) -> Step<'a>
     requires { begun.rest.used ≡ 0 }
     ensures { step_view result ≡ walked name.now (step_view begun.entry) components.now }

@@ -7,19 +7,19 @@ use crate::matching::{is_deep, takes_name};
 use crate::pattern::Component;
 use crate::rest::Rest;
 
-// Where a walk through the components of a pattern is, from the rests of a path to those of a name below it.
+/// Where a walk through the components of a pattern is, from the rests of a path to those of a name below it.
 #[derive(Clone, Copy)]
 pub(crate) struct Step<'a> {
     pub(crate) rest: Rest,
-    // Whether the components of this rest match the path.
+    /// Whether the components of this rest match the path.
     pub(crate) was: bool,
-    // Whether they match the path with the name.
+    /// Whether they match the path with the name.
     pub(crate) is: bool,
-    // The rests of the path that come after this one.
+    /// The rests of the path that come after this one.
     pub(crate) ahead: &'a [Rest],
 }
 
-// Before the components of a pattern.
+/// Before the components of a pattern.
 pub(crate) fn begin<'a>(index: usize, anchored: bool, ahead: &'a [Rest]) -> Step<'a>
     ensures { step_view result ≡ begun index anchored ahead.now }
 {
@@ -36,7 +36,7 @@ pub(crate) fn begin<'a>(index: usize, anchored: bool, ahead: &'a [Rest]) -> Step
     }
 }
 
-// Behind one component more.
+/// Behind one component more.
 pub(crate) fn advance<'a>(stand: Step<'a>, component: &Component, name: &Letters) -> Step<'a>
     requires { stand.rest.used < 2 ^ 63 }
     ensures { step_view result ≡ stepped name.now (step_view stand.entry) component.now }
@@ -68,7 +68,7 @@ fn begins_with(rests: &[Rest], rest: Rest) -> bool
     }
 }
 
-// Without the rest, where they begin with it.
+/// Without the rest, where they begin with it.
 fn behind<'a>(rests: &'a [Rest], rest: Rest) -> &'a [Rest]
     ensures { result.now ≡ spec.behind rest rests.now }
 {

@@ -61,7 +61,7 @@ pub fn read_tree(alloc: Global, bytes: &[u8]) -> Result<Tree, TreeError>
     tree_in(alloc, &value)
 }
 
-// The tree that a document holds.
+/// The tree that a document holds.
 fn tree_in(alloc: Global, value: &Value) -> Result<Tree, TreeError>
     ensures { Answers (Doc Memory) tree_view (ok_or (spec.tree_in (view value.now)) BadTree) result }
 {
@@ -74,7 +74,7 @@ fn tree_in(alloc: Global, value: &Value) -> Result<Tree, TreeError>
     Ok(Tree { nodes })
 }
 
-// The values of a tree's nodes. Null is none, and the key has to be there.
+/// The values of a tree's nodes. Null is none, and the key has to be there.
 fn nodes_at(value: &Value) -> Option<&[Value]>
     ensures { option_map (λ items. map view items.now) result
         ≡ field (codes "nodes") as_list_or_null (view value.now) }

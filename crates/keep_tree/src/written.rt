@@ -32,7 +32,7 @@ pub fn trees_read_back()
     ensures read { (bytes : List ℕ) (nodes : List NodeData) → tree_of bytes ≡ Ok nodes → IsTree nodes }
 {}
 
-// A tree as a document.
+/// A tree as a document.
 fn tree_value(alloc: Global, tree: &Tree) -> Result<Value, AllocError>
     ensures { IfOk result (λ value. view value ≡ tree_data (tree_view tree.now)) }
 {
@@ -42,7 +42,7 @@ fn tree_value(alloc: Global, tree: &Tree) -> Result<Value, AllocError>
     Ok(Value::Object(members))
 }
 
-// Nodes as a list.
+/// Nodes as a list.
 fn node_values(alloc: Global, nodes: &[Node]) -> Result<Value, AllocError>
     ensures { IfOk result (λ value. view value ≡ list_data (map node_data (map node_view nodes.now))) }
 {
@@ -54,7 +54,7 @@ fn node_values(alloc: Global, nodes: &[Node]) -> Result<Value, AllocError>
     Ok(Value::Array(values))
 }
 
-// A node as an object.
+/// A node as an object.
 fn node_value(alloc: Global, node: &Node) -> Result<Value, AllocError>
     ensures { IfOk result (λ value. view value ≡ node_data (node_view node.now)) }
 {
@@ -67,7 +67,7 @@ fn node_value(alloc: Global, node: &Node) -> Result<Value, AllocError>
     Ok(Value::Object(members))
 }
 
-// Writes the member that only a node of this kind has for itself.
+/// Writes the member that only a node of this kind has for itself.
 fn put_kind(
     alloc: Global,
     members: &mut Map<String, Value>,
@@ -89,7 +89,7 @@ fn put_kind(
     }
 }
 
-// The word for the type of a node.
+/// The word for the type of a node.
 fn type_name(kind: &NodeKind) -> &str
     ensures { result.now ≡ type_of (kind_view kind.now) }
 {

@@ -9,7 +9,7 @@ use keep_snap::{Month, SnapFacts};
 use std::alloc::{AllocError, Global};
 use std::test::Fail;
 
-// The facts of a snapshot of this host, with one tag and one path.
+/// The facts of a snapshot of this host, with one tag and one path.
 fn facts_of(alloc: Global, host: &str, tag: &str, path: &str) -> Result<SnapFacts, AllocError> {
     let mut tags = Vec::new(alloc);
     tags.push(String::from_str(alloc, tag)?)?;
@@ -48,7 +48,7 @@ fn a_filter_takes_what_has_its_path(rt: HostRuntime) -> Result<(), Fail> {
     Ok(())
 }
 
-// The outline of an event whose change drops a snapshot and a pack.
+/// The outline of an event whose change drops a snapshot and a pack.
 fn outline_of(alloc: Global, what: What) -> Result<Outline, AllocError>
     ensures what { IfOk result (λ made. made.what ≡ what) }
     ensures names { IfOk result (λ made. name_count made ≡ 2) }

@@ -34,7 +34,7 @@ IsFault name below kind =
     (fault_in name below ≡ Some kind)
     ⊎ ((is_changing name ≡ false) × (is_reading name ≡ false) × (kind ≡ InvalidSubcommand))
 
--- the same of the command that clap found, if it found one
+-- what is at fault with the words of the command that clap found, or that it found none
 abbrev pub IsFaultIn : Option (Text × List Row) → ErrorKind → Type 0
 IsFaultIn (Some found) kind = IsFault found.0 found.1 kind
 IsFaultIn None kind = kind ≡ MissingSubcommand

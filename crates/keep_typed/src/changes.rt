@@ -41,7 +41,7 @@ pub fn changing<'a>(
     Ok(Some(command))
 }
 
-/// The same of those that go by numbers of changes, or by folders.
+/// What the words ask behind the name of a command that goes by numbers of changes, or by folders.
 fn taking<'a>(name: &str, matches: &ArgMatches<'a>) -> Option<Command<'a>>
     ensures { Asks is_taking name.now (rows_in matches.now) result }
 {

@@ -44,7 +44,7 @@ pub fn reading<'a>(
     Ok(Some(command))
 }
 
-/// The same of those that tell of the repository and not of its snapshots.
+/// What the words ask behind the name of a command that tells of the repository and not of its snapshots.
 fn telling<'a>(name: &str, matches: &ArgMatches<'a>) -> Option<Command<'a>>
     ensures { Asks is_telling name.now (rows_in matches.now) result }
 {

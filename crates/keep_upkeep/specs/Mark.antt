@@ -29,7 +29,7 @@ use Rattle.keep_plan.specs.declared.stored.Stored.{Stored}
 abbrev pub unneeded_but : Repository → (Id → Bool) → List Id
 unneeded_but r is_needed = filter (λ pack. is_unmarked r pack && not (is_needed pack)) (ids_in r Pack)
 
--- the same, where those are needed that hold the chosen place of a blob that a snapshot reaches
+-- the packs that are there, have no mark, and hold no chosen place of a blob that a snapshot reaches
 unfoldable pub unneeded_packs : Repository → List Id
 unneeded_packs r = unneeded_but r (has_pack (reused_packs r (used_in r)))
 

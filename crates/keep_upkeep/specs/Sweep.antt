@@ -72,7 +72,7 @@ swept_files r packs =
 abbrev pub sweeping : Repository → List PackMark → Change
 sweeping r marks = reindexing r (left_files r (marked_packs marks)) (swept_files r (marked_packs marks)) marks []
 
--- the same, unless there are none
+-- the change that sweeps the packs of these marks, unless there are none
 abbrev pub sweep_of : Repository → List PackMark → Result Change PlanError
 sweep_of r [] = Err NothingToDo
 sweep_of r (mark ∷ marks) = Ok (sweeping r (mark ∷ marks))

@@ -51,7 +51,7 @@ pub fn plan_mark(alloc: Global, view: &View, moment: i64) -> Result<Planned, Pla
     })
 }
 
-// All blobs that snapshots reach, each where it is chosen.
+/// All blobs that snapshots reach, each where it is chosen.
 fn reached(alloc: Global, view: &View) -> Result<Reached, PlanError>
     ensures listed { IfOk result (λ reached. tree.keys reached ≡ used_in view.now.repo) }
     ensures places { IfOk result (AreChosen (chosen_listing view.now.repo)) }
@@ -63,7 +63,7 @@ fn reached(alloc: Global, view: &View) -> Result<Reached, PlanError>
     Ok(reached)
 }
 
-// What the uses of these blobs rest on, each where a walk found it.
+/// What the uses of these blobs rest on, each where a walk found it.
 fn uses_found(alloc: Global, reached: &Reached) -> Result<Reuses, AllocError>
     ensures { IfOk result (λ reuses. (r : Repository) → AreChosen (chosen_listing r) reached.now
         → RestOn r (tree.keys reached.now) reuses) }
@@ -75,7 +75,7 @@ fn uses_found(alloc: Global, reached: &Reached) -> Result<Reuses, AllocError>
     Ok(reuses)
 }
 
-// The change that marks the packs in which nothing is used.
+/// The change that marks the packs in which nothing is used.
 fn mark_others(alloc: Global, view: &View, moment: i64, reuses: Reuses) -> Result<Change, PlanError>
     requires { RestOn view.now.repo (used_in view.now.repo) reuses }
     ensures { Answers the_error.Memory (λ change. change)
@@ -92,7 +92,7 @@ fn mark_others(alloc: Global, view: &View, moment: i64, reuses: Reuses) -> Resul
     Ok(marking(alloc, marks, needed, names))
 }
 
-// The packs that are there, have no mark, and aren't used.
+/// The packs that are there, have no mark, and aren't used.
 fn unneeded(alloc: Global, repo: &Repo, reuses: &Reuses) -> Result<Vec<Id>, AllocError>
     ensures { IfOk result (λ packs. packs.items ≡ unneeded_but repo.now (contains id_cmp reuses.now.unmarked)) }
 {
@@ -103,14 +103,14 @@ fn unneeded(alloc: Global, repo: &Repo, reuses: &Reuses) -> Result<Vec<Id>, Allo
         .collect(alloc)
 }
 
-// Whether the pack has no mark and isn't used.
+/// Whether the pack has no mark and isn't used.
 fn is_unneeded(repo: &Repo, reuses: &Reuses, pack: Id) -> bool
     ensures { result ≡ (is_unmarked repo.now pack && not (contains id_cmp reuses.now.unmarked pack)) }
 {
     !repo.is_marked(pack) && !reuses.unmarked.contains(&pack)
 }
 
-// The marks of this moment on the packs.
+/// The marks of this moment on the packs.
 fn marks_at(alloc: Global, packs: Vec<Id>, moment: i64) -> Result<Vec<PackMark>, AllocError>
     ensures { IfOk result (λ marks. marks.items ≡ map (mark_at moment) packs.items) }
 {
@@ -123,7 +123,7 @@ fn marks_at(alloc: Global, packs: Vec<Id>, moment: i64) -> Result<Vec<PackMark>,
         .collect(alloc)
 }
 
-// The known snapshots that aren't there.
+/// The known snapshots that aren't there.
 fn gone(alloc: Global, view: &View) -> Result<Vec<Id>, AllocError>
     ensures { IfOk result (λ gone. gone.items ≡ gone_snapshots view.now.repo view.now.known) }
 {
@@ -131,7 +131,7 @@ fn gone(alloc: Global, view: &View) -> Result<Vec<Id>, AllocError>
     absent_among(alloc, view.repo(), known)
 }
 
-// Those of the snapshots that aren't there.
+/// Those of the snapshots that aren't there.
 pub(crate) fn absent_among(
     alloc: Global,
     repo: &Repo,
@@ -146,14 +146,14 @@ pub(crate) fn absent_among(
         .collect(alloc)
 }
 
-// Whether the snapshot isn't there.
+/// Whether the snapshot isn't there.
 fn is_gone(repo: &Repo, snapshot: Id) -> bool
     ensures { result ≡ not (is_there repo.now (named the_kind.Snapshot snapshot)) }
 {
     !repo.facet_filled(Facet::File(FileName::snapshot(snapshot)))
 }
 
-// The names of the snapshots' files.
+/// The names of the snapshots' files.
 fn snapshot_names(alloc: Global, snapshots: Vec<Id>) -> Result<Vec<FileName>, AllocError>
     ensures { IfOk result (λ names. names.items ≡ map (named the_kind.Snapshot) snapshots.items) }
 {
@@ -163,7 +163,7 @@ fn snapshot_names(alloc: Global, snapshots: Vec<Id>) -> Result<Vec<FileName>, Al
         .collect(alloc)
 }
 
-// The change that sets these marks, where what is needed stays and the gone snapshots stay away.
+/// The change that sets these marks, where what is needed stays and the gone snapshots stay away.
 fn marking(alloc: Global, marks: Vec<PackMark>, needed: Stored, names: Vec<FileName>) -> Change
     ensures { result ≡ spec.marking marks.items needed names.items }
 {

@@ -32,7 +32,7 @@ pub(crate) fn put_files(
     Ok(())
 }
 
-// Puts the file of this name behind the others, if it is there.
+/// Puts the file of this name behind the others, if it is there.
 fn put_file(repo: &Repo, name: FileName, files: &mut Vec<StoredFile>) -> Result<(), AllocError>
     ensures { OnOk result (files.new.items
         ≡ files.old.items ++ filter_map (spec.file_there repo.now name.kind) (name.id ∷ [])) }
@@ -82,7 +82,7 @@ pub(crate) fn has_index(files: &[StoredFile], id: Id) -> bool
     has_file(files, FileName::index(id))
 }
 
-// Whether a file of this name is among them.
+/// Whether a file of this name is among them.
 fn has_file(files: &[StoredFile], name: FileName) -> bool
     ensures { result ≡ list_any (λ file. eq_by_cmp name_cmp name file.name) files.now }
 {

@@ -53,14 +53,14 @@ pub fn plan_repair(alloc: Global, view: &View) -> Result<Planned, PlanError>
     })
 }
 
-// Whether the change adds and drops nothing.
+/// Whether the change adds and drops nothing.
 fn is_idle(change: &Change) -> bool
     ensures { result ≡ spec.is_idle change.now }
 {
     change.adds.as_slice().is_empty() && change.drops.as_slice().is_empty()
 }
 
-// The change, if it changes anything.
+/// The change, if it changes anything.
 fn repair(alloc: Global, repo: &Repo, catalog: &Catalog) -> Result<Change, AllocError>
     requires { catalog.now ≡ repo.now }
     ensures change { IfOk result (λ change. change ≡ spec.repairing repo.now) }
@@ -78,7 +78,7 @@ fn repair(alloc: Global, repo: &Repo, catalog: &Catalog) -> Result<Change, Alloc
     Ok(asking_absent(change, absent))
 }
 
-// The change that also asks that these files are absent.
+/// The change that also asks that these files are absent.
 fn asking_absent(change: Change, absent: Vec<FileName>) -> Change
     ensures { result ≡ record change { absent = absent.items } }
 {
@@ -87,7 +87,7 @@ fn asking_absent(change: Change, absent: Vec<FileName>) -> Change
     change
 }
 
-// The packs that are there and can be read, by id, with what their headers say.
+/// The packs that are there and can be read, by id, with what their headers say.
 fn packs_there(alloc: Global, catalog: &Catalog) -> Result<Index, AllocError>
     ensures { IfOk result (λ index. index_view index ≡ spec.packs_there catalog.now) }
 {
@@ -96,7 +96,7 @@ fn packs_there(alloc: Global, catalog: &Catalog) -> Result<Index, AllocError>
     Ok(Index { packs })
 }
 
-// What headers say, as an index says it.
+/// What headers say, as an index says it.
 fn listed(alloc: Global, headers: Vec<(Id, Vec<Blob>)>) -> Result<Vec<IndexedPack>, AllocError>
     ensures { IfOk result (λ packs. packs.items
         ≡ map (λ header. record { id = header.0; blobs = header.1 }) headers.items) }
@@ -107,7 +107,7 @@ fn listed(alloc: Global, headers: Vec<(Id, Vec<Blob>)>) -> Result<Vec<IndexedPac
         .collect(alloc)
 }
 
-// The packs that one of these indexes lists which isn't among the new files, and that aren't there, by name.
+/// The packs that one of these indexes lists which isn't among the new files, and that aren't there, by name.
 fn absent_packs(
     alloc: Global,
     repo: &Repo,
@@ -124,7 +124,7 @@ fn absent_packs(
     names_in(alloc, absent)
 }
 
-// Puts those among the others that this index lists.
+/// Puts those among the others that this index lists.
 fn put_listed(
     repo: &Repo,
     built: &[StoredFile],
@@ -142,7 +142,7 @@ fn put_listed(
     put_absent(repo, packs, absent)
 }
 
-// Puts those of these packs among the others that aren't there.
+/// Puts those of these packs among the others that aren't there.
 fn put_absent(
     repo: &Repo,
     packs: &[IndexedPack],
@@ -158,7 +158,7 @@ fn put_absent(
     Ok(())
 }
 
-// Puts the name among the others, if there is no such file.
+/// Puts the name among the others, if there is no such file.
 fn put_if_absent(
     repo: &Repo,
     file: FileName,
@@ -175,7 +175,7 @@ fn put_if_absent(
     Ok(())
 }
 
-// Names in order.
+/// Names in order.
 fn names_in(alloc: Global, names: BTreeSet<FileName>) -> Result<Vec<FileName>, AllocError>
     ensures names { IfOk result (λ listed. listed.items ≡ names.keys) }
     ensures ordered { bag.IsOrdered name_cmp names }

@@ -55,7 +55,7 @@ pub fn plan_sweep(alloc: Global, view: &View, now: i64, wait: u64) -> Result<Pla
     })
 }
 
-// What the indexes say, by name, if each pack, index and snapshot can be read.
+/// What the indexes say, by name, if each pack, index and snapshot can be read.
 fn read_indexes(alloc: Global, view: &View) -> Result<Vec<(Id, Vec<IndexedPack>)>, PlanError>
     ensures indexes { IfOk result (λ indexes. map packs_view indexes.items ≡ indexes_in view.now.repo) }
     ensures all_read { IfOk result (λ _. unread_first view.now.repo ≡ None) }
@@ -66,7 +66,7 @@ fn read_indexes(alloc: Global, view: &View) -> Result<Vec<(Id, Vec<IndexedPack>)
     Ok(indexes)
 }
 
-// The marks that have waited, by pack.
+/// The marks that have waited, by pack.
 #[tactic(auto, unfolding(crate::specs::Sweep::waited_marks))]
 fn waited_marks(
     alloc: Global,
@@ -84,7 +84,7 @@ fn waited_marks(
     Ok(waited)
 }
 
-// Puts the mark of the pack behind the others, if it has waited.
+/// Puts the mark of the pack behind the others, if it has waited.
 fn put_waited(
     entry: (Id, Mark),
     now: i64,
@@ -101,14 +101,14 @@ fn put_waited(
     Ok(())
 }
 
-// Whether so many seconds have gone by since the moment.
+/// Whether so many seconds have gone by since the moment.
 fn has_waited(moment: i64, now: i64, wait: u64) -> bool
     ensures { result ≡ int_le (moment +ℤ pos wait) now }
 {
     moment as i128 + wait as i128 <= now as i128
 }
 
-// The change that sweeps the packs of these marks.
+/// The change that sweeps the packs of these marks.
 fn sweep(
     alloc: Global,
     repo: &Repo,
@@ -129,7 +129,7 @@ fn sweep(
     Ok(clearing(change, marks))
 }
 
-// The change that also clears these marks.
+/// The change that also clears these marks.
 fn clearing(change: Change, marks: Vec<PackMark>) -> Change
     ensures { result ≡ record change { clears = marks.items } }
 {
@@ -138,14 +138,14 @@ fn clearing(change: Change, marks: Vec<PackMark>) -> Change
     change
 }
 
-// The packs of these marks.
+/// The packs of these marks.
 fn packs_of(alloc: Global, marks: &[PackMark]) -> Result<Vec<Id>, AllocError>
     ensures { IfOk result (λ packs. packs.items ≡ marked_packs marks.now) }
 {
     marks.iter().map(|mark| mark.pack).collect(alloc)
 }
 
-// The names of the indexes that list one of these packs, and the join of what is left of them.
+/// The names of the indexes that list one of these packs, and the join of what is left of them.
 fn leave(
     alloc: Global,
     indexes: &[(Id, Vec<IndexedPack>)],
@@ -166,14 +166,14 @@ fn leave(
     Ok((names, index))
 }
 
-// These packs, to look them up.
+/// These packs, to look them up.
 fn set_of(alloc: Global, packs: &[Id]) -> Result<BTreeSet<Id>, AllocError>
     ensures { IfOk result (λ set. (pack : the_id.Id) → contains id_cmp set pack ≡ has_pack packs.now pack) }
 {
     packs.iter().copied().collect(alloc)
 }
 
-// Puts the index's name and what is left of it behind the others, if it lists a pack that goes.
+/// Puts the index's name and what is left of it behind the others, if it lists a pack that goes.
 fn put_left(
     alloc: Global,
     index: &(Id, Vec<IndexedPack>),
@@ -196,7 +196,7 @@ fn put_left(
     Ok(())
 }
 
-// Whether one of the packs goes.
+/// Whether one of the packs goes.
 fn lists_gone(packs: &[IndexedPack], gone: &BTreeSet<Id>) -> bool
     ensures { result ≡ list_any (λ pack. contains id_cmp gone.now pack.id) packs.now }
 {

@@ -44,7 +44,7 @@ number_of id rows = option_and_then number_in (one_of id rows)
 abbrev pub counting : ℕ → Option ℕ
 counting number = if nat_lt number 1 || nat_lt 1048576 number then None else Some number
 
--- the same where it counts snapshots or events
+-- the number, from 1 to 1,048,576, where it counts snapshots or events
 abbrev pub count_of : Text → List Row → Option ℕ
 count_of id rows = option_and_then counting (number_of id rows)
 

@@ -41,7 +41,7 @@ pub fn number(matches: &ArgMatches<'_>, name: &str) -> Option<u64>
     matches.get_one::<u64>(name)
 }
 
-/// The same from 1 to 1,048,576, as snapshots and events are counted.
+/// The number that the option or the place is given, from 1 to 1,048,576, as snapshots and events are counted.
 pub fn count(matches: &ArgMatches<'_>, name: &str) -> Option<u32>
     ensures value { result ≡ count_of name.now (rows_in matches.now) }
     ensures range { IfSome result (λ count. (1 ≤ count) × (count ≤ 1_048_576)) }
