@@ -12,8 +12,8 @@ use Rattle.keep_jobs.specs.Job as job
 use Rattle.keep_jobs.specs.Job.{SettingsData, TaskData, job_change}
 use Rattle.keep_plan.specs.declared.plan_error.PlanError.TheVariants.{Memory}
 use Rattle.keep_acts.specs.Changing.{Changes, IsUnasked}
-use Rattle.keep_acts.specs.declared.choosing.Choice as the_choice
-use Rattle.keep_acts.specs.declared.choosing.Choice.TheVariants as which
+use Rattle.keep_acts.specs.declared.choice.Choice as the_choice
+use Rattle.keep_acts.specs.declared.choice.Choice.TheVariants as which
 use Rattle.keep_acts.specs.declared.not_done.NotDone.{NotDone}
 use Rattle.keep_acts.specs.declared.not_done.NotDone.TheVariants.{Unplanned}
 use Rattle.keep_acts.specs.declared.outcome.Outcome.{Outcome}

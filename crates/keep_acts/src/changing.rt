@@ -8,10 +8,10 @@ ghost use Rattle.keep_plan.specs.declared.plan_error.PlanError.TheVariants as pl
 ghost use Rattle.keep_acts.specs.Changing.{Changes, Commits};
 ghost use Rattle.keep_acts.specs.declared.not_done.NotDone.TheVariants as the_cause;
 
-use crate::asking::ask;
 use crate::made::Made;
 use crate::not_done::NotDone;
 use crate::outcome::Outcome;
+use crate::requesting::ask;
 use keep_book::Book;
 use keep_change::{Change, Planned};
 use keep_jobs::{HoldsFilter, Job, Settings, plan};

@@ -17,7 +17,7 @@ use Rattle.keep_lines.specs.declared.command.Command.{Command}
 use Rattle.keep_lines.specs.declared.command.LineError.{LineError}
 use Rattle.keep_lines.specs.declared.command.LineError.TheVariants.{Bad, Memory}
 use Rattle.keep_lines.specs.declared.mistake.Mistake.{Mistake}
-use Rattle.keep_lines.specs.declared.reply.Sizes.{Sizes}
+use Rattle.keep_lines.specs.declared.reply_lines.Sizes.{Sizes}
 use Rattle.keep_plan.specs.declared.plan_error.PlanError.{PlanError}
 use Rattle.keep_plan.specs.declared.plan_error.PlanError.TheVariants as plan_error
 use Rattle.keep_answers.specs.Answer.{AnswersTo, Asked, Committed, Done, JobAnswered, Shows, commit_of, replied, shown_by}

@@ -8,13 +8,13 @@ ghost use Rattle.keep_answers.specs.Meaning as meaning;
 ghost use Rattle.keep_answers.specs.Meaning.{job_meant, meant_by};
 ghost use Rattle.keep_answers.specs.State.{state_of};
 
+use crate::answer_lists::{write_count, write_history, write_list, write_totals};
 use crate::arming::arm;
-use crate::files::{added, dropped};
 use crate::halt::Halt;
-use crate::listing::{write_count, write_history, write_list, write_totals};
 use crate::meant::{Meant, Topic};
 use crate::output::put_line;
-use crate::reply::{
+use crate::raw_files::{added, dropped};
+use crate::reply_text::{
     write_armed, write_audit, write_committed, write_outcome, write_reply, write_restore,
     write_taken,
 };

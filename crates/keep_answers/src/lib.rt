@@ -2,19 +2,19 @@
 //! written.
 #![tactic(auto)]
 
+mod answer_lists;
 mod answering;
 mod arming;
-mod asking;
-mod files;
 mod halt;
 mod hook_place;
-mod listing;
 mod meant;
 mod notes;
 mod output;
-mod reply;
+mod raw_files;
+mod reply_text;
 mod resolving;
 mod session;
+mod session_events;
 
 pub use halt::Halt;
 pub use output::put_line;

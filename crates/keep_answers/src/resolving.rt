@@ -8,9 +8,9 @@ ghost use Rattle.keep_answers.specs.Files.{file_meant};
 ghost use Rattle.keep_answers.specs.Meaning.{Resolves, meant_by, question_meant};
 ghost use Rattle.keep_answers.specs.State.{state_of};
 
-use crate::files::find;
 use crate::hook_place::HookPlace;
 use crate::meant::{Meant, Topic};
+use crate::raw_files::find;
 use crate::session::Session;
 use keep_book::Book;
 use keep_hooks::{Veto, Watch};

@@ -9,12 +9,12 @@ use Rattle.keep_build.specs.Blobs.{BlobData}
 use Rattle.keep_archive.specs.declared.archive.Archive.{Archive}
 use Rattle.keep_archive.specs.declared.blobs.Blobs.{Blobs}
 use Rattle.keep_archive.specs.declared.carried.Carried.{Carried}
-use Rattle.keep_archive.specs.declared.file.Begun.{Begun}
+use Rattle.keep_archive.specs.declared.begun_file.Begun.{Begun}
 use Rattle.keep_archive.specs.declared.folder.Folder.{Folder}
 use Rattle.keep_archive.specs.declared.going.Going.{Going}
 use Rattle.keep_archive.specs.declared.held.HeldBlob.{HeldBlob}
-use Rattle.keep_archive.specs.declared.place.Around.{Around}
-use Rattle.keep_archive.specs.declared.place.Place.{Place}
+use Rattle.keep_archive.specs.declared.open_folders.Around.{Around}
+use Rattle.keep_archive.specs.declared.open_folders.Place.{Place}
 
 -- a folder in which another one is open: that one's name, and the nodes before it
 pub record AroundData : Type 0 where

@@ -1,7 +1,7 @@
+use crate::archive_node::{kind_of_file, kind_of_other, node_of};
 use crate::carried::Carried;
 use crate::going::Going;
 use crate::held::HeldBlob;
-use crate::node::{kind_of_file, kind_of_other, node_of};
 use keep_build::Cut;
 use keep_names::{BlobType, Id};
 use keep_plan::PlanError;

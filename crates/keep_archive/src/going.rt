@@ -1,6 +1,6 @@
+use crate::begun_file::Begun;
 use crate::blobs::Blobs;
-use crate::file::Begun;
-use crate::place::Place;
+use crate::open_folders::Place;
 use keep_build::Cut;
 use std::alloc::Global;
 

@@ -3,18 +3,18 @@
 #![tactic(auto)]
 
 mod archive;
+mod archive_node;
+mod archive_plans;
+mod backup_law;
+mod begun_file;
 mod blobs;
 mod carried;
-mod file;
 mod folder;
 mod going;
 mod held;
-mod laws;
-mod node;
-mod place;
-mod planning;
-mod storing;
+mod open_folders;
+mod part_storing;
 
 pub use archive::Archive;
+pub use backup_law::archives_plan_backups;
 pub use carried::Carried;
-pub use laws::archives_plan_backups;

@@ -16,7 +16,7 @@ use Rattle.keep_quoted.specs.Quote.{quoted}
 use Rattle.keep_sources.proofs.GivenAll.{gives-split}
 use Rattle.keep_sources.specs.Given.{GivesAll, ClosedFolder, DroppedFile, EndedFile, GotOther, GotSame, OpenedFolder, Wrote}
 use Rattle.keep_sources.specs.Met.{Leaf, Excluded, Missed, Other, Same, Whole, Broken, Met, End, Then, Inside, given_of, given_of_leaf, sized, total}
-use Rattle.keep_sources.specs.declared.sight.Sight.{Sight}
+use Rattle.keep_sources.specs.declared.stat.Sight.{Sight}
 use Rattle.keep_tree.specs.Tree.{KindData, NodeData, dir, file, other}
 use Rattle.keep_backups.specs.Sighted.{sighted, type_name_of}
 use Rattle.keep_backups.specs.Taken.{Gives, TakenData}

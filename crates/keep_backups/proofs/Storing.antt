@@ -17,7 +17,7 @@ use Rattle.keep_ledger.specs.LedgerState.{LedgerState}
 use Rattle.keep_ledger.specs.Made.{with_event}
 use Rattle.keep_ledger.specs.declared.reply.Refusal.{Refusal}
 use Rattle.keep_sources.specs.Told.{Told}
-use Rattle.keep_sources.specs.declared.job.Job.{Job}
+use Rattle.keep_sources.specs.declared.scope.Job.{Job}
 use Rattle.keep_backups.specs.Holding.{held_of}
 use Rattle.keep_backups.specs.Parts.{AddsSnapshot, BacksUp, IsLastOn, IsPartOn, StoresParts, none, one_more}
 use Rattle.keep_backups.specs.Taken.{kept_in, taken_in, taken_of}

@@ -6,7 +6,7 @@ use Rattle.keep_archive.specs.declared.archive.Archive.{Archive}
 use Rattle.keep_sources.specs.Given.{Given}
 use Rattle.keep_sources.specs.Told.{Told}
 use Rattle.keep_sources.specs.Took.{TookAll, skip_view}
-use Rattle.keep_sources.specs.declared.job.Job.{Job}
+use Rattle.keep_sources.specs.declared.scope.Job.{Job}
 use Rattle.keep_sources.specs.declared.receives.Stop.{Stop}
 use Rattle.keep_sources.specs.declared.skipped.Skipped.{Skipped}
 use Rattle.keep_backups.specs.Taken.{Gives, TakenData, kept_in, taken_in, taken_of}

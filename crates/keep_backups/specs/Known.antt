@@ -3,7 +3,7 @@ use Rattle.std.specs.Prelude.{ℕ, List, Option, None, Some}
 use Rattle.keep_members.specs.Found.{FoundData, found_in}
 use Rattle.keep_members.specs.Stamp.{StampData}
 use Rattle.keep_names.specs.declared.id.Id.{Id}
-use Rattle.keep_sources.specs.declared.job.Known as known
+use Rattle.keep_sources.specs.declared.scope.Known as known
 use Rattle.keep_tree.specs.Tree.{NodeData, KindData, dir, file, other}
 
 -- its size, its time and its pieces

@@ -10,7 +10,7 @@ use Rattle.keep_journal.specs.declared.request.Request.TheVariants.{Commit}
 use Rattle.keep_ledger.specs.LedgerState.{LedgerState}
 use Rattle.keep_ledger.specs.Made.{with_event}
 use Rattle.keep_sources.specs.Told.{Told}
-use Rattle.keep_sources.specs.declared.job.Job.{Job}
+use Rattle.keep_sources.specs.declared.scope.Job.{Job}
 use Rattle.keep_sources.specs.declared.skipped.Skipped.{Skipped}
 use Rattle.keep_backups.specs.Taken.{kept_in}
 use Rattle.keep_backups.specs.Trees.{IsTreeOf}

@@ -3,10 +3,10 @@ use Rattle.std.specs.Prelude.{ℕ, Option, None, Some, List, codes, string_bytes
 use Rattle.keep_members.specs.Members.{MembersData, text_view}
 use Rattle.keep_members.specs.Mode.{go_mode}
 use Rattle.keep_members.specs.Stamp.{StampData, nearest}
-use Rattle.keep_sources.specs.declared.sight.Kind.{Kind}
-use Rattle.keep_sources.specs.declared.sight.Kind.TheVariants.{File, Folder, Link, Fifo, Socket, Device, CharDevice}
-use Rattle.keep_sources.specs.declared.sight.Moment.{Moment}
-use Rattle.keep_sources.specs.declared.sight.Sight.{Sight}
+use Rattle.keep_sources.specs.declared.stat.Kind.{Kind}
+use Rattle.keep_sources.specs.declared.stat.Kind.TheVariants.{File, Folder, Link, Fifo, Socket, Device, CharDevice}
+use Rattle.keep_sources.specs.declared.stat.Moment.{Moment}
+use Rattle.keep_sources.specs.declared.stat.Sight.{Sight}
 
 -- the word for a kind
 abbrev pub type_name_of : Kind → List ℕ

@@ -10,8 +10,8 @@ use Rattle.keep_sources.specs.Limits.{most_levels}
 use Rattle.keep_sources.specs.Met.{Leaf, Excluded, Missed, Other, Same, Whole, Broken, Met, End, Then, Inside, names_of, sized, skips_of, total, unsaid}
 use Rattle.keep_sources.specs.Told.{Told}
 use Rattle.keep_sources.specs.Took.{IsMet, listed_names, skip_view}
-use Rattle.keep_sources.specs.declared.job.Job.{Job}
-use Rattle.keep_sources.specs.declared.sight.Sight.{Sight}
+use Rattle.keep_sources.specs.declared.scope.Job.{Job}
+use Rattle.keep_sources.specs.declared.stat.Sight.{Sight}
 use Rattle.keep_sources.specs.declared.skipped.Skipped.{Skipped}
 use Rattle.keep_sources.specs.declared.skipped.Why.{Why}
 use Rattle.keep_sources.specs.declared.source.Listing.{Listing}

@@ -8,7 +8,7 @@ ghost use Rattle.keep_backups.specs.Sighted.{sighted};
 use crate::begun::Begun;
 use crate::keeps::Keeps;
 use crate::lent::Lent;
-use crate::members::members_of;
+use crate::node_members::members_of;
 use crate::not_backed_up::NotBackedUp;
 use keep_archive::{Archive, Carried};
 use keep_build::Cut;

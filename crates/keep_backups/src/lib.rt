@@ -5,15 +5,15 @@
 mod backed_up;
 mod backing_up;
 mod begun;
-mod file;
 mod giving;
 mod intake;
 mod keeps;
+mod known_file;
 mod lent;
 mod list;
-mod members;
+mod node_members;
 mod not_backed_up;
-mod path;
+mod source_paths;
 mod type_name;
 
 pub use backed_up::BackedUp;

@@ -3,8 +3,8 @@ ghost use Rattle.keep_repo.specs.Repository.{is_filled};
 ghost use Rattle.keep_read.specs.Restored.{snapshot_facet};
 ghost use Rattle.keep_read.specs.declared.restore_error.RestoreError.TheVariants.{NoSnapshot};
 
-use crate::file::known_file;
-use crate::path::source_path;
+use crate::known_file::known_file;
+use crate::source_paths::source_path;
 use keep_names::Id;
 use keep_nodes::{Entry, nodes_of};
 use keep_read::RestoreError;

@@ -6,7 +6,7 @@
 
 mod backup;
 mod document;
-mod entry;
+mod entry_rate;
 mod forget;
 mod input;
 mod pack;
@@ -15,7 +15,7 @@ mod undo;
 
 use crate::backup::{BackedUp, back_up};
 use crate::document::measure;
-use crate::entry::is_written_so;
+use crate::entry_rate::is_written_so;
 use crate::forget::forget;
 use crate::input::read_all;
 use crate::pack::{Summary, summarize};

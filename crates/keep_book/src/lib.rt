@@ -3,12 +3,12 @@
 
 mod book;
 mod cascade;
+mod cascade_law;
 mod hooks;
-mod laws;
 mod not_armed;
 mod taken_back;
 
 pub use book::Book;
-pub use laws::nothing_leans_on_the_next;
+pub use cascade_law::nothing_leans_on_the_next;
 pub use not_armed::NotArmed;
 pub use taken_back::TakenBack;

@@ -3,9 +3,9 @@
 
 mod cut;
 mod packs;
-mod stored;
+mod stored_blobs;
 mod storing;
 
 pub use cut::Cut;
-pub use stored::store;
+pub use stored_blobs::store;
 pub use storing::{Storing, Text};

@@ -4,10 +4,10 @@
 
 ghost use Rattle.keepd.specs.Armed.{HasSums};
 
-mod logged;
+mod logged_shelf;
 mod stop;
 
-use crate::logged::LoggedShelf;
+use crate::logged_shelf::LoggedShelf;
 use crate::stop::Stop;
 use keepd::{
     AskFacts, AskOutline, BackupFacts, Book, Count, CountOutline, Cut, Filter, Job, Limit, Measure,

@@ -16,12 +16,12 @@ ghost use Rattle.keep_catalog.specs.declared.catalog_error.CatalogError.TheVaria
 
 use crate::bytes_there::bytes_at;
 use crate::catalog_error::CatalogError;
-use crate::choosing::{first_open, some_honest, some_stored};
-use crate::names::{Named, names_at, nodes_at};
+use crate::named_blobs::{Named, names_at, nodes_at};
 use crate::reach_error::ReachError;
 use crate::spot::{PackedBlob, Spot};
 use crate::tables::{Tables, unread_files};
 use crate::unread::Unread;
+use crate::usable_listings::{first_open, some_honest, some_stored};
 use keep_names::{BlobId, Id};
 use keep_repo::Repo;
 use keep_snap::Snap;

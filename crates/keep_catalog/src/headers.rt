@@ -4,7 +4,7 @@ ghost use Rattle.keep_catalog.specs.Files.{header_in, header_view, headers_in};
 ghost use Rattle.keep_catalog.specs.Files.{index_in, indexes_in, packs_view, readable};
 
 use crate::catalog::Catalog;
-use crate::reading::{is_index_memory, is_pack_memory};
+use crate::file_reading::{is_index_memory, is_pack_memory};
 use keep_index::{IndexedPack, read_index};
 use keep_names::{Blob, FileName, Id, Kind};
 use keep_pack::read_header;

@@ -17,9 +17,9 @@ ghost use Rattle.keep_catalog.specs.Kept.{AreNew, AreThere, AreUnreadOf, IsKept,
 ghost use Rattle.keep_catalog.specs.Kept.{with_file, with_files, without_file, without_files};
 ghost use Rattle.keep_catalog.specs.Orders.{same_id, same_name};
 
+use crate::file_reading::{read_listed, read_pack, read_snapshot};
 use crate::headers::add_found;
 use crate::listed::{Listed, list, unlist};
-use crate::reading::{read_listed, read_pack, read_snapshot};
 use crate::stored::{Stored, store, unstore};
 use crate::unread::{FileError, Unread};
 use indexmap::IndexMap;

@@ -12,7 +12,7 @@ ghost use Rattle.keep_index.specs.Joining.{first_of_each};
 
 use crate::bytes_there::is_honest;
 use crate::catalog::Catalog;
-use crate::reading::read_pack;
+use crate::file_reading::read_pack;
 use crate::spot::PackedBlob;
 use crate::stored::Stored;
 use keep_names::{Blob, BlobId, FileName, Id, Kind};

@@ -2,9 +2,9 @@
 #![tactic(auto)]
 
 mod change;
+mod change_laws;
 mod effect;
 mod holder;
-mod laws;
 mod listed;
 mod marks;
 mod meets;
@@ -18,11 +18,11 @@ mod turn;
 mod well_formedness;
 
 pub use change::{Change, PackMark, Planned};
-pub use holder::Holder;
-pub use laws::{
+pub use change_laws::{
     redo_is_exact, results_follow_the_lists, sorted_lists_are_well_formed, taking_back_restores,
     undo_is_exact, what_is_asked_is_met, written_facets_turn,
 };
+pub use holder::Holder;
 pub use listed::Listed;
 pub use marks::marks_of;
 pub use member::Member;

@@ -1,8 +1,8 @@
 -- Lines are kept where nothing is read or written.
 use Rattle.std.proofs.Common.{◌≡◌, ◌∙◌, ℕ, List, [], Option, Some, None, append-nil, inl, refl, sym}
 use Rattle.std.specs.Io.KnownBytes.{Keeps}
-use Rattle.keep_disk.specs.declared.error.FolderError.{FolderError}
-use Rattle.keep_disk.specs.declared.error.FolderError.TheVariants as unopened
+use Rattle.keep_disk.specs.declared.folder_error.FolderError.{FolderError}
+use Rattle.keep_disk.specs.declared.folder_error.FolderError.TheVariants as unopened
 use Rattle.keep_answers.proofs.KnownLemmas.{WritesLines-none}
 use Rattle.keep_answers.specs.Known.{WritesLines}
 use Rattle.keep_script.specs.Run.{IsUntouched}

@@ -9,7 +9,7 @@ use Rattle.keep_plan.specs.declared.pick.Pick.{Pick}
 use Rattle.keep_plan.specs.declared.pick.Pick.TheVariants.{Any, Host, Tagged}
 use Rattle.keep_jobs.specs.Kits.{NamedRule}
 use Rattle.keep_shelf.specs.Shelved.{Shelved}
-use Rattle.keep_disk.specs.declared.error.FolderError.{FolderError}
+use Rattle.keep_disk.specs.declared.folder_error.FolderError.{FolderError}
 use Rattle.keep_operators.specs.declared.order.NoCrew.{NoCrew}
 use Rattle.keep_operators.specs.declared.order.Tally.{Tally}
 use Rattle.keep_command.specs.Left.{LeftData}

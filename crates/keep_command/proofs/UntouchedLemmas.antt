@@ -2,7 +2,7 @@
 use Rattle.std.proofs.Common.{◌≡◌, ℕ, IfSome, List, Option, Some, None, Result, inr, refl, subst, sym}
 use Rattle.std.proofs.KnownBytes.{Keeps-refl}
 use Rattle.keep_shelf.specs.Shelved.{Shelved}
-use Rattle.keep_disk.specs.declared.error.FolderError.{FolderError}
+use Rattle.keep_disk.specs.declared.folder_error.FolderError.{FolderError}
 use Rattle.keep_operators.specs.declared.order.NoCrew.{NoCrew}
 use Rattle.keep_operators.specs.declared.order.Tally.{Tally}
 use Rattle.keep_script.specs.Run.{IsUntouched}

@@ -3,8 +3,8 @@ use Rattle.std.specs.Prelude.{◌≡◌, ℕ, List, [], ◌++◌, Some, None, Re
 use Rattle.std.specs.Borrow.{Bor}
 use Rattle.std.specs.Fmt.{decimal}
 use Rattle.keep_disk.specs.Ends.{cause_text}
-use Rattle.keep_disk.specs.declared.error.FolderError.{FolderError}
-use Rattle.keep_disk.specs.declared.error.FolderError.TheVariants as unopened
+use Rattle.keep_disk.specs.declared.folder_error.FolderError.{FolderError}
+use Rattle.keep_disk.specs.declared.folder_error.FolderError.TheVariants as unopened
 use Rattle.keep_opening.specs.OpenError.{open_error_text}
 use Rattle.keep_opening.specs.declared.open_error.OpenError.{OpenError}
 use Rattle.keep_opening.specs.declared.open_error.OpenError.TheVariants as unread

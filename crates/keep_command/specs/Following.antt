@@ -8,7 +8,7 @@ use Rattle.std.specs.Global.{Global}
 use Rattle.std.specs.Io.KnownBytes.{Appends}
 use Rattle.keep_hooks.specs.Guards.{HooksData}
 use Rattle.keep_shelf.specs.Shelved.{Shelved}
-use Rattle.keep_disk.specs.declared.error.FolderError.{FolderError}
+use Rattle.keep_disk.specs.declared.folder_error.FolderError.{FolderError}
 use Rattle.keep_opening.specs.declared.open_error.OpenError.{OpenError}
 use Rattle.keep_opening.specs.declared.open_error.OpenError.TheVariants.{BadEntry}
 use Rattle.keep_ledger.specs.OnShelf.{OnShelf}

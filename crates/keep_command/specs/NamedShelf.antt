@@ -2,7 +2,7 @@
 use Rattle.std.specs.Prelude.{◌≡◌, ⊤, ℕ, IsTrue, List, Option, Some, None, Result, Ok, Err}
 use Rattle.std.specs.FinMap as map
 use Rattle.keep_shelf.specs.Shelved.{Shelved, stocked}
-use Rattle.keep_disk.specs.declared.error.FolderError.{FolderError}
+use Rattle.keep_disk.specs.declared.folder_error.FolderError.{FolderError}
 use Rattle.keep_command.specs.declared.named_shelf.NamedShelf.{NamedShelf}
 use Rattle.keep_command.specs.declared.named_shelf.NamedShelf.TheVariants.{Memory, Folder}
 

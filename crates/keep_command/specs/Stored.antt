@@ -2,7 +2,7 @@
 use Rattle.std.specs.Prelude.{map}
 use Rattle.keep_hooks.specs.Rules.{rules_of, watches_of}
 use Rattle.keep_jobs.specs.Kits.{KitData, named_rule}
-use Rattle.keep_command.specs.declared.stored.Stored.{Stored}
+use Rattle.keep_command.specs.declared.stored_questions.Stored.{Stored}
 
 -- the kit that it makes, without the questions that it is stored with
 abbrev pub stored_view : {I J K F G H f g h : _} → Stored I J K F G H f g h → KitData

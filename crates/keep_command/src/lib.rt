@@ -8,7 +8,7 @@ mod program;
 mod report;
 mod serving;
 mod shelves;
-mod stored;
+mod stored_questions;
 mod terms;
 mod unopened;
 

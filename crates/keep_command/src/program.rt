@@ -14,7 +14,7 @@ use crate::crew::Crew;
 use crate::ending::Ending;
 use crate::serving::serve;
 use crate::shelves::Shelves;
-use crate::stored::Stored;
+use crate::stored_questions::Stored;
 use crate::terms::Terms;
 use keep_change::{Outline, What};
 use keep_hooks::{

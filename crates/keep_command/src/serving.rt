@@ -17,7 +17,7 @@ use crate::ending::Ending;
 use crate::named_shelf::NamedShelf;
 use crate::report::{Report, tell_crew};
 use crate::shelves::Shelves;
-use crate::stored::Stored;
+use crate::stored_questions::Stored;
 use crate::terms::Terms;
 use crate::unopened::Unopened;
 use keep_book::Book;

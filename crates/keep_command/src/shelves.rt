@@ -8,7 +8,7 @@ use keep_shelf::Shelf;
 pub trait Shelves {
     ghost use Rattle.std.specs.Prelude.{ℕ, List, Option, Result, option_map};
     ghost use Rattle.keep_book.specs.Armed.{hooks_of, on_shelf};
-    ghost use Rattle.keep_disk.specs.declared.error.FolderError.{FolderError};
+    ghost use Rattle.keep_disk.specs.declared.folder_error.FolderError.{FolderError};
     ghost use Rattle.keep_command.specs.Left.{LeftBook, LeftData, LeftShelf};
     ghost use Rattle.keep_command.specs.declared.named_shelf.NamedShelf.{NamedShelf};
 

@@ -4,15 +4,15 @@
 
 ghost use Rattle.keep_book.specs.Armed.{HasSums};
 
+mod cost_row;
 mod counted;
-mod filling;
+mod fill_cost;
 mod gone_through;
-mod row;
 
+use crate::cost_row::{Bounds, Row, row_of};
 use crate::counted::Counted;
-use crate::filling::{answer, fill};
+use crate::fill_cost::{answer, fill};
 use crate::gone_through::{forget, gone_through};
-use crate::row::{Bounds, Row, row_of};
 use anyhow::{Result, anyhow};
 use keep_book::Book;
 use keep_shelf::MemoryShelf;

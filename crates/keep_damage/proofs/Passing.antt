@@ -8,7 +8,7 @@ use Rattle.keep_journal.proofs.Kept.{later_none}
 use Rattle.keep_journal.proofs.Later.{later_with, later_without}
 use Rattle.keep_reading.specs.Checks.{Files}
 use Rattle.keep_damage.specs.Asked.{passed, stepped}
-use Rattle.keep_damage.specs.declared.pass.Pass.{Pass}
+use Rattle.keep_damage.specs.declared.half.Pass.{Pass}
 
 -- the changes after n, gone through from what there is, make what all make of what there was
 abbrev pub Passes : Pass → Journal → ℕ → Files → Files → Type 0

@@ -12,8 +12,8 @@ use Rattle.keep_shelf.specs.declared.key.Key.TheVariants.{Live, Trash}
 use Rattle.keep_moves.specs.Standing.{trashed}
 use Rattle.keep_reading.specs.Checks.{Files}
 use Rattle.keep_opening.specs.Filing.{live_into}
-use Rattle.keep_damage.specs.declared.pass.Pass.{Pass}
-use Rattle.keep_damage.specs.declared.pass.Pass.TheVariants.{Look, Write}
+use Rattle.keep_damage.specs.declared.half.Pass.{Pass}
+use Rattle.keep_damage.specs.declared.half.Pass.TheVariants.{Look, Write}
 
 -- the files with something under the name
 abbrev pub with_placeholder : FileName → Files → Files

@@ -5,7 +5,7 @@ ghost use Rattle.keep_damage.specs.Asked.{IsAsked, filled, passed, stepped, with
 ghost use Rattle.keep_journal.specs.Kept.{kept};
 ghost use Rattle.keep_journal.specs.Opening.{AreWellFormed};
 
-use crate::pass::Pass;
+use crate::half::Pass;
 use keep_change::Change;
 use keep_journal::History;
 use keep_names::FileName;

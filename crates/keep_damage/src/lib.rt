@@ -4,13 +4,13 @@
 mod asked;
 mod comparing;
 mod damage;
+mod damage_report;
 mod entries;
 mod finding;
-mod pass;
+mod half;
 mod sign;
 mod teller;
-mod words;
 
 pub use damage::{damage_in, damage_on};
+pub use damage_report::report;
 pub use finding::Finding;
-pub use words::report;

@@ -4,8 +4,8 @@ use Rattle.std.specs.Borrow.{Bor}
 use Rattle.std.specs.Global.{Vec}
 use Rattle.keep_acts.specs.Choosing.{ChoiceData, choice_view}
 use Rattle.keep_acts.specs.Choosing as chosen
-use Rattle.keep_acts.specs.declared.choosing.Choice.{Choice}
-use Rattle.keep_acts.specs.declared.choosing.Choice.TheVariants.{All, Named}
+use Rattle.keep_acts.specs.declared.choice.Choice.{Choice}
+use Rattle.keep_acts.specs.declared.choice.Choice.TheVariants.{All, Named}
 use Rattle.keep_jobs.specs.Job as job
 use Rattle.keep_jobs.specs.Job.{TaskData, task_view}
 use Rattle.keep_journal.specs.declared.request.Request.{Request}

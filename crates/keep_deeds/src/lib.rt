@@ -2,10 +2,10 @@
 #![tactic(auto)]
 
 mod deed;
+mod deed_texts;
 mod meaning;
 mod performing;
 mod tasks;
-mod texts;
 
 pub use deed::{Deed, NoDeed};
 pub use meaning::deed_of;

@@ -4,8 +4,8 @@ ghost use Rattle.keep_deeds.specs.Deed.{deed_in, deed_view, forgetting, option_v
 ghost use Rattle.keep_deeds.specs.declared.deed.NoDeed.TheVariants.{Memory};
 
 use crate::deed::{Deed, NoDeed};
+use crate::deed_texts::texts_of;
 use crate::tasks::{aimed, chosen, edit_of, policy_of};
-use crate::texts::texts_of;
 use keep_acts::Choice;
 use keep_jobs::Task;
 use keep_ledger::Request;

@@ -6,7 +6,7 @@ ghost use Rattle.keep_deeds.specs.Deed.{aim_in, count_in, edit_in, needs_in, pol
 ghost use Rattle.keep_words.specs.Read.{text_of};
 
 use crate::deed::NoDeed;
-use crate::texts::texts_of;
+use crate::deed_texts::texts_of;
 use keep_acts::Choice;
 use keep_labels::{Count, Edit, Policy};
 use keep_names::Id;

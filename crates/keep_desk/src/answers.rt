@@ -1,7 +1,7 @@
 ghost use Rattle.std.specs.Prelude.{◌≡◌};
 ghost use Rattle.keep_crew.specs.Answered.{number_in};
 
-use crate::opening::Wanting;
+use crate::first_passes::Wanting;
 use keep_ledger::{Refusal, Told};
 
 /// Why a desk isn't opened. The book is handed back.

@@ -10,8 +10,8 @@ ghost use Rattle.keep_desk.specs.Closed.{IsClosed, keeper_of};
 ghost use Rattle.keep_register.specs.Known.{AreFresh};
 
 use crate::answers::NotOpened;
+use crate::first_passes::{passes_of, press_of};
 use crate::locked::Locked;
-use crate::opening::{passes_of, press_of};
 use crate::taken_back::TakenBack;
 use keep_change::Planned;
 use keep_chronicle::Opened;

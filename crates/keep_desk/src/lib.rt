@@ -4,9 +4,9 @@
 mod answers;
 mod crew;
 mod desk;
+mod first_passes;
 mod handing;
 mod locked;
-mod opening;
 mod press;
 mod taken_back;
 mod taking_in;

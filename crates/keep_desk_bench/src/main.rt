@@ -2,14 +2,14 @@
 //! each of them did and how long that took, so that what a desk bears can be measured.
 #![tactic(auto)]
 
-mod crew;
-mod desk;
+mod bench_crew;
+mod bench_files;
+mod desk_run;
 mod done;
-mod files;
 mod worker;
 
-use crate::crew::{Crew, crew_of};
-use crate::desk::{Ran, run};
+use crate::bench_crew::{Crew, crew_of};
+use crate::desk_run::{Ran, run};
 use anyhow::{Result, anyhow};
 use std::env;
 use std::process::ExitCode;

@@ -1,9 +1,9 @@
 ghost use Rattle.std.specs.Prelude.{◌≡◌, ◌*◌, IfSome};
 ghost use Rattle.keep_register.specs.Allowed.{AllowsAll};
 
-use crate::crew::Crew;
+use crate::bench_crew::Crew;
+use crate::bench_files::adding;
 use crate::done::{Done, Start};
-use crate::files::adding;
 use keep_desk::{Desk, Locked, Pass};
 use keep_register::{Keeper, Naming};
 use std::alloc::Global;

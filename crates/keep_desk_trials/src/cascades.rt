@@ -2,8 +2,8 @@ ghost use Rattle.keep_register.specs.Allowed.{AllowsAll};
 
 use crate::adding::is_told;
 use crate::commands::Command;
+use crate::desk_looks::{Found, look};
 use crate::desks::{Scene, play};
-use crate::looking::{Found, look};
 use keep_book::Book;
 use keep_desk::{Desk, Locked, Pass};
 use keep_register::{Keeper, Naming};

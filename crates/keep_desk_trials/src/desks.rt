@@ -5,8 +5,8 @@ ghost use Rattle.keep_register.specs.Allowed.{AllowsAll};
 
 use crate::cascades::both_taken_back;
 use crate::crews::{all_at_once, both_at_once, last_first};
+use crate::failing_calls::Failing;
 use crate::refusals::refused_twice;
-use crate::shelves::Failing;
 use crate::sweeps::{emptied_under_marks, swept_too_late};
 use crate::turns::{one_at_a_time, one_goes_on, one_pass_lost};
 use keep_book::Book;

@@ -10,15 +10,15 @@ mod commands;
 #[cfg(test)]
 mod crews;
 #[cfg(test)]
+mod desk_looks;
+#[cfg(test)]
 mod desks;
+#[cfg(test)]
+mod failing_calls;
 #[cfg(test)]
 mod gates;
 #[cfg(test)]
-mod looking;
-#[cfg(test)]
 mod refusals;
-#[cfg(test)]
-mod shelves;
 #[cfg(test)]
 mod sweeps;
 #[cfg(test)]

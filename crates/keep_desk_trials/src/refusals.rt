@@ -2,8 +2,8 @@ ghost use Rattle.keep_book.specs.Armed.{HasSums};
 ghost use Rattle.keep_register.specs.Allowed.{AllowsAll};
 
 use crate::adding::{Adding, is_refused, is_told};
+use crate::desk_looks::{Found, look};
 use crate::desks::{Scene, play};
-use crate::looking::{Found, look};
 use keep_book::Book;
 use keep_change::{Outline, Planned, What};
 use keep_desk::{Desk, DeskError, Locked, Pass};

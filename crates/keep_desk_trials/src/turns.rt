@@ -1,8 +1,8 @@
 ghost use Rattle.keep_register.specs.Allowed.{AllowsAll};
 
 use crate::adding::{Adding, is_refused, is_told};
+use crate::desk_looks::{A, B, Found, has_index, look};
 use crate::desks::{Scene, play};
-use crate::looking::{A, B, Found, has_index, look};
 use keep_book::Book;
 use keep_desk::{Desk, Locked, Pass};
 use keep_ledger::Refusal;

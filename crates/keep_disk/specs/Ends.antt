@@ -4,10 +4,10 @@ use Rattle.std.specs.Prelude.{ℕ, List, codes}
 use Rattle.std.specs.declared.io.Error.{Error}
 use Rattle.std.specs.declared.io.ErrorKind.{ErrorKind}
 use Rattle.std.specs.declared.io.ErrorKind.TheVariants.{HostUnreachable, InvalidInput, IsADirectory, NotADirectory, NotConnected, NotFound, OutOfMemory, PermissionDenied, StaleNetworkFileHandle, TimedOut}
-use Rattle.keep_disk.specs.declared.error.Cause.{Cause}
-use Rattle.keep_disk.specs.declared.error.Cause.TheVariants.{Away, Denied, Failed, Missing, OtherSort}
-use Rattle.keep_disk.specs.declared.error.FolderError.{FolderError}
-use Rattle.keep_disk.specs.declared.error.FolderError.TheVariants.{Fault, Memory}
+use Rattle.keep_disk.specs.declared.folder_error.Cause.{Cause}
+use Rattle.keep_disk.specs.declared.folder_error.Cause.TheVariants.{Away, Denied, Failed, Missing, OtherSort}
+use Rattle.keep_disk.specs.declared.folder_error.FolderError.{FolderError}
+use Rattle.keep_disk.specs.declared.folder_error.FolderError.TheVariants.{Fault, Memory}
 
 -- want of memory is told from all else
 abbrev pub ended_by : ErrorKind → FolderError

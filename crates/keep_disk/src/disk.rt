@@ -1,12 +1,12 @@
 ghost use Rattle.std.specs.IoError.{error_kind};
 ghost use Rattle.std.specs.Prelude.{◌≡◌, ◌≢◌, ◌↔◌, ◌⊎◌, Err, IfErr, IsTrue, Ok, OnOk};
-ghost use Rattle.keep_files.specs.declared.error.TreeError.TheVariants as the_error;
+ghost use Rattle.keep_files.specs.declared.tree_error.TreeError.TheVariants as the_error;
 
+use crate::disk_names::{is_leftover, names_in};
 use crate::lock::Lock;
-use crate::names::{is_leftover, names_in};
+use crate::new_file::write_lasting;
 use crate::private::{make_dir, make_file};
 use crate::sight::{after_making, after_removal, after_rename, after_writing, is_at, look};
-use crate::writing::write_lasting;
 use keep_files::TreeError;
 use std::alloc::{AllocError, Global};
 use std::fs::{File, Files};

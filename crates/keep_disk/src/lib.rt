@@ -1,19 +1,19 @@
 //! A tree of files on a disk, with an image of it in memory.
 #![tactic(auto)]
 
-mod config;
 mod disk;
-mod error;
+mod disk_config;
+mod disk_names;
+mod disk_opening;
+mod disk_reading;
+mod disk_tree;
+mod folder_error;
 mod lock;
-mod names;
-mod opening;
+mod new_file;
 mod private;
-mod reading;
 mod scan;
 mod sight;
-mod tree;
-mod writing;
 
-pub use error::{Cause, FolderError};
-pub use opening::NotRead;
-pub use tree::DiskTree;
+pub use disk_opening::NotRead;
+pub use disk_tree::DiskTree;
+pub use folder_error::{Cause, FolderError};

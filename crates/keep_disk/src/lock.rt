@@ -1,11 +1,11 @@
 ghost use Rattle.std.specs.Prelude.{◌≡◌, Err, IsOk, OnOk};
 ghost use Rattle.std.specs.declared.io.Error.{Error};
 ghost use Rattle.keep_disk.specs.Ends.{end_of};
-ghost use Rattle.keep_disk.specs.declared.error.FolderError.TheVariants as the_error;
+ghost use Rattle.keep_disk.specs.declared.folder_error.FolderError.TheVariants as the_error;
 
-use crate::error::FolderError;
+use crate::disk_reading::require_file;
+use crate::folder_error::FolderError;
 use crate::private::make_file;
-use crate::reading::require_file;
 use crate::sight::is_at;
 use std::alloc::Global;
 use std::fs::{File, Files, OpenOptions, TryLockError};

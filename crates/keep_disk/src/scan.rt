@@ -3,9 +3,9 @@ ghost use Rattle.keep_files.specs.Stands.{IsClosed};
 ghost use Rattle.keep_files.specs.declared.node.Node.TheVariants as the_node;
 ghost use Rattle.keep_memory_files.specs.Memory.{seen_in};
 
+use crate::disk_names::names_in;
+use crate::disk_reading::{MAX_TURNS, read_file};
 use crate::lock::Lock;
-use crate::names::names_in;
-use crate::reading::{MAX_TURNS, read_file};
 use keep_files::acts_keep_folders;
 use keep_memory_files::MemoryTree;
 use keep_paths::{holds_keys, key_of_path};

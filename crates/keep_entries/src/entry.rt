@@ -7,8 +7,8 @@ ghost use Rattle.keep_entries.specs.declared.misread.Misread.TheVariants as misr
 use crate::checks::is_proper;
 use crate::entry_error::EntryError;
 use crate::event_in::read_in;
+use crate::event_text::event_text;
 use crate::misread::Misread;
-use crate::writing::event_text;
 use keep_journal::{Entry, Event};
 use std::alloc::{AllocError, Global};
 

@@ -11,7 +11,7 @@ ghost use Rattle.keep_entries.specs.declared.misread.Misread.TheVariants.{Memory
 use crate::form::{Form, form_of};
 use crate::lists_at::{files_at, ids_at, marks_at, names_at};
 use crate::misread::Misread;
-use crate::parts::has_members;
+use crate::read_parts::has_members;
 use keep_change::{Change, SharedChange};
 use keep_docs::{is_text_of, read_doc, str_at, u64_at};
 use keep_journal::{Event, EventKind};

@@ -4,16 +4,16 @@
 mod checks;
 mod entry;
 mod entry_error;
+mod entry_laws;
+mod entry_values;
 mod event_in;
+mod event_text;
 mod form;
-mod laws;
 mod lists_at;
-mod members;
 mod misread;
-mod parts;
-mod values;
-mod writing;
+mod object_text;
+mod read_parts;
 
 pub use entry::{read_entry, write_entry};
 pub use entry_error::EntryError;
-pub use laws::{events_of_open_histories_are_entries, one_event_is_spelled};
+pub use entry_laws::{events_of_open_histories_are_entries, one_event_is_spelled};

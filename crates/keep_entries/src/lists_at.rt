@@ -8,7 +8,7 @@ ghost use Rattle.keep_entries.specs.declared.misread.Misread.TheVariants.{Memory
 
 use crate::form::Form;
 use crate::misread::Misread;
-use crate::parts::{file_in, mark_in, name_in};
+use crate::read_parts::{file_in, mark_in, name_in};
 use keep_change::{Listed, PackMark, StoredFile};
 use keep_docs::{ids, list_at};
 use keep_names::{FileName, Id};

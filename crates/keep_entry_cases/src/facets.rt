@@ -1,4 +1,4 @@
-use crate::no::No;
+use crate::no_entry::No;
 use keep_change::{Change, Listed, SharedChange, StoredFile};
 use keep_entries::{read_entry, write_entry};
 use keep_journal::{Entry, Event, EventKind};

@@ -1,4 +1,4 @@
-use crate::no::No;
+use crate::no_entry::No;
 use keep_entries::{EntryError, read_entry};
 use std::alloc::Global;
 use std::str;

@@ -16,8 +16,8 @@ use Rattle.keep_change.specs.NamedBytes.{NamedBytes}
 use Rattle.keep_change.specs.declared.change.Change.{Change}
 use Rattle.keep_rows.specs.Values.{local_of}
 use Rattle.keep_rows.specs.declared.when.When.{When}
-use Rattle.keep_events.specs.declared.deed.Deed.{Deed}
-use Rattle.keep_events.specs.declared.deed.Deed.TheVariants as deed
+use Rattle.keep_events.specs.declared.purpose.Deed.{Deed}
+use Rattle.keep_events.specs.declared.purpose.Deed.TheVariants as deed
 use Rattle.keep_events.specs.declared.shape.Files.{Files}
 use Rattle.keep_events.specs.declared.shape.Shape.{Shape}
 use Rattle.keep_events.specs.declared.taken.Taken.{Taken}

@@ -3,7 +3,7 @@ ghost use Rattle.keep_events.specs.Deeds.{taken_view};
 ghost use Rattle.keep_events.specs.Events as spec;
 ghost use Rattle.keep_events.specs.Events.{wrote_view};
 
-use crate::deed::{deed_of, deed_text};
+use crate::purpose::{deed_of, deed_text};
 use crate::shape::Shape;
 use crate::taken::Taken;
 use crate::wrote::Wrote;

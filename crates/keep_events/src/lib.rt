@@ -1,20 +1,20 @@
 //! What a history and its changes say to people: each event with what it did, and each part of a change.
 #![tactic(auto)]
 
-mod deed;
+mod change_parts;
 mod event;
-mod events;
+mod event_rows;
 mod part;
-mod parts;
+mod purpose;
 mod shape;
 mod taken;
 mod wrote;
 
-pub use deed::Deed;
+pub use change_parts::parts_of;
 pub use event::EventRow;
-pub use events::events_of;
+pub use event_rows::events_of;
 pub use part::{PartRow, Sign};
-pub use parts::parts_of;
+pub use purpose::Deed;
 pub use shape::{Files, Shape, shape_of};
 pub use taken::Taken;
 pub use wrote::Wrote;

@@ -2,8 +2,8 @@
 use Rattle.std.specs.Prelude.{◌≡◌, ◌≢◌, ℕ, ◌⊎◌, None, Some, false, IsTrue, List, [], ◌∷◌, ◌++◌}
 use Rattle.keep_shelf.specs.Shelved.{risen}
 use Rattle.keep_files.specs.Stands.{HasHome, Stands, is_file, is_folder, moved, put_at}
-use Rattle.keep_files.specs.declared.error.TreeError.{TreeError}
-use Rattle.keep_files.specs.declared.error.TreeError.TheVariants.{Broken, Unknown}
+use Rattle.keep_files.specs.declared.tree_error.TreeError.{TreeError}
+use Rattle.keep_files.specs.declared.tree_error.TreeError.TheVariants.{Broken, Unknown}
 use Rattle.keep_files.specs.declared.node.Node.TheVariants.{Folder, File}
 
 -- what can be done with a tree, by paths

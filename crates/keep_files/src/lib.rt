@@ -1,14 +1,14 @@
 //! The files below a folder, as any tree that has them.
 #![tactic(auto)]
 
-mod error;
+mod file_tree;
+mod folder_law;
 mod home;
-mod laws;
 mod node;
-mod tree;
+mod tree_error;
 
-pub use error::TreeError;
+pub use file_tree::FileTree;
+pub use folder_law::acts_keep_folders;
 pub use home::home_of;
-pub use laws::acts_keep_folders;
 pub use node::Node;
-pub use tree::FileTree;
+pub use tree_error::TreeError;

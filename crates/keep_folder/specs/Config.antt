@@ -4,8 +4,8 @@ use Rattle.keep_docs.specs.Config.{config_of}
 use Rattle.keep_docs.specs.declared.config.ConfigError.{ConfigError}
 use Rattle.keep_docs.specs.declared.config.ConfigError.TheVariants.{Doc}
 use Rattle.keep_docs.specs.declared.doc.DocError.TheVariants as doc
-use Rattle.keep_disk.specs.declared.error.FolderError.{FolderError}
-use Rattle.keep_disk.specs.declared.error.FolderError.TheVariants.{BadConfig, Memory}
+use Rattle.keep_disk.specs.declared.folder_error.FolderError.{FolderError}
+use Rattle.keep_disk.specs.declared.folder_error.FolderError.TheVariants.{BadConfig, Memory}
 use Rattle.keep_names.specs.declared.id.Id.{Id}
 
 -- these bytes are read as a config of this id

@@ -1,5 +1,5 @@
-use crate::config::config_bytes;
-use crate::error::BeginError;
+use crate::begin_error::BeginError;
+use crate::new_config::config_bytes;
 use keep_names::Id;
 use std::alloc::Global;
 use std::fs::{DirBuilder, File, Files, OpenOptions};

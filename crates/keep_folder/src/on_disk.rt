@@ -1,6 +1,6 @@
 ghost use Rattle.std.specs.Prelude.{◌≡◌, [], Err, IfOk, IsTrue};
-ghost use Rattle.keep_disk.specs.declared.error.Cause.TheVariants as the_cause;
-ghost use Rattle.keep_disk.specs.declared.error.FolderError.TheVariants as the_error;
+ghost use Rattle.keep_disk.specs.declared.folder_error.Cause.TheVariants as the_cause;
+ghost use Rattle.keep_disk.specs.declared.folder_error.FolderError.TheVariants as the_error;
 ghost use Rattle.keep_shelf.specs.Shelved.{stocked};
 
 use crate::host::HostTree;

@@ -3,7 +3,7 @@ ghost use Rattle.std.specs.FinMap as map;
 ghost use Rattle.keep_files.specs.Content.{HoldsFiles};
 ghost use Rattle.keep_files.specs.Stands.{IsClosed};
 ghost use Rattle.keep_keyed_folder.specs.Tmp.{IsTmp};
-ghost use Rattle.keep_files.specs.declared.error.TreeError.TheVariants.{Broken};
+ghost use Rattle.keep_files.specs.declared.tree_error.TreeError.TheVariants.{Broken};
 ghost use Rattle.keep_shelf.specs.Shelved.{called, failed, shifted, stocked};
 
 use crate::content::put_back;

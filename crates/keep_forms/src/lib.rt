@@ -2,9 +2,9 @@
 #![tactic(auto)]
 
 mod changing_forms;
+mod clap_forms;
 mod common_forms;
 mod form;
-mod making;
 mod reading_forms;
 
-pub use making::keep_command;
+pub use clap_forms::keep_command;

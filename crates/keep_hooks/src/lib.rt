@@ -3,21 +3,21 @@
 #![tactic(auto)]
 
 mod armed_watch;
+mod event_measures;
 mod guard;
 mod hook_name;
-mod laws;
 mod limit;
 mod measure;
+mod measure_law;
 mod veto;
 mod watch;
-mod written;
 
 pub use armed_watch::ArmedWatch;
+pub use event_measures::{files_written, makes_change, snapshots_dropped};
 pub use guard::{Guard, NoHooks};
 pub use hook_name::HookName;
-pub use laws::measures_are_small;
 pub use limit::Limit;
 pub use measure::Measure;
+pub use measure_law::measures_are_small;
 pub use veto::{AskOutline, Veto, first_veto};
 pub use watch::{CountOutline, Watch};
-pub use written::{files_written, makes_change, snapshots_dropped};

@@ -1,9 +1,9 @@
 //! Gives what lies in a folder beside the program to a printer, and says what the machine says of itself.
 #![tactic(auto)]
 
-mod events;
+mod host_events;
 
-use crate::events::Events;
+use crate::host_events::Events;
 use keep_host_source::{HostSource, host_name, user_id, user_name};
 use keep_sources::{Job, Taking};
 use std::collections::BTreeMap;

@@ -2,10 +2,10 @@
 #![tactic(auto)]
 
 mod failure;
+mod host_names;
+mod host_source;
 mod kind;
 mod machine;
-mod names;
-mod source;
 
+pub use host_source::HostSource;
 pub use machine::{host_name, user_id, user_name};
-pub use source::HostSource;

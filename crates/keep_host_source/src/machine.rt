@@ -1,4 +1,4 @@
-use crate::names::names_in;
+use crate::host_names::names_in;
 use std::alloc::Global;
 use std::fs::{File, Files};
 use std::os::unix::fs::MetadataExt;

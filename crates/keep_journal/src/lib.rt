@@ -4,7 +4,7 @@
 
 mod event;
 mod history;
-mod laws;
+mod history_threads;
 mod posting;
 mod request;
 mod standing;
@@ -12,7 +12,7 @@ mod told_laws;
 
 pub use event::{Entry, Event, EventKind, Notice};
 pub use history::{History, Status};
-pub use laws::histories_cross_threads;
+pub use history_threads::histories_cross_threads;
 pub use posting::Posting;
 pub use request::{Request, Told};
 pub use told_laws::{what_is_told_grows, what_is_told_is_kept};

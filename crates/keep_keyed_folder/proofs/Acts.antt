@@ -6,8 +6,8 @@ use Rattle.keep_files.proofs.Kept.{acts_keep_folders}
 use Rattle.keep_files.specs.Act.{Act, CanDo, HasFailed, Made, Removed, Renamed, Seen, Synced, Wrote, done, failed}
 use Rattle.keep_files.specs.Path.{IsHeldIn}
 use Rattle.keep_files.specs.Stands.{IsClosed}
-use Rattle.keep_files.specs.declared.error.TreeError.{TreeError}
-use Rattle.keep_files.specs.declared.error.TreeError.TheVariants.{Broken, Unknown}
+use Rattle.keep_files.specs.declared.tree_error.TreeError.{TreeError}
+use Rattle.keep_files.specs.declared.tree_error.TreeError.TheVariants.{Broken, Unknown}
 use Rattle.keep_keyed_folder.specs.Keyed.{HasFailure}
 use Rattle.keep_keyed_folder.specs.Order.{AreMade, AreSettled}
 

@@ -7,8 +7,8 @@ use Rattle.keep_files.proofs.Kept.{put_at-here, put_at-other, same_path}
 use Rattle.keep_files.specs.Act.{CanDo, HasFailed, Removed, Seen, done}
 use Rattle.keep_files.specs.Path.{IsListed}
 use Rattle.keep_files.specs.Stands.{IsClosed, Stands, is_file, is_folder, put_at}
-use Rattle.keep_files.specs.declared.error.TreeError.{TreeError}
-use Rattle.keep_files.specs.declared.error.TreeError.TheVariants.{Broken, Unknown}
+use Rattle.keep_files.specs.declared.tree_error.TreeError.{TreeError}
+use Rattle.keep_files.specs.declared.tree_error.TreeError.TheVariants.{Broken, Unknown}
 use Rattle.keep_files.specs.declared.node.Node.{Node}
 use Rattle.keep_keyed_folder.proofs.Acts.{closed_done, closed_failed}
 use Rattle.keep_keyed_folder.specs.Tmp.{IsCleared, IsTmp}

@@ -14,8 +14,8 @@ use Rattle.keep_shelf.specs.declared.key.Key.{Key}
 use Rattle.keep_files.proofs.Kept.{put_at-here, put_at-other}
 use Rattle.keep_files.specs.Content.{HoldsFiles, file_in}
 use Rattle.keep_files.specs.Stands.{Stands, is_file}
-use Rattle.keep_files.specs.declared.error.TreeError.{TreeError}
-use Rattle.keep_files.specs.declared.error.TreeError.TheVariants.{Broken, Unknown}
+use Rattle.keep_files.specs.declared.tree_error.TreeError.{TreeError}
+use Rattle.keep_files.specs.declared.tree_error.TreeError.TheVariants.{Broken, Unknown}
 use Rattle.keep_files.specs.declared.node.Node.{Node}
 use Rattle.keep_files.specs.declared.node.Node.TheVariants.{Folder, File}
 use Rattle.keep_files.specs.Act.{Seen}

@@ -3,7 +3,7 @@ use Rattle.std.proofs.Common.{◌≡◌, ◌≢◌, ℕ, Bool, true, false, ◌�
 use Rattle.keep_files.specs.Act.{Act, CanDo, HasFailed, Made, Removed, Renamed, Seen, Wrote, done}
 use Rattle.keep_files.specs.Path.{LiesRightIn}
 use Rattle.keep_files.specs.Stands.{Stands, moved, put_at}
-use Rattle.keep_files.specs.declared.error.TreeError.{TreeError}
+use Rattle.keep_files.specs.declared.tree_error.TreeError.{TreeError}
 use Rattle.keep_files.specs.declared.node.Node.TheVariants.{Folder, File}
 use Rattle.keep_keyed_folder.proofs.Left.{left_then, left_tmp, left_widened, put_ends, shift_ends, widened_above, widened_made, widened_then}
 use Rattle.keep_keyed_folder.proofs.Stopping.{keeps_done, keeps_end, keeps_failed, keeps_settled, keeps_still, keeps_then, keeps_weaker}

@@ -7,8 +7,8 @@ use Rattle.keep_files.proofs.Kept.{put_at-here, put_at-other, same_path}
 use Rattle.keep_files.specs.Act.{HasFailed, Made, Removed, Renamed, Seen, Wrote}
 use Rattle.keep_files.specs.Path.{LiesRightIn}
 use Rattle.keep_files.specs.Stands.{HasHome, Stands, is_file, is_folder, moved, put_at}
-use Rattle.keep_files.specs.declared.error.TreeError.{TreeError}
-use Rattle.keep_files.specs.declared.error.TreeError.TheVariants.{Broken, Unknown}
+use Rattle.keep_files.specs.declared.tree_error.TreeError.{TreeError}
+use Rattle.keep_files.specs.declared.tree_error.TreeError.TheVariants.{Broken, Unknown}
 use Rattle.keep_files.specs.declared.node.Node.{Node}
 use Rattle.keep_files.specs.declared.node.Node.TheVariants.{Folder, File}
 use Rattle.keep_keyed_folder.specs.Left.{EndsAs, IsLeft, IsPut, IsSameOrMade, IsShifted, IsWidened}

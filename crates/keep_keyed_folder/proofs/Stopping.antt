@@ -3,8 +3,8 @@ use Rattle.std.proofs.Common.{◌≡◌, ℕ, Bool, ◌⊎◌, inl, inr, List, [
 use Rattle.std.proofs.lemmas.List.{append-nil}
 use Rattle.keep_files.specs.Act.{Act, CanDo, HasFailed, Made, Removed, Renamed, Seen, Synced, Wrote, after, done, failed}
 use Rattle.keep_files.specs.Stands.{Stands}
-use Rattle.keep_files.specs.declared.error.TreeError.{TreeError}
-use Rattle.keep_files.specs.declared.error.TreeError.TheVariants.{Broken, Unknown}
+use Rattle.keep_files.specs.declared.tree_error.TreeError.{TreeError}
+use Rattle.keep_files.specs.declared.tree_error.TreeError.TheVariants.{Broken, Unknown}
 use Rattle.keep_keyed_folder.specs.Order.{AreSettled}
 use Rattle.keep_keyed_folder.specs.Stops.{HoldsAtStops, HoldsWithin, Keeps, after_all}
 

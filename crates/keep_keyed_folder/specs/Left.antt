@@ -2,8 +2,8 @@
 use Rattle.std.specs.Prelude.{◌≡◌, ◌≢◌, ℕ, ◌⊎◌, None, Some, Result, Ok, Err, List}
 use Rattle.keep_paths.specs.Folder.{LiesIn}
 use Rattle.keep_files.specs.Stands.{Stands, put_at}
-use Rattle.keep_files.specs.declared.error.TreeError.{TreeError}
-use Rattle.keep_files.specs.declared.error.TreeError.TheVariants.{Broken, Unknown}
+use Rattle.keep_files.specs.declared.tree_error.TreeError.{TreeError}
+use Rattle.keep_files.specs.declared.tree_error.TreeError.TheVariants.{Broken, Unknown}
 use Rattle.keep_files.specs.declared.node.Node.TheVariants.{Folder, File}
 
 -- how an act ends: it was done, it wasn't, or it isn't known which of the two

@@ -2,7 +2,7 @@ ghost use Rattle.std.specs.Prelude.{◌≡◌, ◌⊎◌, Err, Ok, IsTrue, List,
 ghost use Rattle.std.specs.FinMap as map;
 ghost use Rattle.keep_files.specs.Content.{HoldsFiles};
 ghost use Rattle.keep_files.specs.Stands.{IsClosed, is_file};
-ghost use Rattle.keep_files.specs.declared.error.TreeError.TheVariants as the_error;
+ghost use Rattle.keep_files.specs.declared.tree_error.TreeError.TheVariants as the_error;
 ghost use Rattle.keep_keyed_folder.specs.Left.{EndsAs, IsLeft, IsPut, IsShifted, IsTaken, IsWidened};
 ghost use Rattle.keep_keyed_folder.specs.Order.{IsPutInOrder, IsShiftedInOrder, IsTakenInOrder};
 ghost use Rattle.keep_keyed_folder.specs.Stops.{Keeps};
@@ -10,9 +10,9 @@ ghost use Rattle.keep_keyed_folder.specs.Tmp.{HasNoLeftovers, IsCleared, IsTmp};
 ghost use Rattle.keep_paths.specs.KeyPath.{key_path};
 ghost use Rattle.keep_shelf.specs.Shelved.{Content, shifted};
 
-use crate::files::SoundFiles;
+use crate::key_path::KeyPath;
 use crate::leftovers::clear;
-use crate::path::KeyPath;
+use crate::sound_files::SoundFiles;
 use keep_files::{FileTree, TreeError};
 use keep_paths::{key_is_sized, path_names_key};
 use keep_repo::Bytes;

@@ -2,12 +2,12 @@
 //! loss of power leaves each act done or not.
 #![tactic(auto)]
 
-mod files;
+mod key_path;
+mod key_walk;
 mod keyed;
 mod leftovers;
-mod path;
-mod walk;
+mod sound_files;
 
+pub use key_path::KeyPath;
+pub use key_walk::read_keys;
 pub use keyed::KeyedFolder;
-pub use path::KeyPath;
-pub use walk::read_keys;

@@ -9,7 +9,7 @@ use Rattle.std.specs.Ordering.{ordering_reverse}
 use Rattle.keep_snap.specs.Facts.{FactsData}
 use Rattle.keep_labels.specs.Orders.{group_cmp}
 use Rattle.keep_labels.specs.Walk.{follows, seen_view}
-use Rattle.keep_labels.specs.declared.row.Row.{Row}
+use Rattle.keep_labels.specs.declared.group_row.Row.{Row}
 use Rattle.keep_labels.proofs.Counting.{group_total}
 use Rattle.keep_labels.proofs.Lists.{all_both, all_with}
 use Rattle.keep_labels.proofs.Sorting.{Climbs}

@@ -13,7 +13,7 @@ use Rattle.keep_labels.specs.Keeping.{EachOnce}
 use Rattle.keep_labels.specs.Orders.{age_cmp, group_cmp, period_cmp, sorting_cmp, turn_cmp}
 use Rattle.keep_labels.specs.Walk.{Rises, names_counted}
 use Rattle.keep_labels.specs.declared.order.Counted.{Counted}
-use Rattle.keep_labels.specs.declared.row.Row.{Row}
+use Rattle.keep_labels.specs.declared.group_row.Row.{Row}
 use Rattle.keep_labels.proofs.Chosen.{chosen, name_of, put, seen_with}
 use Rattle.keep_labels.proofs.Counting.{age_total, names_chosen, period_total}
 use Rattle.keep_labels.proofs.Lists.{all_with}

@@ -9,10 +9,10 @@ ghost use Rattle.keep_labels.specs.Forgetting.{forget_change, forgetting_of};
 ghost use Rattle.keep_labels.specs.Keeping.{EachOnce, policy_view};
 ghost use Rattle.keep_plan.specs.declared.plan_error.PlanError.TheVariants as the_error;
 
-use crate::laws::a_planned_forget_can_be_made;
+use crate::label_laws::a_planned_forget_can_be_made;
 use crate::policy::{Policy, dropped};
 use crate::swap::{snapshot_files, swap};
-use crate::taking::taken;
+use crate::taken_snapshots::taken;
 use keep_change::{Change, Planned, StoredFile};
 use keep_plan::{Filter, PlanError};
 use keep_snap::SnapFacts;

@@ -7,8 +7,8 @@ ghost use Rattle.keep_labels.specs.Orders.{group_cmp};
 ghost use Rattle.keep_labels.specs.Walk.{seen_view};
 ghost use Rattle.std.proofs.Props.{props};
 
+use crate::group_row::Row;
 use crate::order::{compare_groups, is_of_group};
-use crate::row::Row;
 use keep_snap::SnapFacts;
 use std::alloc::{AllocError, Global};
 

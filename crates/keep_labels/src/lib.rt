@@ -4,22 +4,22 @@
 mod count;
 mod edit;
 mod forget;
+mod group_row;
+mod group_walk;
 mod groups;
-mod laws;
+mod label_laws;
 mod order;
 mod policy;
 mod retagged;
 mod rising;
-mod row;
 mod swap;
 mod tag;
-mod taking;
-mod walk;
+mod taken_snapshots;
 
 pub use count::Count;
 pub use edit::{Edit, are_changed};
 pub use forget::plan_forget;
-pub use laws::{a_planned_forget_can_be_made, a_planned_tagging_can_be_made};
+pub use label_laws::{a_planned_forget_can_be_made, a_planned_tagging_can_be_made};
 pub use policy::{Policy, dropped};
 pub use rising::names_rise;
 pub use tag::plan_tag;

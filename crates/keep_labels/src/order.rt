@@ -4,7 +4,7 @@ ghost use Rattle.keep_snap.specs.Facts.{facts_view};
 ghost use Rattle.keep_labels.specs.Orders.{age_cmp, group_cmp, paths_cmp, period_cmp};
 ghost use Rattle.keep_labels.specs.Walk.{follows, seen_view};
 
-use crate::row::Row;
+use crate::group_row::Row;
 use keep_snap::SnapFacts;
 use std::cmp::Ordering;
 

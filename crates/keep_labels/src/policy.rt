@@ -10,9 +10,9 @@ ghost use Rattle.keep_labels.specs.Walk.{Rises, seen_view};
 
 use crate::count::Count;
 use crate::edit::has_tag;
+use crate::group_walk::first_names;
 use crate::groups::{Rows, rows_of};
 use crate::order::{Counted, compare_all};
-use crate::walk::first_names;
 use keep_names::Id;
 use keep_snap::SnapFacts;
 use std::alloc::{AllocError, Global};

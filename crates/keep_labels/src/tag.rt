@@ -10,10 +10,10 @@ ghost use Rattle.keep_labels.specs.Tagging.{changed_by, tag_change, tagging_of};
 ghost use Rattle.keep_plan.specs.declared.plan_error.PlanError.TheVariants as the_error;
 
 use crate::edit::Edit;
-use crate::laws::a_planned_tagging_can_be_made;
+use crate::label_laws::a_planned_tagging_can_be_made;
 use crate::retagged::{Relabeled, retagged};
 use crate::swap::{snapshot_files, swap};
-use crate::taking::catalog;
+use crate::taken_snapshots::catalog;
 use keep_catalog::Catalog;
 use keep_change::{Change, Planned, StoredFile};
 use keep_plan::{Filter, PlanError, settle_new};

@@ -6,7 +6,7 @@ ghost use Rattle.keep_journal.specs.Opening.{AreWellFormed};
 ghost use Rattle.keep_touch.specs.Mentions.{AreNoted};
 ghost use Rattle.keep_ledger.specs.Dependents.{leaned_on, blocked_at, blocked_by};
 
-use crate::place::Place;
+use crate::history_point::Place;
 use keep_change::Change;
 use keep_journal::History;
 use keep_repo::Repo;

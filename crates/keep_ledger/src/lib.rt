@@ -5,23 +5,23 @@
 mod checks;
 mod dependents;
 mod entering;
+mod event_making;
 mod guarding;
-mod laws;
+mod history_point;
 mod ledger;
-mod making;
+mod ledger_laws;
+mod ledger_opening;
 mod not_opened;
 mod noting;
-mod opening;
 mod opening_marks;
-mod place;
 mod preparing;
 mod reply;
 mod requests;
 
 pub use keep_journal::{Request, Told};
 pub use keep_opening::OpenError;
-pub use laws::{calls_are_counted, live_files_alone_are_opened};
 pub use ledger::Ledger;
+pub use ledger_laws::{calls_are_counted, live_files_alone_are_opened};
 pub use not_opened::NotOpened;
 pub use opening_marks::marks_under;
 pub use reply::Refusal;

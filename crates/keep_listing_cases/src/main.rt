@@ -1,15 +1,15 @@
 //! Answers a table of cases on what snapshots have by path, and on the snapshots that texts mean.
 #![tactic(auto)]
 
-mod asking;
-mod filling;
+mod listing_lines;
+mod listing_stop;
 mod meaning;
+mod pack_lines;
+mod pair_words;
 mod state;
-mod stop;
-mod words;
 
+use crate::listing_stop::Stop;
 use crate::state::State;
-use crate::stop::Stop;
 use std::alloc::AllocError;
 use std::fmt::Write;
 use std::process::ExitCode;
@@ -21,13 +21,13 @@ type Answers = (String, Result<(), String>);
 fn answer(state: &mut State, line: &str, out: &mut String) -> Result<(), Stop> {
     let line = line.replace(state.alloc, "$", state.last.as_str())?;
     let (verb, rest) = line.split_once(' ').unwrap_or((line.as_str(), ""));
-    if filling::answer(state, verb, rest)? {
+    if pack_lines::answer(state, verb, rest)? {
         return Ok(());
     }
     if meaning::answer(state, verb, rest, out)? {
         return Ok(());
     }
-    asking::answer(state, verb, rest, out)
+    listing_lines::answer(state, verb, rest, out)
 }
 
 /// Begins a case, passes over a comment, or answers a line of a case.

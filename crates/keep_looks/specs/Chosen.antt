@@ -4,7 +4,7 @@ use Rattle.std.specs.List.{list_any}
 use Rattle.std.specs.Option.{option_map_or}
 use Rattle.std.specs.Str.{bytes_eq}
 use Rattle.keep_named.specs.Rows.{RowData, row_view}
-use Rattle.keep_named.specs.declared.row.SnapshotRow.{SnapshotRow}
+use Rattle.keep_named.specs.declared.listed_snapshot.SnapshotRow.{SnapshotRow}
 use Rattle.keep_words.specs.Read.{text_of}
 use Rattle.keep_words.specs.declared.command.Chosen.{Chosen}
 

@@ -9,13 +9,13 @@ use Rattle.keep_journal.specs.Journal.{Journal}
 use Rattle.keep_tree.specs.Parsing.{PatternData}
 use Rattle.keep_nodes.specs.Choosing.{matched}
 use Rattle.keep_nodes.specs.Entries.{EntryData}
-use Rattle.keep_named.specs.declared.row.SnapshotRow.{SnapshotRow}
+use Rattle.keep_named.specs.declared.listed_snapshot.SnapshotRow.{SnapshotRow}
 use Rattle.keep_tables.specs.declared.table.Side.{Side}
 use Rattle.keep_tables.specs.declared.table.Side.TheVariants.{Left}
 use Rattle.keep_rows.specs.Values.{short_id}
 use Rattle.keep_looks.specs.Shown.{AreListed, nodes_had, unlisted_of}
-use Rattle.keep_looks.specs.declared.finding.FoundPaths.{FoundPaths}
-use Rattle.keep_looks.specs.declared.found.FoundRow.{FoundRow}
+use Rattle.keep_looks.specs.declared.path_rows.FoundPaths.{FoundPaths}
+use Rattle.keep_looks.specs.declared.found_row.FoundRow.{FoundRow}
 
 -- ---- the row: its cells in a table, and its JSON object with keys in byte order
 

@@ -15,7 +15,7 @@ use Rattle.keep_nodes.specs.Differences.{DifferenceData, added, changed, differe
 use Rattle.keep_rows.specs.declared.difference.Difference.{Difference}
 use Rattle.keep_rows.specs.declared.difference.Difference.TheVariants.{Added, Removed, Modified}
 use Rattle.keep_rows.specs.declared.difference.DifferenceRow.{DifferenceRow}
-use Rattle.keep_rows.specs.declared.node.NodeRow.{NodeRow}
+use Rattle.keep_rows.specs.declared.node_row.NodeRow.{NodeRow}
 use Rattle.keep_rows.specs.declared.when.When.{When}
 
 -- ---- nodes

@@ -15,11 +15,11 @@ use Rattle.keep_named.specs.Meaning.{named_due}
 use Rattle.keep_named.specs.Rows.{RowData, moment_cmp, row_view, rows_in}
 use Rattle.keep_named.specs.declared.named_error.NamedError.{NamedError}
 use Rattle.keep_named.specs.declared.named_error.NamedError.TheVariants.{Memory}
-use Rattle.keep_named.specs.declared.row.SnapshotRow as listed
+use Rattle.keep_named.specs.declared.listed_snapshot.SnapshotRow as listed
 use Rattle.keep_rows.specs.declared.snapshot.SnapshotRow.{SnapshotRow}
 use Rattle.keep_words.specs.declared.command.Chosen.{Chosen}
 use Rattle.keep_looks.specs.Chosen.{chosen_of}
-use Rattle.keep_looks.specs.declared.showing.Shown.{Shown}
+use Rattle.keep_looks.specs.declared.shown_snapshots.Shown.{Shown}
 use Rattle.keep_looks.specs.declared.unlisted.Unlisted.{Unlisted}
 
 -- what a row says of a snapshot, but for the clock of the zone

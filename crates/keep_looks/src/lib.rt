@@ -3,24 +3,24 @@
 #![tactic(auto)]
 
 mod advice;
-mod choosing;
-mod comparing;
-mod finding;
-mod found;
-mod listing;
-mod naming;
+mod chosen_snapshots;
+mod compared_rows;
+mod found_row;
+mod listed_nodes;
 mod nodes;
-mod showing;
+mod one_snapshot;
+mod path_rows;
+mod shown_snapshots;
 mod unlisted;
 mod zone;
 
 pub use advice::NamedAdvice;
-pub use choosing::chosen_of;
-pub use comparing::difference_rows;
-pub use finding::{FoundPaths, found_rows};
-pub use found::FoundRow;
-pub use naming::snapshot_named;
+pub use chosen_snapshots::chosen_of;
+pub use compared_rows::difference_rows;
+pub use found_row::FoundRow;
 pub use nodes::node_rows;
-pub use showing::{Shown, snapshot_rows};
+pub use one_snapshot::snapshot_named;
+pub use path_rows::{FoundPaths, found_rows};
+pub use shown_snapshots::{Shown, snapshot_rows};
 pub use unlisted::Unlisted;
 pub use zone::MachineZone;

@@ -5,7 +5,7 @@ ghost use Rattle.std.specs.Prelude.{◌≡◌};
 ghost use Rattle.std.specs.Process.{exit_status};
 ghost use Rattle.keep_command.specs.Ending.{code_of};
 
-mod desk;
+mod crew_run;
 mod operators;
 
 use crate::operators::Operators;

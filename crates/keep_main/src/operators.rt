@@ -1,4 +1,4 @@
-use crate::desk::crewed;
+use crate::crew_run::crewed;
 use keep_book::Book;
 use keep_command::{Crew, NamedShelf, NoCrew, Order, Tally};
 use std::alloc::AllocError;

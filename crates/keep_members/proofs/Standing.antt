@@ -17,7 +17,7 @@ use Rattle.keep_tree.specs.Tree.{KindData, dir, file, other, own_keys}
 use Rattle.keep_members.specs.Carried.{StandsAnywhere, TimeTexts, counted_data, fields, whole_data}
 use Rattle.keep_members.specs.Members.{IsSaid, MembersData, text_view}
 use Rattle.keep_members.specs.Texts.{texts_view}
-use Rattle.keep_members.specs.declared.texts.TimeTexts.{TimeTexts as HeldTexts}
+use Rattle.keep_members.specs.declared.time_texts.TimeTexts.{TimeTexts as HeldTexts}
 
 -- ---- scalars
 

@@ -2,19 +2,19 @@
 //! typed values and as the members that a node carries.
 #![tactic(auto)]
 
-mod found;
+mod carried_members;
+mod found_members;
 mod instant;
-mod laws;
+mod member_laws;
 mod members;
 mod mode;
 mod said;
 mod stamp;
-mod texts;
-mod written;
+mod time_texts;
 
-pub use found::{Found, members_in};
-pub use laws::{carried_members_read_back, modes_go_there_and_back};
+pub use carried_members::carried;
+pub use found_members::{Found, members_in};
+pub use member_laws::{carried_members_read_back, modes_go_there_and_back};
 pub use members::Members;
 pub use mode::{go_mode, unix_mode};
 pub use stamp::Stamp;
-pub use written::carried;

@@ -1,13 +1,13 @@
 -- What a failing tree does beside the tree that it stands before.
 use Rattle.std.specs.Prelude.{◌≡◌, ◌⊎◌, ℕ, ◌+◌, ◌≤◌, Bool, false, Result, Err}
 use Rattle.keep_files.specs.Act.{Act, Seen, done}
-use Rattle.keep_files.specs.declared.error.TreeError.{TreeError}
-use Rattle.keep_files.specs.declared.error.TreeError.TheVariants.{Unknown}
+use Rattle.keep_files.specs.declared.tree_error.TreeError.{TreeError}
+use Rattle.keep_files.specs.declared.tree_error.TreeError.TheVariants.{Unknown}
 use Rattle.keep_shelf.specs.Shelved.{risen}
 use Rattle.keep_memory_files.specs.Plan.{fate_at}
 use Rattle.keep_memory_files.specs.declared.failing.FailingTree.{FailingTree}
-use Rattle.keep_memory_files.specs.declared.plan.Fate.{Fate}
-use Rattle.keep_memory_files.specs.declared.plan.Fate.TheVariants.{Passed, Refused, Denied}
+use Rattle.keep_memory_files.specs.declared.tree_failures.Fate.{Fate}
+use Rattle.keep_memory_files.specs.declared.tree_failures.Fate.TheVariants.{Passed, Refused, Denied}
 
 -- the tree that it stands before
 abbrev pub inner_of : {T : Type 0} → FailingTree T → T

@@ -6,8 +6,8 @@ use Rattle.std.specs.declared.string.String.{String}
 use Rattle.keep_files.specs.Act.{Act, Seen, Wrote, Renamed, Removed, Made, Synced}
 use Rattle.keep_files.specs.Stands.{Stands}
 use Rattle.keep_files.specs.declared.node.Node.{Node}
-use Rattle.keep_memory_files.specs.declared.deed.Deed.{Deed}
-use Rattle.keep_memory_files.specs.declared.deed.Deed.TheVariants.{Write, Rename, Remove, Make, Sync}
+use Rattle.keep_memory_files.specs.declared.done_act.Deed.{Deed}
+use Rattle.keep_memory_files.specs.declared.done_act.Deed.TheVariants.{Write, Rename, Remove, Make, Sync}
 use Rattle.keep_memory_files.specs.declared.memory.MemoryTree.{MemoryTree}
 
 -- what was done, by the bytes of the paths

@@ -1,9 +1,9 @@
 -- Which of the calls that are to come fail, and how.
 use Rattle.std.specs.Prelude.{if◌then◌else◌, ℕ, ◌==◌, nat_le}
-use Rattle.keep_memory_files.specs.declared.plan.Fate.{Fate}
-use Rattle.keep_memory_files.specs.declared.plan.Fate.TheVariants.{Passed, Refused, Denied}
-use Rattle.keep_memory_files.specs.declared.plan.Plan.{Plan}
-use Rattle.keep_memory_files.specs.declared.plan.Plan.TheVariants.{Once, Onward, OnceDone}
+use Rattle.keep_memory_files.specs.declared.tree_failures.Fate.{Fate}
+use Rattle.keep_memory_files.specs.declared.tree_failures.Fate.TheVariants.{Passed, Refused, Denied}
+use Rattle.keep_memory_files.specs.declared.tree_failures.Plan.{Plan}
+use Rattle.keep_memory_files.specs.declared.tree_failures.Plan.TheVariants.{Once, Onward, OnceDone}
 
 -- what becomes of the call of this number, the next one being number 1
 abbrev pub fate_at : Plan → ℕ → Fate

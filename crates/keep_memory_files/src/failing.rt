@@ -2,11 +2,11 @@ ghost use Rattle.std.specs.Prelude.{if◌then◌else◌, ◌≡◌, ◌≢◌, �
 ghost use Rattle.keep_files.specs.Act.{CanDo, HasFailed, Made, Removed, Renamed, Synced, Wrote, done, failed};
 ghost use Rattle.keep_files.specs.Path.{IsHeldIn, IsListed};
 ghost use Rattle.keep_files.specs.Stands.{is_file, is_folder};
-ghost use Rattle.keep_files.specs.declared.error.TreeError.TheVariants as the_error;
-ghost use Rattle.keep_memory_files.specs.declared.plan.Fate.TheVariants as the_fate;
+ghost use Rattle.keep_files.specs.declared.tree_error.TreeError.TheVariants as the_error;
+ghost use Rattle.keep_memory_files.specs.declared.tree_failures.Fate.TheVariants as the_fate;
 ghost use Rattle.keep_shelf.specs.Shelved.{risen};
 
-use crate::plan::{Fate, Plan};
+use crate::tree_failures::{Fate, Plan};
 use keep_files::{FileTree, Node, TreeError};
 use keep_repo::Bytes;
 

@@ -1,11 +1,11 @@
 //! A tree of files in memory, and one that fails when it is told to.
 #![tactic(auto)]
 
-mod deed;
+mod done_act;
 mod failing;
 mod memory;
-mod place;
-mod plan;
+mod path_bounds;
+mod tree_failures;
 
 pub use failing::FailingTree;
 pub use memory::MemoryTree;

@@ -5,7 +5,7 @@ mod acts;
 mod beside;
 mod nodes;
 
-use crate::deed::Deed;
+use crate::done_act::Deed;
 use keep_files::{FileTree, Node, TreeError};
 use keep_log::Log;
 use keep_repo::Bytes;

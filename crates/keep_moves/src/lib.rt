@@ -2,18 +2,20 @@
 //! what stands there for a journal.
 #![tactic(auto)]
 
-mod laws;
-mod listing;
+mod event_entry;
+mod event_moves;
 mod looking;
 mod making;
+mod move_laws;
 mod moves;
 mod sweeping;
-mod writing;
 
-pub use laws::{calls_are_counted, events_are_begun, moves_can_be_finished, stops_stay_behind};
-pub use listing::{first_moves, turn_moves};
+pub use event_entry::entry_of;
+pub use event_moves::{first_moves, turn_moves};
 pub use looking::look;
 pub use making::{make, settle};
+pub use move_laws::{
+    calls_are_counted, events_are_begun, moves_can_be_finished, stops_stay_behind,
+};
 pub use moves::Move;
 pub use sweeping::swept_moves;
-pub use writing::entry_of;

@@ -17,7 +17,7 @@ use Rattle.keep_journal.specs.Journal.{Journal}
 use Rattle.keep_catalog.specs.Files.{ids_in}
 use Rattle.keep_named.specs.declared.named_error.NamedError.{NamedError}
 use Rattle.keep_named.specs.declared.named_error.NamedError.TheVariants.{NoneAdded, NoneBegins, NoneLatest, SeveralAdded, SeveralBegin}
-use Rattle.keep_named.specs.declared.row.SnapshotRow.{SnapshotRow}
+use Rattle.keep_named.specs.declared.listed_snapshot.SnapshotRow.{SnapshotRow}
 
 -- the one of these, if there is just one
 abbrev pub only : NamedError → NamedError → List Id → Result Id NamedError

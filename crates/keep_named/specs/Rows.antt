@@ -14,7 +14,7 @@ use Rattle.keep_snap.specs.declared.time.Time.{Time}
 use Rattle.keep_journal.specs.Journal.{Journal}
 use Rattle.keep_catalog.specs.Files.{snaps_in}
 use Rattle.keep_named.specs.Adding.{adding}
-use Rattle.keep_named.specs.declared.row.SnapshotRow.{SnapshotRow}
+use Rattle.keep_named.specs.declared.listed_snapshot.SnapshotRow.{SnapshotRow}
 
 -- a snapshot's name, the instant of its time, what it says, and the last kept change that adds it
 pub record RowData : Type 0 where

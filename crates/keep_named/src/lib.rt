@@ -3,12 +3,12 @@
 #![tactic(auto)]
 
 mod adding;
+mod listed_snapshot;
 mod named_error;
-mod naming;
-mod row;
 mod rows;
+mod snapshot_names;
 
+pub use listed_snapshot::SnapshotRow;
 pub use named_error::NamedError;
-pub use naming::named;
-pub use row::SnapshotRow;
 pub use rows::snapshots_of;
+pub use snapshot_names::named;

@@ -4,7 +4,7 @@ ghost use Rattle.keep_snap.specs.Snap.{snap_view};
 ghost use Rattle.keep_named.specs.Rows.{moment_cmp, named_view, row_view, rows_in, rows_of};
 
 use crate::adding::adding;
-use crate::row::SnapshotRow;
+use crate::listed_snapshot::SnapshotRow;
 use keep_catalog::Catalog;
 use keep_journal::History;
 use keep_names::Id;

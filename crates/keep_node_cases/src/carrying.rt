@@ -1,5 +1,5 @@
-use crate::no::No;
-use crate::words::{long_in, short_in, text_in, words_in};
+use crate::no_node::No;
+use crate::node_words::{long_in, short_in, text_in, words_in};
 use keep_docs::write_doc;
 use keep_members::{Members, Stamp};
 use serde_json::Value;

@@ -2,17 +2,17 @@
 #![tactic(auto)]
 
 mod carrying;
-mod case;
-mod finding;
-mod no;
-mod words;
+mod found_text;
+mod no_node;
+mod node_words;
+mod quoted_case;
 
 use std::io;
 
 fn main(rt: HostRuntime) -> io::Result<()> {
     let alloc = rt.alloc();
     for line in rt.lines(alloc) {
-        match case::answer(alloc, line?.as_str()) {
+        match quoted_case::answer(alloc, line?.as_str()) {
             Ok(text) => println!(rt; "{text}")?,
             Err(no) => println!(rt; "no {no}")?,
         }

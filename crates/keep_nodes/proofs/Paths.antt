@@ -20,7 +20,7 @@ use Rattle.keep_repo.proofs.Maps.{get_made, keys_made, one_put}
 use Rattle.keep_read.specs.Restored.{path_cmp}
 use Rattle.keep_nodes.specs.Choosing.{lent_view}
 use Rattle.keep_nodes.specs.Entries.{EntryData}
-use Rattle.keep_nodes.specs.declared.entry.Entry.{Entry}
+use Rattle.keep_nodes.specs.declared.path_node.Entry.{Entry}
 use Rattle.keep_nodes.specs.Differences.{by_path, difference_at, differences, put_all}
 use Rattle.keep_nodes.specs.Lent.{Lent, key_view, paths_of}
 

@@ -5,7 +5,7 @@ use Rattle.std.specs.Str.{bytes_eq, chars}
 use Rattle.keep_tree.specs.Parsing.{PatternData, after_slash, before_slash, is_slash}
 use Rattle.keep_tree.specs.Without.{is_matched}
 use Rattle.keep_nodes.specs.Entries.{EntryData, entry_view}
-use Rattle.keep_nodes.specs.declared.entry.Entry.{Entry}
+use Rattle.keep_nodes.specs.declared.path_node.Entry.{Entry}
 use denote.Ref.{Bor}
 
 -- what a lent `Entry` says

@@ -5,7 +5,7 @@ use Rattle.keep_names.specs.declared.id.Id.{Id}
 use Rattle.keep_repo.specs.Repository.{Repository}
 use Rattle.keep_tree.specs.Tree.{KindData, dir, file, other, NodeData, node_view}
 use Rattle.keep_read.specs.Contents.{nodes_in}
-use Rattle.keep_nodes.specs.declared.entry.Entry.{Entry}
+use Rattle.keep_nodes.specs.declared.path_node.Entry.{Entry}
 
 -- a node at its path: `/` and the names from the root on, joined by `/`
 pub record EntryData : Type 0 where

@@ -7,7 +7,7 @@ use Rattle.std.specs.declared.alloc.Global.{Global}
 use Rattle.keep_read.specs.Restored.{path_cmp}
 use Rattle.keep_nodes.specs.Choosing.{lent_view}
 use Rattle.keep_nodes.specs.Entries.{EntryData}
-use Rattle.keep_nodes.specs.declared.entry.Entry.{Entry}
+use Rattle.keep_nodes.specs.declared.path_node.Entry.{Entry}
 use Rattle.keep_nodes.specs.Differences.{DifferenceData, added, changed, removed}
 use Rattle.keep_nodes.specs.declared.difference.Difference.{Difference}
 use Rattle.keep_nodes.specs.declared.difference.Difference.TheVariants as the_difference

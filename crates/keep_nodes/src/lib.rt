@@ -4,25 +4,25 @@
 
 mod agreement;
 mod by_path;
-mod choosing;
-mod comparing;
+mod chosen_nodes;
 mod difference;
-mod entry;
-mod laws;
+mod entry_walk;
 mod lengths;
 mod listing;
+mod node_differences;
+mod node_law;
+mod path_node;
 mod pieces;
 mod root;
 mod tally;
-mod walk;
 
 pub use agreement::{a_restore_gives_the_files_of_the_nodes, what_is_whole_is_listed_alike};
-pub use choosing::{matched, node_at, nodes_below};
-pub use comparing::differences;
+pub use chosen_nodes::{matched, node_at, nodes_below};
 pub use difference::Difference;
-pub use entry::Entry;
-pub use laws::nodes_that_are_written_alike_are_one;
 pub use lengths::Lengths;
 pub use listing::{nodes_of, whole_nodes_of};
+pub use node_differences::differences;
+pub use node_law::nodes_that_are_written_alike_are_one;
+pub use path_node::Entry;
 pub use pieces::piece;
 pub use tally::Tally;

@@ -7,9 +7,9 @@ ghost use Rattle.keep_read.specs.declared.restore_error.RestoreError.TheVariants
 ghost use Rattle.keep_nodes.specs.Entries.{entry_view};
 ghost use Rattle.keep_nodes.specs.Listed.{nodes_due, whole_nodes_due};
 
-use crate::entry::Entry;
+use crate::entry_walk::entries_below;
+use crate::path_node::Entry;
 use crate::root::root;
-use crate::walk::entries_below;
 use keep_names::{FileName, Id};
 use keep_reach::reach;
 use keep_read::RestoreError;

@@ -2,7 +2,7 @@
 use Rattle.std.specs.Prelude.{Bool, List, Result, Ok, Err, map}
 use Rattle.keep_targets.specs.Call.{Call, Refused}
 use Rattle.keep_targets.specs.Deeds.{call_of}
-use Rattle.keep_targets.specs.declared.refusal.Refusal.{Refusal}
+use Rattle.keep_targets.specs.declared.target_error.Refusal.{Refusal}
 use Rattle.keep_noted_target.specs.declared.noted.NotedTarget.{NotedTarget}
 
 abbrev pub calls_in : {S : Type 0} → NotedTarget S → List Call

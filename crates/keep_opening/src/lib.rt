@@ -3,26 +3,26 @@
 #![tactic(auto)]
 
 mod due;
-mod files;
+mod due_law;
 mod intake;
-mod laws;
+mod leaf_history;
 mod leaves;
+mod made_files;
 mod marking;
 mod open_error;
 mod opening;
 mod over;
 mod settling;
 mod sharing;
-mod telling;
 mod trash;
 
 pub use due::due_moves;
-pub use files::{make_files, put_live};
+pub use due_law::what_is_due_leads_on;
 pub use intake::take_in;
-pub use laws::what_is_due_leads_on;
+pub use leaf_history::history_of;
 pub use leaves::leaves_of;
+pub use made_files::{make_files, put_live};
 pub use open_error::OpenError;
 pub use opening::{Opened, read};
 pub use settling::{last_moves, remains, settle};
-pub use telling::history_of;
 pub use trash::wanted;

@@ -8,12 +8,12 @@ ghost use Rattle.keep_opening.specs.Opened.{IsRefused, IsRight, opening_in};
 ghost use Rattle.keep_opening.specs.declared.open_error.OpenError.TheVariants as the_error;
 ghost use Rattle.keep_reading.specs.Reads.{Reads};
 
-use crate::files::{put_live, remake, unmake};
+use crate::leaf_history::history_of;
 use crate::leaves::leaves_of;
+use crate::made_files::{put_live, remake, unmake};
 use crate::marking::marks_in;
 use crate::open_error::OpenError;
 use crate::settling::settle;
-use crate::telling::history_of;
 use crate::trash::{agree, wanted};
 use keep_journal::History;
 use keep_repo::Repo;

@@ -2,9 +2,9 @@
 use Rattle.std.specs.Prelude.{ℕ, List, ◌++◌, codes, string_bytes}
 use Rattle.std.specs.Fmt.{decimal}
 use Rattle.keep_disk.specs.Ends.{cause_text}
-use Rattle.keep_disk.specs.declared.error.Cause.{Cause}
-use Rattle.keep_disk.specs.declared.error.Cause.TheVariants.{Away, Denied, Failed, Missing, OtherSort}
-use Rattle.keep_disk.specs.declared.error.FolderError.TheVariants as folder
+use Rattle.keep_disk.specs.declared.folder_error.Cause.{Cause}
+use Rattle.keep_disk.specs.declared.folder_error.Cause.TheVariants.{Away, Denied, Failed, Missing, OtherSort}
+use Rattle.keep_disk.specs.declared.folder_error.FolderError.TheVariants as folder
 use Rattle.keep_opening.specs.declared.open_error.OpenError.TheVariants as shelf
 use Rattle.keep_openings.specs.declared.unopened.Unopened as the_unopened
 use Rattle.keep_openings.specs.declared.unopened.Unopened.TheVariants.{Damaged, Folder, Unread}

@@ -1,16 +1,16 @@
 //! What became of a command's request, and what a change did, as `keep` prints them.
 #![tactic(auto)]
 
-mod made;
+mod made_text;
 mod outcome;
-mod parts;
+mod printed_parts;
 mod pruned;
-mod showing;
+mod shown_change;
 mod taken;
 
-pub use made::tell_made;
+pub use made_text::tell_made;
 pub use outcome::tell_outcome;
-pub use parts::Way;
+pub use printed_parts::Way;
 pub use pruned::tell_pruned;
-pub use showing::show;
+pub use shown_change::show;
 pub use taken::tell_taken;

@@ -1,5 +1,5 @@
-use crate::made::tell_made;
-use crate::parts::{Way, print_parts};
+use crate::made_text::tell_made;
+use crate::printed_parts::{Way, print_parts};
 use keep_acts::{NotDone, Outcome, PlanAdvice};
 use keep_change::Change;
 use keep_journal::History;

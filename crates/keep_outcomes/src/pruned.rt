@@ -1,6 +1,6 @@
-use crate::made::{print_made, settled};
+use crate::made_text::{print_made, settled};
 use crate::outcome::tell_outcome;
-use crate::parts::Way;
+use crate::printed_parts::Way;
 use keep_acts::{Made, NotDone, Outcome, Pruned};
 use keep_journal::History;
 use keep_run::{Failure, Run};

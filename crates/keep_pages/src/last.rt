@@ -6,7 +6,7 @@ ghost use Rattle.keep_journal.specs.History.{change_of, final_number};
 ghost use Rattle.keep_journal.specs.Opening.{IsOpen};
 ghost use Rattle.keep_reading.specs.Settled.{last_event as last_event_of};
 
-use crate::events::copy_change;
+use crate::event_copies::copy_change;
 use keep_change::{SharedChange, What};
 use keep_journal::{Event, EventKind, History};
 use keep_ledger::marks_under;

@@ -2,16 +2,16 @@
 //! leaves.
 #![tactic(auto)]
 
-mod events;
+mod event_copies;
 mod fitting;
 mod last;
-mod laws;
+mod page_laws;
 mod sheet;
 mod turning;
 
-pub use events::copy_event;
+pub use event_copies::copy_event;
 pub use last::last_event;
-pub use laws::{
+pub use page_laws::{
     accepted_events_are_followed, accepted_requests_leave_open_ledgers, histories_grow,
     sheets_cross_threads,
 };

@@ -6,7 +6,7 @@ ghost use Rattle.keep_view.specs.Shown.{shown_of};
 ghost use Rattle.keep_pages.specs.Following.{CanFollow, IsFormedEvent};
 ghost use Rattle.keep_pages.specs.Sheet.{IsLaid, followed};
 
-use crate::events::copy_event;
+use crate::event_copies::copy_event;
 use crate::fitting::fits;
 use crate::turning::{can_turn, turn};
 use keep_catalog::LiveRepo;

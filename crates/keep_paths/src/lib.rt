@@ -2,10 +2,10 @@
 #![tactic(auto)]
 
 mod folder;
-mod laws;
 mod name;
 mod path;
+mod path_laws;
 
 pub use folder::holds_keys;
-pub use laws::{key_is_sized, path_names_key};
 pub use path::{key_of_path, path_of_key};
+pub use path_laws::{key_is_sized, path_names_key};

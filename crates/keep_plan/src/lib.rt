@@ -2,23 +2,23 @@
 //! where they are; and filters, questions about snapshots that operators store under names, each with its rule.
 #![tactic(auto)]
 
+mod built_files;
 mod filter;
-mod laws;
 mod pick;
 mod plan_error;
+mod plan_laws;
 mod reuses;
-mod settling;
 mod stored;
 mod unreached;
 
+pub use built_files::{settle_files, settle_new};
 pub use filter::{AskFacts, Filter};
-pub use laws::{
+pub use pick::{Needs, Pick, has_path, has_tag, meets};
+pub use plan_error::PlanError;
+pub use plan_laws::{
     each_built_file_is_settled, each_use_is_recorded, refusals_keep_their_words,
     what_is_settled_can_be_made,
 };
-pub use pick::{Needs, Pick, has_path, has_tag, meets};
-pub use plan_error::PlanError;
 pub use reuses::Reuses;
-pub use settling::{settle_files, settle_new};
 pub use stored::{Stored, settle};
 pub use unreached::Unreached;

@@ -3,8 +3,8 @@ ghost use Rattle.keep_names.specs.declared.blob.BlobId as the_blob;
 ghost use Rattle.keep_plan.specs.Reuse.{RestOn};
 ghost use Rattle.keep_plan.specs.Settling.{settled};
 
+use crate::built_files::{ids_in, names_in, settle_files, settle_marks};
 use crate::reuses::Reuses;
-use crate::settling::{ids_in, names_in, settle_files, settle_marks};
 use keep_change::{Listed, PackMark, StoredFile};
 use keep_names::{FileName, Id};
 use keep_repo::Repo;

@@ -2,12 +2,12 @@
 //! again, nor does any answer to a line that is planned.
 #![tactic(auto)]
 
-mod laws;
+mod book_laws;
 mod lines;
 mod selected;
 mod sound_books;
 
-pub use laws::{
+pub use book_laws::{
     jobs_are_said_in_texts, planned_changes_keep_whole, planned_histories_lose_nothing,
 };
 pub use lines::planned_lines_lose_nothing;

@@ -1,6 +1,6 @@
 ghost use Rattle.keep_planned_books.specs.Selected.{PlannedSelectionsAreWhole};
 
-use crate::laws::planned_changes_keep_whole;
+use crate::book_laws::planned_changes_keep_whole;
 use crate::views_know_what_books_know;
 use keep_sound::selections_are_whole;
 

@@ -1,6 +1,6 @@
-use crate::no::No;
-use crate::texts::shown;
-use crate::words::{cells, cut, id, number, signed, some_number};
+use crate::no_print::No;
+use crate::print_texts::shown;
+use crate::print_words::{cells, cut, id, number, signed, some_number};
 use keep_rows::{
     Difference, DifferenceRow, FindingRow, NodeRow, Row, SnapshotRow, When, document_of, table_of,
 };

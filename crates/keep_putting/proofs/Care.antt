@@ -5,8 +5,8 @@ use Rattle.std.specs.List.{Contains}
 use Rattle.std.proofs.lemmas.List.Elements.{Contains-append_left}
 use Rattle.keep_targets.specs.Call.{Act, Append, Call, Cut, Did, MakeFile, MakeFolder, Refused, appended}
 use Rattle.keep_names.specs.declared.id.Id.{Id}
-use Rattle.keep_targets.specs.declared.refusal.Refusal.{Refusal}
-use Rattle.keep_targets.specs.declared.refusal.Short.{Short}
+use Rattle.keep_targets.specs.declared.target_error.Refusal.{Refusal}
+use Rattle.keep_targets.specs.declared.target_error.Short.{Short}
 use Rattle.keep_putting.specs.Filling.{Source, bytes_in, writing}
 use Rattle.keep_putting.specs.Careful.{AreAllowed, IsAllowed, IsBeingWritten, IsCarefulFrom, IsOwn, IsOwnFolder, IsOwnPlace}
 

@@ -3,8 +3,8 @@ use Rattle.std.specs.Prelude.{◌≡◌, ℕ, ◌<◌, ◌+◌, ◌-◌, ◌^◌
 use Rattle.std.specs.List.{AllPass, HoldsAt}
 use Rattle.keep_names.specs.declared.id.Id.{Id}
 use Rattle.keep_targets.specs.Call.{Append, Call, Did, MakeFile, Refused, appended}
-use Rattle.keep_targets.specs.declared.refusal.Refusal.{Refusal}
-use Rattle.keep_targets.specs.declared.refusal.Short.{Short}
+use Rattle.keep_targets.specs.declared.target_error.Refusal.{Refusal}
+use Rattle.keep_targets.specs.declared.target_error.Short.{Short}
 use Rattle.keep_putting.specs.declared.hurt.Hurt.{Hurt}
 use Rattle.keep_putting.specs.declared.hurt.Hurt.TheVariants as hurt
 

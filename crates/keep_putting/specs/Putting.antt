@@ -4,7 +4,7 @@ use Rattle.keep_names.specs.declared.id.Id.{Id}
 use Rattle.keep_files.specs.Path.{LiesRightIn}
 use Rattle.keep_targets.specs.Call.{Call, Did, MakeFolder, MakeLink, Refused}
 use Rattle.keep_targets.specs.declared.attributes.Owner.{Owner}
-use Rattle.keep_targets.specs.declared.refusal.Refusal.{Refusal}
+use Rattle.keep_targets.specs.declared.target_error.Refusal.{Refusal}
 use Rattle.keep_putting.specs.Filling.{AreHad, IsHurt, Source, filling, pieces_size}
 use Rattle.keep_putting.specs.Folders.{Folders}
 use Rattle.keep_putting.specs.Hurts.{why_of}

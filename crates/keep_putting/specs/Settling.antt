@@ -3,7 +3,7 @@ use Rattle.std.specs.Prelude.{◌≡◌, ℕ, ◌⊎◌, Option, None, Some, Lis
 use Rattle.keep_targets.specs.Call.{Act, Call, Did, Refused, SetLinkOwner, SetMode, SetOwner, SetTimes}
 use Rattle.keep_targets.specs.declared.attributes.Owner.{Owner}
 use Rattle.keep_targets.specs.declared.attributes.Times.{Times}
-use Rattle.keep_targets.specs.declared.refusal.Refusal.{Refusal}
+use Rattle.keep_targets.specs.declared.target_error.Refusal.{Refusal}
 use Rattle.keep_putting.specs.Leaving.{IsNamedNext}
 use Rattle.keep_putting.specs.declared.left_out.LeftOut.{LeftOut}
 use Rattle.keep_putting.specs.declared.left_out.Why.{Why}

@@ -2,17 +2,17 @@
 #![tactic(auto)]
 
 mod course;
-mod filling;
+mod file_filling;
 mod hurt;
 mod left_out;
 mod places;
 mod putting;
+mod putting_back;
 mod restored;
-mod restoring;
-mod settling;
+mod set_attributes;
 mod wanted;
 
 pub use left_out::{LeftOut, Why};
+pub use putting_back::put_back;
 pub use restored::{PutError, Restored};
-pub use restoring::put_back;
 pub use wanted::{Wanted, What};

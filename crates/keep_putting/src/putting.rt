@@ -5,10 +5,10 @@ ghost use Rattle.keep_putting.specs.Made.{folders_in};
 ghost use Rattle.keep_putting.specs.Putting.{IsFilePut, IsFinished, IsFolderPut, IsLinkPut, IsOneDone, missed, owner_asked, stage_of};
 
 use crate::course::Course;
-use crate::filling::fill;
+use crate::file_filling::fill;
 use crate::left_out::{Why, leave_out};
 use crate::places::Unplaced;
-use crate::settling::{settle, settle_link};
+use crate::set_attributes::{settle, settle_link};
 use crate::wanted::{Wanted, What};
 use keep_names::Id;
 use keep_targets::{Owner, Pieces, Target};

@@ -2,12 +2,12 @@
 #![tactic(auto)]
 
 mod hex;
-mod laws;
 mod letters;
 mod piece;
 mod quoting;
+mod quoting_laws;
 mod unquoting;
 
-pub use laws::{plain_names_are_quoted_so, quoted_names_are_names, quoted_names_read_back};
 pub use quoting::quote;
+pub use quoting_laws::{plain_names_are_quoted_so, quoted_names_are_names, quoted_names_read_back};
 pub use unquoting::unquote;

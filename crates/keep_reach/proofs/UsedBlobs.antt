@@ -26,7 +26,7 @@ use Rattle.keep_reach.specs.Reach.{HasBlob, Naming, Names, Reaches, has_type_tre
 use Rattle.keep_reach.specs.Snapshots.{IsUsed, Owes, root_of}
 use Rattle.keep_reach.specs.Used.{names_or_none, reached_by, reached_from, reached_in, used_in}
 use Rattle.keep_reach.specs.Walk.{Knows, Walked}
-use Rattle.keep_reach.specs.declared.found.Found.{Found}
+use Rattle.keep_reach.specs.declared.reached_blobs.Found.{Found}
 use Rattle.keep_catalog.specs.declared.reach_error.ReachError.{ReachError}
 use Rattle.keep_repo.proofs.Rising.{keys_in_order}
 use Rattle.keep_catalog.proofs.Ordered.{in_order-same, is_some-keyed, same_test}

@@ -10,7 +10,7 @@ use Rattle.keep_names.specs.declared.blob.BlobType.TheVariants.{Content}
 use Rattle.keep_catalog.specs.Orders.{blob_eq}
 use Rattle.keep_reach.specs.Reach.{HasBlob, Naming, Names, Reaches}
 use Rattle.keep_reach.specs.Walk.{Choosing, Grew, GrewAll, HasHeight, HaveHeight, IsWalked, Knows, KnowsAll, ReachedFrom, Walked}
-use Rattle.keep_reach.specs.declared.found.Found.{Found}
+use Rattle.keep_reach.specs.declared.reached_blobs.Found.{Found}
 use Rattle.keep_catalog.proofs.Growing.{taken_more}
 use Rattle.keep_reach.proofs.Heights.{one_higher}
 use Rattle.keep_catalog.proofs.SpotOrders.{blob_eq_same, blob_eq_refl}

@@ -7,7 +7,7 @@ use Rattle.keep_names.specs.Orders.{blob_cmp}
 use Rattle.keep_names.specs.declared.blob.BlobId.{BlobId}
 use Rattle.keep_names.specs.declared.id.Id.{Id}
 use Rattle.keep_reach.specs.Reach.{HasBlob, Naming, Names, Reaches, first_of, refusal_at}
-use Rattle.keep_reach.specs.declared.found.Found.{Found}
+use Rattle.keep_reach.specs.declared.reached_blobs.Found.{Found}
 use Rattle.keep_catalog.specs.declared.reach_error.ReachError.{ReachError}
 use Rattle.keep_catalog.specs.declared.reach_error.ReachError.TheVariants.{TooDeep}
 use Rattle.keep_catalog.specs.declared.spot.Spot.{Spot}

@@ -15,8 +15,8 @@ ghost use Rattle.keep_reach.specs.Used.{used_in};
 ghost use Rattle.keep_reach.specs.Walk.{AreChosen, HaveHeights, IsWalked, Knows};
 ghost use Rattle.keep_catalog.specs.declared.reach_error.ReachError.TheVariants.{Memory};
 
-use crate::found::Reached;
-use crate::walk::{levels, walk, walk_all};
+use crate::reach_walk::{levels, walk, walk_all};
+use crate::reached_blobs::Reached;
 use keep_catalog::{Catalog, ReachError};
 use keep_names::{BlobId, Id};
 use keep_snap::Snap;

@@ -20,7 +20,7 @@ use Rattle.keep_catalog.specs.Places.{chosen_listing}
 use Rattle.keep_reach.specs.Reach.{Reaches, most_levels}
 use Rattle.keep_reach.specs.Snapshots.{Owes, refusal_from, refusal_of, root_of}
 use Rattle.keep_reach.specs.Walk.{AreChosen, Knows, Walked}
-use Rattle.keep_reach.specs.declared.found.Found.{Found}
+use Rattle.keep_reach.specs.declared.reached_blobs.Found.{Found}
 use Rattle.keep_catalog.specs.declared.reach_error.ReachError.{ReachError}
 use Rattle.keep_catalog.specs.declared.spot.Spot.{Spot}
 use Rattle.keep_catalog.specs.declared.unread.FileError.TheVariants.{Snap}

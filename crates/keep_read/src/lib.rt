@@ -2,18 +2,18 @@
 #![tactic(auto)]
 
 mod content;
+mod content_walk;
 mod finding;
 mod findings;
-mod found;
-mod laws;
+mod joined_pieces;
 mod restoration;
 mod restore_error;
+mod restore_laws;
 mod restored;
-mod walk;
 
 pub use finding::Finding;
 pub use findings::audit;
-pub use laws::{paths_are_apart, sound_repositories_lose_no_blob};
 pub use restoration::restore;
 pub use restore_error::RestoreError;
+pub use restore_laws::{paths_are_apart, sound_repositories_lose_no_blob};
 pub use restored::Restored;

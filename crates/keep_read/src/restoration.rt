@@ -8,9 +8,9 @@ ghost use Rattle.keep_catalog.specs.declared.reach_error.ReachError.TheVariants.
 ghost use Rattle.keep_read.specs.Restored.{restored, restored_view, snapshot_facet};
 ghost use Rattle.keep_read.specs.declared.restore_error.RestoreError.TheVariants.{NoSnapshot, Reach};
 
+use crate::content_walk::contents_of;
 use crate::restore_error::RestoreError;
 use crate::restored::{Restored, restored_of};
-use crate::walk::contents_of;
 use keep_catalog::{Catalog, FileError, ReachError, Unread};
 use keep_docs::DocError;
 use keep_names::{FileName, Id};

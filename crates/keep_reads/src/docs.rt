@@ -1,5 +1,5 @@
-use crate::no::No;
-use crate::words::text_of;
+use crate::byte_words::text_of;
+use crate::no_reading::No;
 use keep_docs::{DocError, read_config, read_doc, write_doc};
 use keep_index::IndexError;
 use keep_pack::PackError;

@@ -1,5 +1,5 @@
-use crate::no::No;
-use crate::words::{cut_part, ids_in, text_of, words_in};
+use crate::byte_words::{cut_part, ids_in, text_of, words_in};
+use crate::no_reading::No;
 use keep_index::{Index, read_index, without_packs, write_index};
 use keep_names::Id;
 use std::alloc::Global;

@@ -1,8 +1,8 @@
 ghost use Rattle.std.specs.Prelude.{◌≡◌, ◌<◌, ◌^◌, IfOk, length};
 ghost use Rattle.keep_names.specs.Sha256.{sha256};
 
-use crate::no::No;
-use crate::words::{bytes_in, words_in};
+use crate::byte_words::{bytes_in, words_in};
+use crate::no_reading::No;
 use keep_names::{Blob, BlobId, BlobType, id_of};
 use keep_pack::{blob_at, build_pack, read_header};
 use std::alloc::Global;

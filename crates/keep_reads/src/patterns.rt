@@ -1,5 +1,5 @@
-use crate::no::No;
-use crate::words::{cut_part, names_in, texts_in};
+use crate::byte_words::{cut_part, names_in, texts_in};
+use crate::no_reading::No;
 use keep_tree::{Letters, Node, Pattern, Rests, letters_of, matches_path, parse_pattern};
 use std::alloc::{AllocError, Global};
 

@@ -1,5 +1,5 @@
-use crate::no::No;
-use crate::words::{cut, cut_part, text_of, texts_in, words_in};
+use crate::byte_words::{cut, cut_part, text_of, texts_in, words_in};
+use crate::no_reading::No;
 use keep_names::{Id, parse_id};
 use keep_snap::{Snap, SnapFacts, read_snap, write_snap};
 use std::alloc::{AllocError, Global};

@@ -1,4 +1,4 @@
-use crate::no::No;
+use crate::no_reading::No;
 use keep_snap::{parse_moment, parse_time};
 use std::alloc::Global;
 

@@ -1,5 +1,5 @@
-use crate::no::No;
-use crate::words::{ids_in, text_of, words_in};
+use crate::byte_words::{ids_in, text_of, words_in};
+use crate::no_reading::No;
 use keep_names::parse_id;
 use keep_tree::{Node, Tree, is_name, read_tree, write_tree};
 use std::alloc::Global;

@@ -3,11 +3,11 @@
 
 mod bytes;
 mod facet;
+mod facet_order;
 mod files;
-mod laws;
 mod repo;
 
 pub use bytes::Bytes;
 pub use facet::{Facet, Mark};
-pub use laws::facets_are_ordered;
+pub use facet_order::facets_are_ordered;
 pub use repo::Repo;

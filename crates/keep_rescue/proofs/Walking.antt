@@ -1,7 +1,7 @@
 -- A walk that begins with a rescue that has done nothing.
 use Rattle.std.proofs.Common.{◌≡◌, List, [], subst, sym}
 use Rattle.keep_sources.specs.Told.{Told}
-use Rattle.keep_sources.specs.declared.job.Job.{Job}
+use Rattle.keep_sources.specs.declared.scope.Job.{Job}
 use Rattle.keep_sources.specs.declared.skipped.Skipped.{Skipped}
 use Rattle.keep_targets.specs.Call.{Call}
 use Rattle.keep_rescue.specs.Rescued.{IsTaken, IsWalked, IsWanted}

@@ -2,7 +2,7 @@
 use Rattle.std.specs.Prelude.{◌≡◌, ℕ, List, [], ◌∷◌, codes, is_some, map, string_bytes, unwrap_or}
 use Rattle.keep_sources.specs.Told.{Told}
 use Rattle.keep_sources.specs.Took.{TookAll, skip_view}
-use Rattle.keep_sources.specs.declared.job.Job.{Job}
+use Rattle.keep_sources.specs.declared.scope.Job.{Job}
 use Rattle.keep_sources.specs.declared.skipped.Skipped.{Skipped}
 use Rattle.keep_targets.specs.Call.{Call}
 use Rattle.keep_rescue.specs.Salvage.{SalvageData, begun, lost_view, putting, step}

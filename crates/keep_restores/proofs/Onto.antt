@@ -4,7 +4,7 @@ use Rattle.std.proofs.lemmas.List.{map-append}
 use Rattle.std.specs.Str.{chars}
 use Rattle.keep_nodes.specs.Choosing.{names_in}
 use Rattle.keep_nodes.specs.Entries.{EntryData, entry_view}
-use Rattle.keep_nodes.specs.declared.entry.Entry.{Entry}
+use Rattle.keep_nodes.specs.declared.path_node.Entry.{Entry}
 use Rattle.keep_restores.specs.Choosing.{chosen_before, chosen_onto, first, is_within, leads_to}
 use Rattle.keep_tree.specs.Parsing.{PatternData}
 

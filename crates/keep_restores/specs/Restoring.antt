@@ -5,7 +5,7 @@ use Rattle.keep_names.specs.BlobId.{piece_of}
 use Rattle.keep_names.specs.declared.id.Id.{Id}
 use Rattle.keep_nodes.specs.Entries.{EntryData, entry_view}
 use Rattle.keep_nodes.specs.Listed.{whole_nodes_due}
-use Rattle.keep_nodes.specs.declared.entry.Entry.{Entry}
+use Rattle.keep_nodes.specs.declared.path_node.Entry.{Entry}
 use Rattle.keep_putting.specs.Filling.{Source}
 use Rattle.keep_putting.specs.Putting.{IsRestored}
 use Rattle.keep_putting.specs.declared.restored.Restored.{Restored}

@@ -6,8 +6,8 @@ use Rattle.std.specs.declared.string.String.{String}
 use Rattle.serde_json.specs.View.{members_view}
 use Rattle.keep_members.specs.Found.{found_in, found_view}
 use Rattle.keep_members.specs.Mode.{unix_mode}
-use Rattle.keep_members.specs.declared.found.Found.{Found}
-use Rattle.keep_nodes.specs.declared.entry.Entry.{Entry}
+use Rattle.keep_members.specs.declared.found_members.Found.{Found}
+use Rattle.keep_nodes.specs.declared.path_node.Entry.{Entry}
 use Rattle.keep_putting.specs.declared.wanted.Wanted.{Wanted}
 use Rattle.keep_putting.specs.declared.wanted.What.{What}
 use Rattle.keep_putting.specs.declared.wanted.What.TheVariants.{File, Folder, Link, Other}

@@ -2,18 +2,18 @@
 #![tactic(auto)]
 
 mod attributes;
-mod choosing;
+mod chosen_entries;
 mod dumping;
-mod laws;
 mod not_dumped;
 mod not_restored;
+mod pattern_law;
 mod restoring;
-mod stored;
+mod stored_pieces;
 mod wanted;
 mod wanting;
 
 pub use dumping::dump;
-pub use laws::no_pattern_means_all;
 pub use not_dumped::NotDumped;
 pub use not_restored::NotRestored;
+pub use pattern_law::no_pattern_means_all;
 pub use restoring::restore;

@@ -9,9 +9,9 @@ ghost use Rattle.keep_restores.specs.Restoring.{IsPutBack};
 ghost use Rattle.keep_restores.specs.declared.not_restored.NotRestored.TheVariants.{Put, Snapshot};
 ghost use Rattle.keep_tree.specs.Parsing.{pattern_view};
 
-use crate::choosing::chosen;
+use crate::chosen_entries::chosen;
 use crate::not_restored::NotRestored;
-use crate::stored::Stored;
+use crate::stored_pieces::Stored;
 use crate::wanting::wanted_for;
 use keep_names::Id;
 use keep_nodes::whole_nodes_of;

@@ -3,8 +3,8 @@
 
 mod dumping;
 mod rescuing;
-mod restoring;
+mod restored_snapshot;
 
 pub use dumping::dump_file;
 pub use rescuing::rescue_folder;
-pub use restoring::restore_snapshot;
+pub use restored_snapshot::restore_snapshot;

@@ -1,12 +1,12 @@
 //! Rewrites: snapshots made anew without what patterns match.
 #![tactic(auto)]
 
-mod files;
-mod laws;
 mod left;
-mod plan;
 mod retreed;
-mod walk;
+mod rewrite_law;
+mod rewrite_plan;
+mod rewrite_walk;
+mod rewritten_files;
 
-pub use laws::a_planned_rewrite_can_be_made;
-pub use plan::plan_rewrite;
+pub use rewrite_law::a_planned_rewrite_can_be_made;
+pub use rewrite_plan::plan_rewrite;

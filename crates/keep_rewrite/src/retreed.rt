@@ -10,7 +10,7 @@ ghost use Rattle.keep_rewrite.specs.Rewriting.{finished_for, retreed_of};
 ghost use Rattle.keep_rewrite.specs.Walking.{AreReached, IsRight, trees_of};
 
 use crate::left::Walked;
-use crate::walk::Walk;
+use crate::rewrite_walk::Walk;
 use keep_names::{BlobType, Id};
 use keep_plan::PlanError;
 use keep_reach::levels;

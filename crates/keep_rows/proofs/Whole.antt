@@ -6,8 +6,8 @@ use Rattle.serde_json.specs.View.{items_of}
 use Rattle.serde_json.specs.Written.{has_float, items_have_float}
 use Rattle.keep_rows.specs.Listings.{finding_data, node_data, snapshot_data}
 use Rattle.keep_rows.specs.Values.{maybe_number, maybe_text, utc_of}
-use Rattle.keep_rows.specs.declared.finding.FindingRow.{FindingRow}
-use Rattle.keep_rows.specs.declared.node.NodeRow.{NodeRow}
+use Rattle.keep_rows.specs.declared.finding_row.FindingRow.{FindingRow}
+use Rattle.keep_rows.specs.declared.node_row.NodeRow.{NodeRow}
 use Rattle.keep_rows.specs.declared.snapshot.SnapshotRow.{SnapshotRow}
 
 pub maybe_number-whole : (n : Option ℕ) → has_float (maybe_number n) ≡ false

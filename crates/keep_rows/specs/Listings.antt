@@ -15,8 +15,8 @@ use Rattle.keep_rows.specs.Values.{joined, local_of, maybe_number, maybe_text, n
 use Rattle.keep_rows.specs.declared.difference.Difference.{Difference}
 use Rattle.keep_rows.specs.declared.difference.Difference.TheVariants.{Added, Removed, Modified}
 use Rattle.keep_rows.specs.declared.difference.DifferenceRow.{DifferenceRow}
-use Rattle.keep_rows.specs.declared.finding.FindingRow.{FindingRow}
-use Rattle.keep_rows.specs.declared.node.NodeRow.{NodeRow}
+use Rattle.keep_rows.specs.declared.finding_row.FindingRow.{FindingRow}
+use Rattle.keep_rows.specs.declared.node_row.NodeRow.{NodeRow}
 use Rattle.keep_rows.specs.declared.snapshot.SnapshotRow.{SnapshotRow}
 
 -- ---- snapshots

@@ -1,5 +1,5 @@
+use crate::cell_values::texts_of;
 use crate::row::Row;
-use crate::values::texts_of;
 use keep_tables::Side;
 use serde_json::{Value, json};
 use std::alloc::{AllocError, Global};

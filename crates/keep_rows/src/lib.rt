@@ -1,23 +1,23 @@
 //! Rows of what is listed: each as cells of a table and as a JSON object, and lists of them as a table and as a document.
 #![tactic(auto)]
 
+mod cell_values;
 mod difference;
-mod finding;
+mod finding_row;
 mod modes;
-mod node;
+mod node_row;
 mod row;
 mod snapshot;
-mod values;
 mod when;
 
-pub use difference::{Difference, DifferenceRow};
-pub use finding::FindingRow;
-pub use modes::mode_text;
-pub use node::NodeRow;
-pub use row::{Row, document_of, table_of};
-pub use snapshot::SnapshotRow;
-pub use values::{
+pub use cell_values::{
     joined, number_cell, number_or_null, short_id, size_cell, text_or_null, texts_of, when_cell,
     when_value,
 };
+pub use difference::{Difference, DifferenceRow};
+pub use finding_row::FindingRow;
+pub use modes::mode_text;
+pub use node_row::NodeRow;
+pub use row::{Row, document_of, table_of};
+pub use snapshot::SnapshotRow;
 pub use when::When;

@@ -1,5 +1,5 @@
+use crate::cell_values::{joined, number_cell, number_or_null, short_id, size_cell, texts_of};
 use crate::row::Row;
-use crate::values::{joined, number_cell, number_or_null, short_id, size_cell, texts_of};
 use crate::when::When;
 use keep_docs::{id_value, texts_value};
 use keep_names::Id;

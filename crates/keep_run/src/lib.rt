@@ -4,14 +4,14 @@
 
 mod failure;
 mod left;
-mod naming;
+mod meant_words;
 mod printing;
 mod refusing;
 mod run;
 
 pub use failure::{Failure, tell};
 pub use left::{Left, left_value, tell_left};
-pub use naming::{meant, pattern_of, patterns_of};
+pub use meant_words::{meant, pattern_of, patterns_of};
 pub use printing::{numbers_text, print_rows};
 pub use refusing::{refused, require_told};
 pub use run::Run;

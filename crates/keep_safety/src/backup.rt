@@ -6,7 +6,7 @@ ghost use Rattle.keep_change.specs.declared.change.Change as the_change;
 ghost use Rattle.keep_backup.specs.Backup.{FactsData, backup_change};
 ghost use Rattle.keep_safety.specs.SafeBackup.{BackupIsSafe, BackupsAreTexts};
 
-use crate::storing::what_is_stored_is_given;
+use crate::storing_laws::what_is_stored_is_given;
 use keep_names::{digests_are_ids, orders_tell_apart};
 use keep_snap::snapshots_read_back;
 use keep_sound::backing_up_is_safe;

@@ -1,6 +1,6 @@
 ghost use Rattle.keep_safety.specs.SafeRewrite.{RewriteIsSafe};
 
-use crate::storing::what_is_stored_is_given;
+use crate::storing_laws::what_is_stored_is_given;
 use keep_catalog::the_chosen_place_is_least;
 use keep_names::orders_tell_apart;
 use keep_sound::{built_trees_retree, kept_trees_retree_themselves, rewriting_is_safe};

@@ -2,8 +2,8 @@ ghost use Rattle.std.specs.Prelude.{◌≡◌, ◌==◌, ◌≤◌, ℕ, IfOk, I
 ghost use Rattle.std.specs.FinMap as map;
 ghost use Rattle.keep_shelf.specs.Shelved.{called, failed, risen, shifted};
 
+use crate::call_failures::Plan;
 use crate::key::Key;
-use crate::plan::Plan;
 use crate::shelf::{Fault, Shelf};
 use keep_repo::Bytes;
 

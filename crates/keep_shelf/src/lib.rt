@@ -2,17 +2,17 @@
 //! is told to.
 #![tactic(auto)]
 
+mod call_failures;
 mod failing;
 mod key;
-mod laws;
+mod key_order;
 mod memory;
-mod plan;
 mod shelf;
 mod stock;
 
 pub use failing::FailingShelf;
 pub use key::Key;
-pub use laws::keys_are_ordered;
+pub use key_order::keys_are_ordered;
 pub use memory::MemoryShelf;
 pub use shelf::{Fault, Shelf};
 pub use stock::Stock;

@@ -1,5 +1,5 @@
-use crate::case::Case;
-use crate::stop::Stop;
+use crate::shelf_case::Case;
+use crate::shelf_stop::Stop;
 use crate::stops::show_stop;
 use keep_paths::key_of_path;
 use keep_repo::Bytes;

@@ -1,5 +1,5 @@
 use crate::running::{Counts, Trial, run_lines, run_script};
-use crate::stop::Stop;
+use crate::shelf_stop::Stop;
 use keep_change::{Outline, What};
 use keep_hooks::{
     AskOutline, CountOutline, Limit, Measure, Veto, Watch, files_written, snapshots_dropped,

@@ -5,21 +5,21 @@
 mod act;
 mod answering;
 mod call;
-mod case;
+mod case_failures;
 mod damages;
 mod kit;
 mod logged;
-mod plan;
-mod reading;
 mod recording;
 mod running;
-mod showing;
-mod stop;
+mod shelf_case;
+mod shelf_copy;
+mod shelf_stop;
+mod shown_calls;
 mod stops;
-mod table;
+mod table_lines;
 
-use crate::case::Case;
-use crate::stop::Stop;
+use crate::shelf_case::Case;
+use crate::shelf_stop::Stop;
 use std::process::ExitCode;
 
 /// What was answered, and the row at which it ended early.
@@ -32,7 +32,7 @@ fn answers(rt: &HostRuntime) -> Result<Answers, Stop> {
     let mut case = Case::new(alloc);
     for row in rt.lines(alloc) {
         let row = row?;
-        if let Err(stop) = table::take(&mut case, row.as_str(), &mut out) {
+        if let Err(stop) = table_lines::take(&mut case, row.as_str(), &mut out) {
             return Ok((out, Err(format!(in alloc; "{stop}: {row}")?)));
         }
     }

@@ -3,7 +3,7 @@ ghost use Rattle.std.specs.FinMap as map;
 ghost use Rattle.keep_shelf.specs.Shelved.{called, failed, shifted, stocked};
 
 use crate::act::{Act, perform_all};
-use crate::reading::read_all;
+use crate::shelf_copy::read_all;
 use keep_repo::Bytes;
 use keep_shelf::{Fault, Key, MemoryShelf, Shelf};
 use std::alloc::{AllocError, Global};

@@ -1,14 +1,14 @@
 ghost use Rattle.keep_book.specs.Armed.{HasSums};
 
 use crate::answering::{answer_on, answer_over};
-use crate::case::{Case, Failing, Stops};
+use crate::case_failures::Plan;
 use crate::damages::show_damages;
 use crate::kit::run_with_kit;
 use crate::logged::Logged;
-use crate::plan::Plan;
 use crate::recording::RecordingShelf;
-use crate::showing::{Form, show_calls, show_line, show_script};
-use crate::stop::Stop;
+use crate::shelf_case::{Case, Failing, Stops};
+use crate::shelf_stop::Stop;
+use crate::shown_calls::{Form, show_calls, show_line, show_script};
 use crate::stops::show_stops;
 use keep_book::Book;
 use keep_jobs::{Cut, Kit, Settings};

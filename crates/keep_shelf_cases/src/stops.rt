@@ -1,7 +1,7 @@
 use crate::recording::RecordingShelf;
 use crate::running::{NO_FAILURE, shelf_over};
-use crate::showing::behind_word;
-use crate::stop::Stop;
+use crate::shelf_stop::Stop;
+use crate::shown_calls::behind_word;
 use keep_book::Book;
 use keep_shelf::MemoryShelf;
 use std::alloc::Global;

@@ -1,4 +1,4 @@
-use crate::events::set_offsets;
+use crate::shown_history::set_offsets;
 use keep_book::Book;
 use keep_change::What;
 use keep_events::{EventRow, events_of};

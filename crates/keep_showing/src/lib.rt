@@ -3,11 +3,11 @@
 #![tactic(auto)]
 
 mod checking;
-mod events;
 mod graphing;
+mod shown_history;
 mod viewing;
 
 pub use checking::check;
-pub use events::history;
 pub use graphing::graph;
+pub use shown_history::history;
 pub use viewing::{compare, find, list_nodes, list_snapshots};

@@ -4,18 +4,18 @@
 
 mod copies;
 mod fact;
-mod laws;
 mod relabel;
 mod snap;
+mod snap_threads;
+mod snap_writing;
 mod time;
-mod written;
 
 pub use fact::{SnapFacts, facts};
-pub use laws::snaps_cross_threads;
 pub use relabel::{retag, retree};
 pub use snap::{Snap, SnapError, read_snap};
-pub use time::{Month, Time, parse_moment, parse_time};
-pub use written::{
+pub use snap_threads::snaps_cross_threads;
+pub use snap_writing::{
     retagged_snapshots_can_be_written, retreed_snapshots_can_be_written, snapshots_read_back,
     write_snap,
 };
+pub use time::{Month, Time, parse_moment, parse_time};

@@ -7,9 +7,9 @@ use Rattle.keep_sources.specs.Job.{is_asked}
 use Rattle.keep_sources.specs.Met.{Met, End, Then, Inside, below, given_of, given_of_leaf, names_of, skips_of, skips_of_leaf, unsaid}
 use Rattle.keep_sources.specs.Told.{Told}
 use Rattle.keep_sources.specs.Took.{IsMet, Took, TookLeaf, TookListed, listed_names, skip_view}
-use Rattle.keep_sources.specs.declared.job.Job.{Job}
-use Rattle.keep_sources.specs.declared.sight.Kind.TheVariants.{Folder}
-use Rattle.keep_sources.specs.declared.sight.Sight.{Sight}
+use Rattle.keep_sources.specs.declared.scope.Job.{Job}
+use Rattle.keep_sources.specs.declared.stat.Kind.TheVariants.{Folder}
+use Rattle.keep_sources.specs.declared.stat.Sight.{Sight}
 use Rattle.keep_sources.specs.declared.skipped.Skipped.{Skipped}
 use Rattle.keep_sources.specs.declared.source.Listing.{Listing}
 

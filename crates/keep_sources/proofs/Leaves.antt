@@ -9,9 +9,9 @@ use Rattle.keep_sources.specs.Job.{IsUnchanged, is_asked}
 use Rattle.keep_sources.specs.Met.{Excluded, Missed, Other, Same, Whole, Broken, below, change_of, named, sized, total}
 use Rattle.keep_sources.specs.Told.{Told}
 use Rattle.keep_sources.specs.Took.{CopiedFile, IsNewFile, Took, TookLeaf, TookListed, is_other, skip_view}
-use Rattle.keep_sources.specs.declared.job.Job.{Job}
-use Rattle.keep_sources.specs.declared.sight.Kind.TheVariants.{File, Folder}
-use Rattle.keep_sources.specs.declared.sight.Sight.{Sight}
+use Rattle.keep_sources.specs.declared.scope.Job.{Job}
+use Rattle.keep_sources.specs.declared.stat.Kind.TheVariants.{File, Folder}
+use Rattle.keep_sources.specs.declared.stat.Sight.{Sight}
 use Rattle.keep_sources.specs.declared.skipped.Skipped.{Skipped}
 use Rattle.keep_sources.specs.declared.skipped.Why.{Why}
 use Rattle.keep_sources.specs.declared.skipped.Why.TheVariants.{TooDeep}

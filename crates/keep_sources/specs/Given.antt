@@ -1,7 +1,7 @@
 -- What is given to an archive.
 use Rattle.std.specs.Prelude.{◌≡◌, ℕ, List, [], ◌∷◌}
 use Rattle.keep_names.specs.declared.id.Id.{Id}
-use Rattle.keep_sources.specs.declared.sight.Sight.{Sight}
+use Rattle.keep_sources.specs.declared.stat.Sight.{Sight}
 
 pub data Given : Type 0 where
   -- from here on nodes lie in a folder of this name

@@ -6,9 +6,9 @@ use Rattle.std.specs.Str.{bytes_eq}
 use Rattle.keep_names.specs.declared.id.Id.{Id}
 use Rattle.keep_tree.specs.Parsing.{PatternData, pattern_view}
 use Rattle.keep_sources.specs.Excluding.{is_excluded}
-use Rattle.keep_sources.specs.declared.job.Job.{Job}
-use Rattle.keep_sources.specs.declared.job.Known.{Known}
-use Rattle.keep_sources.specs.declared.sight.Sight.{Sight}
+use Rattle.keep_sources.specs.declared.scope.Job.{Job}
+use Rattle.keep_sources.specs.declared.scope.Known.{Known}
+use Rattle.keep_sources.specs.declared.stat.Sight.{Sight}
 
 abbrev pub patterns_of : Job → List PatternData
 patterns_of job = map pattern_view job.excludes.items

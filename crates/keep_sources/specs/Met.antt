@@ -2,7 +2,7 @@
 use Rattle.std.specs.Prelude.{ℕ, ◌+◌, ◌==◌, Option, None, Some, List, [], ◌∷◌, ◌++◌, map, length, codes, if◌then◌else◌, nat_lt}
 use Rattle.keep_names.specs.declared.id.Id.{Id}
 use Rattle.keep_sources.specs.Given.{Given, ClosedFolder, DroppedFile, EndedFile, GotOther, GotSame, OpenedFolder, Wrote}
-use Rattle.keep_sources.specs.declared.sight.Sight.{Sight}
+use Rattle.keep_sources.specs.declared.stat.Sight.{Sight}
 use Rattle.keep_sources.specs.declared.skipped.Why.{Why}
 use Rattle.keep_sources.specs.declared.skipped.Why.TheVariants.{Grew, Shrank, Unsayable}
 

@@ -1,6 +1,6 @@
 -- What a source told, by paths.
 use Rattle.std.specs.Prelude.{ℕ, List}
-use Rattle.keep_sources.specs.declared.sight.Sight.{Sight}
+use Rattle.keep_sources.specs.declared.stat.Sight.{Sight}
 use Rattle.keep_sources.specs.declared.skipped.Why.{Why}
 use Rattle.keep_sources.specs.declared.source.Listing.{Listing}
 

@@ -6,10 +6,10 @@ use Rattle.keep_sources.specs.Job.{IsUnchanged, is_asked}
 use Rattle.keep_sources.specs.Limits.{most_levels, read_limit}
 use Rattle.keep_sources.specs.Met.{Leaf, Excluded, Missed, Other, Same, Whole, Broken, Met, End, Then, Inside, below, given_of, given_of_leaf, names_of, skips_of, skips_of_leaf, total, unsaid}
 use Rattle.keep_sources.specs.Told.{Told}
-use Rattle.keep_sources.specs.declared.job.Job.{Job}
-use Rattle.keep_sources.specs.declared.sight.Kind.{Kind}
-use Rattle.keep_sources.specs.declared.sight.Kind.TheVariants.{File, Folder}
-use Rattle.keep_sources.specs.declared.sight.Sight.{Sight}
+use Rattle.keep_sources.specs.declared.scope.Job.{Job}
+use Rattle.keep_sources.specs.declared.stat.Kind.{Kind}
+use Rattle.keep_sources.specs.declared.stat.Kind.TheVariants.{File, Folder}
+use Rattle.keep_sources.specs.declared.stat.Sight.{Sight}
 use Rattle.keep_sources.specs.declared.skipped.Skipped.{Skipped}
 use Rattle.keep_sources.specs.declared.skipped.Why.{Why}
 use Rattle.keep_sources.specs.declared.skipped.Why.TheVariants.{TooDeep}

@@ -1,22 +1,22 @@
 //! What is backed up, as any source tells it, and the walk that gives it to an archive.
 #![tactic(auto)]
 
-mod choosing;
+mod asked_paths;
 mod copying;
 mod excluding;
-mod file;
-mod job;
-mod naming;
 mod receives;
-mod sight;
+mod scope;
 mod skipped;
 mod source;
+mod stat;
+mod taken_files;
+mod taken_paths;
 mod taking;
 mod walk;
 
-pub use job::{Job, Known};
 pub use receives::{Receives, Stop};
-pub use sight::{Kind, Moment, Sight};
+pub use scope::{Job, Known};
 pub use skipped::{Skipped, Why};
 pub use source::{Listing, Source};
+pub use stat::{Kind, Moment, Sight};
 pub use taking::Taking;

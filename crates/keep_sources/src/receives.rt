@@ -2,7 +2,7 @@ ghost use Rattle.std.specs.Prelude.{◌≡◌, ◌≤◌, OnOk};
 ghost use Rattle.keep_sources.specs.Given.{ClosedFolder, DroppedFile, EndedFile, GotOther, GotSame, OpenedFolder, Wrote};
 ghost use Rattle.keep_sources.specs.Limits.{most_held};
 
-use crate::sight::Sight;
+use crate::stat::Sight;
 use keep_names::Id;
 use std::alloc::AllocError;
 

@@ -1,7 +1,7 @@
 ghost use Rattle.std.specs.Prelude.{◌≤◌, IfErr, IfOk, length, take};
 
-use crate::sight::Sight;
 use crate::skipped::Why;
+use crate::stat::Sight;
 
 /// What lies in a folder.
 #[derive(Drop)]

@@ -1,8 +1,8 @@
 ghost use Rattle.std.specs.Prelude.{◌≡◌, [], IfErr, IfOk, OnOk};
 ghost use Rattle.keep_sources.specs.Took.{TookAll};
 
-use crate::job::Job;
 use crate::receives::{Receives, Stop};
+use crate::scope::Job;
 use crate::skipped::{Skipped, Why};
 use crate::source::{Listing, Source};
 use std::alloc::{AllocError, Global};

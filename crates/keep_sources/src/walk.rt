@@ -2,15 +2,15 @@ ghost use Rattle.std.specs.Prelude.{◌≡◌, [], ◌∷◌, true, OnOk, map, s
 ghost use Rattle.keep_sources.specs.Job as asking;
 ghost use Rattle.keep_sources.specs.Met.{below};
 ghost use Rattle.keep_sources.specs.Took.{Took, TookListed};
-ghost use Rattle.keep_sources.specs.declared.sight.Kind.TheVariants as the_kind;
+ghost use Rattle.keep_sources.specs.declared.stat.Kind.TheVariants as the_kind;
 
-use crate::choosing::is_asked;
-use crate::job::Job;
-use crate::naming::path_of;
+use crate::asked_paths::is_asked;
 use crate::receives::{Receives, Stop};
-use crate::sight::{Kind, Sight};
+use crate::scope::Job;
 use crate::skipped::Why;
 use crate::source::{Listing, Source};
+use crate::stat::{Kind, Sight};
+use crate::taken_paths::path_of;
 use crate::taking::Taking;
 
 impl<S: Source, A: Receives> Taking<S, A> {

@@ -1,7 +1,7 @@
-use crate::shown::{show_ids, show_names};
+use crate::shown_lists::{show_ids, show_names};
 use crate::state::{State, no_change};
+use crate::state_words;
 use crate::stop::Stop;
-use crate::words;
 use keep_change::{Change, Outline, Turn, What};
 use keep_ledger::{Refusal, Request, Told};
 use keep_lines::{Accepted, Refused};
@@ -74,7 +74,7 @@ fn show_outline(
     number: &str,
     out: &mut String,
 ) -> Result<(), Stop> {
-    let outline = Outline::of(alloc, What::Undo, words::number(number)?, change)?;
+    let outline = Outline::of(alloc, What::Undo, state_words::number(number)?, change)?;
     write_outline(&outline, out)?;
     Ok(())
 }

@@ -2,19 +2,19 @@
 //! lists, and what planners and readers make of such repositories.
 #![tactic(auto)]
 
-mod asking;
 mod changing;
-mod filling;
+mod event_lines;
+mod fill_lines;
 mod ground;
-mod listing;
+mod list_lines;
 mod placing;
-mod planning;
+mod plan_lines;
 mod reaching;
-mod reading;
-mod shown;
+mod restore_lines;
+mod shown_lists;
 mod state;
+mod state_words;
 mod stop;
-mod words;
 
 use crate::state::{State, kit_of};
 use crate::stop::Stop;
@@ -38,22 +38,22 @@ fn answer(state: &mut State, line: &str, out: &mut String) -> Result<(), Stop> {
 
 /// Does what the verb asks for, and writes the answer.
 fn answer_verb(state: &mut State, verb: &str, rest: &str, out: &mut String) -> Result<(), Stop> {
-    if filling::answer(state, verb, rest)? {
+    if fill_lines::answer(state, verb, rest)? {
         return Ok(());
     }
-    if listing::answer(state, verb, rest)? {
+    if list_lines::answer(state, verb, rest)? {
         return Ok(());
     }
     if changing::answer(state, verb, rest, out)? {
         return Ok(());
     }
-    if asking::answer(state, verb, rest, out)? {
+    if event_lines::answer(state, verb, rest, out)? {
         return Ok(());
     }
-    if planning::answer(state, verb, rest, out)? {
+    if plan_lines::answer(state, verb, rest, out)? {
         return Ok(());
     }
-    if reading::answer(state, verb, rest, out)? {
+    if restore_lines::answer(state, verb, rest, out)? {
         return Ok(());
     }
     look_up(state, verb, rest, out)
@@ -89,7 +89,7 @@ fn answer_by(
 
 /// Answers the line so many times.
 fn repeat(state: &mut State, rest: &str, out: &mut String) -> Result<(), Stop> {
-    let (count, line) = words::pair(rest)?;
+    let (count, line) = state_words::pair(rest)?;
     for _ in 0..words::number(count)? {
         answer(state, line, out)?;
     }

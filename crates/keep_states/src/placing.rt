@@ -1,6 +1,6 @@
 use crate::state::State;
+use crate::state_words;
 use crate::stop::Stop;
-use crate::words;
 use keep_catalog::{Catalog, CatalogError, ReachError, Spot, Unread};
 use keep_lines::{Refused, print_hex};
 use keep_names::{BlobId, BlobType, Id};
@@ -16,13 +16,13 @@ pub(crate) fn answer(
     out: &mut String,
 ) -> Result<bool, Stop> {
     match verb {
-        "place" => place(catalog, words::blob(rest)?, out)?,
-        "reuse" => reuse(catalog, words::blob(rest)?, out)?,
+        "place" => place(catalog, state_words::blob(rest)?, out)?,
+        "reuse" => reuse(catalog, state_words::blob(rest)?, out)?,
         "bytes" => bytes(alloc, catalog, spot(rest)?, out)?,
         "headers" => headers(alloc, catalog, out)?,
         "indexes" => indexes(alloc, catalog, out)?,
         "wrong" => wrong(alloc, catalog, out)?,
-        "nodes" => nodes(alloc, catalog, words::id(rest)?, out)?,
+        "nodes" => nodes(alloc, catalog, state_words::id(rest)?, out)?,
         "snaps" => writeln!(out, "snaps {}", catalog.snaps().len())?,
         _ => return Ok(false),
     }
@@ -75,11 +75,11 @@ fn reuse(catalog: &Catalog, blob: BlobId, out: &mut String) -> Result<(), AllocE
 
 /// A spot by its pack, its offset and its length.
 fn spot(text: &str) -> Result<Spot, Stop> {
-    let (pack, rest) = words::pair(text)?;
-    let (offset, length) = words::pair(rest)?;
-    let pack = words::id(pack)?;
-    let offset = words::number(offset)?;
-    let length = words::short_number(length)?;
+    let (pack, rest) = state_words::pair(text)?;
+    let (offset, length) = state_words::pair(rest)?;
+    let pack = state_words::id(pack)?;
+    let offset = state_words::number(offset)?;
+    let length = state_words::short_number(length)?;
     Ok(Spot {
         pack,
         offset,

@@ -1,6 +1,6 @@
 use crate::placing::type_word;
+use crate::state_words;
 use crate::stop::Stop;
-use crate::words;
 use keep_catalog::{Catalog, ReachError};
 use keep_lines::Refused;
 use keep_names::Id;
@@ -17,7 +17,10 @@ pub(crate) fn answer(
     out: &mut String,
 ) -> Result<bool, Stop> {
     match verb {
-        "reach" => count(keep_reach::reach(alloc, catalog, words::id(rest)?), out)?,
+        "reach" => count(
+            keep_reach::reach(alloc, catalog, state_words::id(rest)?),
+            out,
+        )?,
         "reach-all" => count(
             keep_reach::reach_all(alloc, catalog, &ids(alloc, rest)?),
             out,
@@ -32,7 +35,7 @@ pub(crate) fn answer(
 fn ids(alloc: Global, text: &str) -> Result<Vec<Id>, Stop> {
     let mut ids = Vec::new(alloc);
     for word in text.split(' ') {
-        ids.push(words::id(word)?)?;
+        ids.push(state_words::id(word)?)?;
     }
     Ok(ids)
 }

@@ -2,12 +2,12 @@
 #![tactic(auto)]
 
 mod digits;
-mod showing;
+mod shown_text;
 mod sizes;
 mod table;
 mod time;
 
-pub use showing::shown;
+pub use shown_text::shown;
 pub use sizes::size;
 pub use table::{Side, Table};
 pub use time::{local_time, utc_time};

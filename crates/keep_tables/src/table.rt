@@ -4,7 +4,7 @@ ghost use Rattle.keep_tables.specs.Lines as spec;
 ghost use Rattle.keep_tables.specs.Lines.{cells_of, cells_text, line_text, spaces};
 ghost use Rattle.keep_tables.specs.Shown.{shown_text};
 
-use crate::showing::shown;
+use crate::shown_text::shown;
 use std::alloc::{AllocError, Global};
 use std::marker::Model;
 use unicode_width::UnicodeWidthStr;

@@ -2,10 +2,10 @@
 //! told.
 #![tactic(auto)]
 
-mod case;
-mod memory;
-mod reading;
-mod source;
+mod case_fields;
+mod memory_store;
+mod piece_source;
+mod target_case;
 mod thing;
 
 use std::io;
@@ -13,7 +13,7 @@ use std::io;
 fn main(rt: HostRuntime) -> io::Result<()> {
     let alloc = rt.alloc();
     for line in rt.lines(alloc) {
-        match case::answer(alloc, line?.as_str()) {
+        match target_case::answer(alloc, line?.as_str()) {
             Ok(text) => println!(rt; "{text}")?,
             Err(_) => println!(rt; "no case")?,
         }

@@ -3,8 +3,8 @@
 use Rattle.std.specs.Prelude.{if◌then◌else◌, ℕ, ◌==◌, List, Result, Ok, Err}
 use Rattle.keep_targets.specs.declared.attributes.Owner.{Owner}
 use Rattle.keep_targets.specs.declared.attributes.Times.{Times}
-use Rattle.keep_targets.specs.declared.refusal.Refusal.{Refusal}
-use Rattle.keep_targets.specs.declared.refusal.Short.{Short}
+use Rattle.keep_targets.specs.declared.target_error.Refusal.{Refusal}
+use Rattle.keep_targets.specs.declared.target_error.Short.{Short}
 
 -- what can be asked, by paths below the root
 pub data Act : Type 0 where

@@ -1,8 +1,8 @@
 -- What is noted of a target.
 use Rattle.std.specs.Prelude.{string_bytes}
 use Rattle.keep_targets.specs.Call.{Append, Call, Cut, Did, MakeFile, MakeFolder, MakeLink, Refused, SetLinkOwner, SetMode, SetOwner, SetTimes}
-use Rattle.keep_targets.specs.declared.deed.Deed.{Deed}
-use Rattle.keep_targets.specs.declared.deed.Deed.TheVariants as deed
+use Rattle.keep_targets.specs.declared.noted_call.Deed.{Deed}
+use Rattle.keep_targets.specs.declared.noted_call.Deed.TheVariants as deed
 
 -- the call that was noted, by the bytes of the paths
 abbrev pub call_of : Deed → Call

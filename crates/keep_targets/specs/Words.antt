@@ -1,7 +1,7 @@
 -- Refusals in words.
 use Rattle.std.specs.Prelude.{ℕ, List, codes}
-use Rattle.keep_targets.specs.declared.refusal.Refusal.{Refusal}
-use Rattle.keep_targets.specs.declared.refusal.Refusal.TheVariants.{Denied, Failed, Full, Memory, Taken, Unknown, Unsayable}
+use Rattle.keep_targets.specs.declared.target_error.Refusal.{Refusal}
+use Rattle.keep_targets.specs.declared.target_error.Refusal.TheVariants.{Denied, Failed, Full, Memory, Taken, Unknown, Unsayable}
 
 abbrev pub refusal_text : Refusal → List ℕ
 refusal_text Taken = codes "something is there already"

@@ -2,13 +2,13 @@
 #![tactic(auto)]
 
 mod attributes;
-mod deed;
+mod noted_call;
 mod pieces;
-mod refusal;
 mod target;
+mod target_error;
 
 pub use attributes::{Instant, Owner, Times};
-pub use deed::Deed;
+pub use noted_call::Deed;
 pub use pieces::Pieces;
-pub use refusal::{Refusal, Short};
 pub use target::Target;
+pub use target_error::{Refusal, Short};

@@ -2,7 +2,7 @@ ghost use Rattle.std.specs.Prelude.{◌≡◌, ◌∷◌, ◌++◌, [], IsTrue};
 ghost use Rattle.keep_targets.specs.Call.{Append, MakeFile, MakeFolder, MakeLink, SetLinkOwner, SetMode, SetOwner, SetTimes, appended, ended};
 
 use crate::attributes::{Owner, Times};
-use crate::refusal::{Refusal, Short};
+use crate::target_error::{Refusal, Short};
 
 /// A new folder, the root, into which a restore writes.
 ///

@@ -1,6 +1,6 @@
 //! A crew at work: operators at a desk, each in a thread of its own.
 #![tactic(auto)]
 
-mod desk;
+mod desk_crew;
 
-pub use desk::crew_at_desk;
+pub use desk_crew::crew_at_desk;

@@ -1,7 +1,7 @@
 ghost use Rattle.keep_book.specs.Armed.{HasSums};
 
-use crate::asking::agrees;
 use crate::looking::look;
+use crate::yes_or_no::agrees;
 use keep_book::Book;
 use keep_deeds::{Came, NoDeed, deed_of, perform};
 use keep_journal::History;

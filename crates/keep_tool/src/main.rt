@@ -2,13 +2,13 @@
 #![tactic(auto)]
 
 mod answer;
-mod asking;
+mod dispatch;
+mod folder_opening;
 mod looking;
-mod opening;
-mod reading;
 mod script;
+mod yes_or_no;
 
-use crate::reading::keep;
+use crate::dispatch::keep;
 use keep_run::tell;
 use keep_streams::fill_streams;
 use std::process::ExitCode;

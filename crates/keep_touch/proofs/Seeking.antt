@@ -6,7 +6,7 @@ use Rattle.keep_journal.specs.History.{last_change}
 use Rattle.keep_journal.specs.Journal.{Journal}
 use Rattle.keep_touch.specs.Gathering.{is_pending, is_walked, touches_kept, Begins, Covers, Finds, NothingPends, Takes}
 use Rattle.keep_touch.specs.Taken.{is_one_of, itself, leaning, AreTaken, FallFrom, IsTaken, LeansOn}
-use Rattle.keep_touch.specs.declared.found.Found.{Found}
+use Rattle.keep_touch.specs.declared.gathered.Found.{Found}
 use Rattle.keep_touch.proofs.Members.{fall_higher, one_cases, one_itself, one_more, taken_is_least}
 
 -- whether the change was looked at, or is pending

@@ -7,7 +7,7 @@ use Rattle.keep_journal.specs.Kept.{is_kept}
 use Rattle.keep_touch.specs.Finding.{in_force}
 use Rattle.keep_touch.specs.Gathering.{Begins, Finds, NothingPends, Takes}
 use Rattle.keep_touch.specs.Taken.{AreTaken}
-use Rattle.keep_touch.specs.declared.found.Found.{Found}
+use Rattle.keep_touch.specs.declared.gathered.Found.{Found}
 use Rattle.keep_touch.proofs.Members.{kept_is_there, kept_within, taken_kept}
 use Rattle.keep_touch.proofs.Seeking.{above_bound, bound_of, search_begins, search_ends, search_goes_on, IsSearch}
 use Rattle.keep_touch.proofs.Walking.{finds_nothing}

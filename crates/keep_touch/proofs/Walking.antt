@@ -24,7 +24,7 @@ use Rattle.keep_touch.proofs.Listing.{written_listed}
 use Rattle.keep_touch.proofs.Picking.{all_weaker}
 use Rattle.keep_touch.proofs.Putting.{same_key}
 use Rattle.keep_touch.specs.Gathering.{is_pending, is_walked, touches_after, touches_kept, Finds, Walks}
-use Rattle.keep_touch.specs.declared.found.Found.{Found}
+use Rattle.keep_touch.specs.declared.gathered.Found.{Found}
 use Rattle.keep_touch.proofs.Members.{kept_within}
 use Rattle.keep_touch.proofs.Mentioned.{mentioned}
 

@@ -11,7 +11,7 @@ use Rattle.keep_change.specs.Touch.{touches}
 use Rattle.keep_journal.specs.Journal.{Journal}
 use Rattle.keep_journal.specs.Kept.{kept_change}
 use Rattle.keep_touch.specs.Taken.{LeansOn}
-use Rattle.keep_touch.specs.declared.found.Found.{Found}
+use Rattle.keep_touch.specs.declared.gathered.Found.{Found}
 
 -- whether change m was found, and is still to be looked at
 abbrev pub is_pending : Found → ℕ → Bool

@@ -3,7 +3,7 @@ use Rattle.std.proofs.Common.{◌≡◌, ◌∙◌, Result, Ok, Err, OnOk, OnErr
 use Rattle.keep_files.proofs.Kept.{acts_keep_folders}
 use Rattle.keep_files.specs.Act.{Act, CanDo, Seen, done}
 use Rattle.keep_files.specs.Stands.{IsClosed}
-use Rattle.keep_files.specs.declared.error.TreeError.{TreeError}
+use Rattle.keep_files.specs.declared.tree_error.TreeError.{TreeError}
 use Rattle.keep_memory_files.specs.Failing.{inner_of, outside}
 use Rattle.keep_memory_files.specs.Memory.{seen_in}
 use Rattle.keep_memory_files.specs.declared.failing.FailingTree.{FailingTree}

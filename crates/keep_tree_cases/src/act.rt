@@ -2,7 +2,7 @@ ghost use Rattle.keep_files.specs.Content.{HoldsFiles};
 ghost use Rattle.keep_files.specs.Stands.{IsClosed};
 ghost use Rattle.keep_keyed_folder.specs.Keyed.{stands_in};
 
-use crate::stop::Stop;
+use crate::tree_stop::Stop;
 use keep_files::{FileTree, TreeError};
 use keep_keyed_folder::{KeyPath, KeyedFolder};
 use keep_paths::key_is_sized;

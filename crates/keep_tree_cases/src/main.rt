@@ -4,16 +4,16 @@
 #![tactic(auto)]
 
 mod act;
-mod case;
-mod logged;
-mod plan;
+mod act_failures;
+mod logged_tree;
 mod running;
-mod showing;
-mod stop;
-mod table;
+mod shown_tree;
+mod tree_case;
+mod tree_lines;
+mod tree_stop;
 
-use crate::case::Case;
-use crate::stop::Stop;
+use crate::tree_case::Case;
+use crate::tree_stop::Stop;
 use std::process::ExitCode;
 
 /// What was answered, and the row at which it ended early.
@@ -26,7 +26,7 @@ fn answers(rt: &HostRuntime) -> Result<Answers, Stop> {
     let mut case = Case::new(alloc);
     for row in rt.lines(alloc) {
         let row = row?;
-        if let Err(stop) = table::take(&mut case, row.as_str(), &mut out) {
+        if let Err(stop) = tree_lines::take(&mut case, row.as_str(), &mut out) {
             return Ok((out, Err(format!(in alloc; "{stop}: {row}")?)));
         }
     }

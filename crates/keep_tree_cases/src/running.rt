@@ -5,11 +5,11 @@ ghost use Rattle.keep_memory_files.specs.Failing.{inner_of};
 ghost use Rattle.keep_memory_files.specs.Memory.{seen_in};
 
 use crate::act::{Act, perform};
-use crate::case::Case;
-use crate::logged::Logged;
-use crate::plan::Plan;
-use crate::showing::{show_keys, show_tree, word_of};
-use crate::stop::Stop;
+use crate::act_failures::Plan;
+use crate::logged_tree::Logged;
+use crate::shown_tree::{show_keys, show_tree, word_of};
+use crate::tree_case::Case;
+use crate::tree_stop::Stop;
 use keep_keyed_folder::{KeyedFolder, read_keys};
 use keep_memory_files::{FailingTree, MemoryTree};
 use std::alloc::Global;

@@ -5,7 +5,7 @@
 #[cfg(test)]
 mod arming;
 #[cfg(test)]
-mod command;
+mod failing_shelves;
 #[cfg(test)]
 mod folders;
 #[cfg(test)]
@@ -17,6 +17,6 @@ mod readers;
 #[cfg(test)]
 mod scripts;
 #[cfg(test)]
-mod shelves;
+mod status_trials;
 #[cfg(test)]
 mod writers;

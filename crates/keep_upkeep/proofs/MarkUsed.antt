@@ -16,7 +16,7 @@ use Rattle.keep_repo.specs.Repository.{Repository}
 use Rattle.keep_catalog.specs.Places.{chosen_listing, reuse_of}
 use Rattle.keep_reach.specs.Used.{used_in}
 use Rattle.keep_reach.specs.Walk.{AreChosen}
-use Rattle.keep_reach.specs.declared.found.Found.{Found}
+use Rattle.keep_reach.specs.declared.reached_blobs.Found.{Found}
 use Rattle.keep_catalog.specs.declared.spot.Spot.{Spot}
 use Rattle.keep_plan.proofs.Ordered.{each_so}
 use Rattle.keep_plan.specs.Reuse.{RestOn}

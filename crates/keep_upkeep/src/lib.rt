@@ -2,15 +2,15 @@
 //! those that have waited.
 #![tactic(auto)]
 
-mod laws;
 mod mark;
 mod reindexing;
 mod repair;
 mod sweep;
+mod upkeep_laws;
 
-pub use laws::{
-    a_planned_mark_can_be_made, a_planned_repair_can_be_made, a_planned_sweep_can_be_made,
-};
 pub use mark::plan_mark;
 pub use repair::plan_repair;
 pub use sweep::plan_sweep;
+pub use upkeep_laws::{
+    a_planned_mark_can_be_made, a_planned_repair_can_be_made, a_planned_sweep_can_be_made,
+};

@@ -19,7 +19,7 @@ ghost use Rattle.keep_upkeep.specs.Mark as spec;
 ghost use Rattle.keep_upkeep.specs.Mark.{gone_snapshots, mark_at, mark_change, marking_of, not_there};
 ghost use Rattle.keep_upkeep.specs.Mark.{unneeded_but, unneeded_packs, why_unknown};
 
-use crate::laws::a_planned_mark_can_be_made;
+use crate::upkeep_laws::a_planned_mark_can_be_made;
 use keep_change::{Change, Listed, PackMark, Planned};
 use keep_names::{FileName, Id, Kind};
 use keep_plan::{PlanError, Reuses, Stored, settle};

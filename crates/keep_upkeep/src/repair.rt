@@ -17,8 +17,8 @@ ghost use Rattle.keep_plan.specs.declared.plan_error.PlanError.TheVariants as th
 ghost use Rattle.keep_upkeep.specs.Repair.{absent_among, absent_listed, other_listings, repair_change};
 ghost use Rattle.keep_upkeep.specs.Repair as spec;
 
-use crate::laws::a_planned_repair_can_be_made;
 use crate::reindexing::{has_index, index_files, other_indexes, put_files, reindexed};
+use crate::upkeep_laws::a_planned_repair_can_be_made;
 use keep_catalog::Catalog;
 use keep_change::{Change, Listed, Planned, StoredFile};
 use keep_index::{Index, IndexedPack};

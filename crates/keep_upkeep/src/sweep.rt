@@ -19,8 +19,8 @@ ghost use Rattle.keep_upkeep.specs.Reindexing.{other_indexes};
 ghost use Rattle.keep_upkeep.specs.Sweep.{left_of, listing_gone, names_of, sweep_change};
 ghost use Rattle.keep_upkeep.specs.Sweep as spec;
 
-use crate::laws::a_planned_sweep_can_be_made;
 use crate::reindexing::{index_files, other_indexes, put_files, reindexed};
+use crate::upkeep_laws::a_planned_sweep_can_be_made;
 use keep_catalog::Catalog;
 use keep_change::{Change, Listed, PackMark, Planned, StoredFile};
 use keep_index::{Index, IndexedPack, join, without_packs};

@@ -2,8 +2,8 @@
 #![tactic(auto)]
 
 mod known;
-mod laws;
+mod known_law;
 mod view;
 
-pub use laws::the_known_are_there_or_added;
+pub use known_law::the_known_are_there_or_added;
 pub use view::View;

@@ -5,7 +5,7 @@
 //! one. Empty lines and `#` are passed over.
 #![tactic(auto)]
 
-mod shown;
+mod shown_words;
 mod told;
 
 use keep_typed::read_words;

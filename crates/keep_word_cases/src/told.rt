@@ -1,4 +1,4 @@
-use crate::shown::{List, Maybe, given};
+use crate::shown_words::{List, Maybe, given};
 use keep_words::{Backup, Chosen, Command, Forget, Keep, Restore, Rewrite, Tag, Words};
 use std::io::{self, Write};
 

@@ -4,11 +4,11 @@
 mod command;
 mod faults;
 mod span;
-mod values;
+mod word_values;
 mod words;
 
 pub use command::{Backup, Chosen, Command, Forget, Keep, Restore, Rewrite, Tag};
 pub use faults::refusal;
 pub use span::parse_span;
-pub use values::{count, flag, number, text, texts};
+pub use word_values::{count, flag, number, text, texts};
 pub use words::Words;

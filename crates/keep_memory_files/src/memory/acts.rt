@@ -4,7 +4,7 @@ ghost use Rattle.keep_files.specs.Act.{CanDo, Made, Removed, Renamed, Synced, Wr
 ghost use Rattle.keep_files.specs.Stands.{HasHome, is_file, put_at};
 
 use super::MemoryTree;
-use crate::deed::Deed;
+use crate::done_act::Deed;
 use keep_files::{Node, TreeError};
 use keep_repo::Bytes;
 use std::alloc::AllocError;

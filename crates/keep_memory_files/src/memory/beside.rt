@@ -3,7 +3,7 @@
 ghost use Rattle.std.specs.Prelude.{◌≡◌, ◌≢◌, Err, Ok, IsTrue, OnOk, OnErr, is_some};
 ghost use Rattle.keep_files.specs.Act.{CanDo, Made, Removed, Renamed, Synced, Wrote, done, failed};
 ghost use Rattle.keep_files.specs.Stands.{is_file};
-ghost use Rattle.keep_files.specs.declared.error.TreeError.TheVariants as the_error;
+ghost use Rattle.keep_files.specs.declared.tree_error.TreeError.TheVariants as the_error;
 
 use super::MemoryTree;
 use keep_files::TreeError;

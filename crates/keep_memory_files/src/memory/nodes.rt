@@ -5,7 +5,7 @@ ghost use Rattle.keep_files.specs.Stands.{HasHome, put_at};
 ghost use Rattle.keep_files.specs.Stands as stands;
 
 use super::MemoryTree;
-use crate::place::{bounds_of, is_held_in};
+use crate::path_bounds::{bounds_of, is_held_in};
 use keep_files::{Node, home_of};
 use std::alloc::AllocError;
 

@@ -4,7 +4,7 @@ use Rattle.std.specs.Borrow.{Bor}
 use Rattle.keep_snap.specs.declared.fact.SnapFacts.{SnapFacts}
 use Rattle.keep_labels.specs.Orders.{group_cmp}
 use Rattle.keep_labels.specs.Walk.{seen_view}
-use Rattle.keep_labels.specs.declared.row.Row.{Row}
+use Rattle.keep_labels.specs.declared.group_row.Row.{Row}
 use Rattle.keep_labels.proofs.Counting.{group_total}
 use Rattle.keep_labels.proofs.Numbered.{numbered, numbers_agree, row_pair, views_numbered}
 use Rattle.keep_labels.proofs.Sorting.{climbs_sorted}

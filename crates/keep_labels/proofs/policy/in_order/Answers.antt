@@ -2,7 +2,7 @@ use Rattle.std.proofs.Common.{◌≡◌, Bool, List, Ordering, IsPermutation, is
 use Rattle.std.proofs.lemmas.Fn.{always_returns_same}
 use Rattle.std.proofs.lemmas.List.Sorted.{IsPermutation-map, ranks_by}
 use Rattle.keep_labels.specs.declared.order.Counted.{Counted}
-use Rattle.keep_labels.specs.declared.row.Row.{Row}
+use Rattle.keep_labels.specs.declared.group_row.Row.{Row}
 use Rattle.keep_labels.proofs.Dropping.{own_name}
 use Rattle.keep_labels.proofs.Numbered.{grouped_permuted, row_view}
 use Rattle.keep_labels.proofs.Sorting.{once_permuted}

@@ -2,7 +2,7 @@ use Rattle.std.proofs.Common.{◌≡◌, Bool, List, Ordering, IsPermutation, is
 use Rattle.std.proofs.lemmas.Fn.{always_returns_same}
 use Rattle.std.proofs.lemmas.List.Sorted.{IsPermutation-map, ranks_by}
 use Rattle.keep_named.specs.Rows.{RowData, moment_cmp, row_view, rows_in, rows_of}
-use Rattle.keep_named.specs.declared.row.SnapshotRow.{SnapshotRow}
+use Rattle.keep_named.specs.declared.listed_snapshot.SnapshotRow.{SnapshotRow}
 use Rattle.keep_named.proofs.Ordered.{moment_total}
 use Rattle.keep_named.proofs.rows.snapshots_of.Goals as goal
 

@@ -1,7 +1,7 @@
 use Rattle.std.proofs.Common.{Bor, List, map, ◌∙◌, ap, subst}
 use Rattle.std.specs.List.{AllZip}
 use Rattle.keep_nodes.specs.Entries.{entry_view}
-use Rattle.keep_nodes.specs.declared.entry.Entry.{Entry}
+use Rattle.keep_nodes.specs.declared.path_node.Entry.{Entry}
 use Rattle.keep_putting.specs.Putting.{IsRestored}
 use Rattle.keep_putting.specs.declared.wanted.Wanted.{Wanted}
 use Rattle.keep_repo.specs.Repository.{Repository}

@@ -1,5 +1,5 @@
 use Rattle.std.proofs.Common.{◌≡◌, List, [], ◌∷◌, ◌++◌, rules, sym, ap, ◌∙◌, append-nil, append_assoc}
-use Rattle.keep_reach.specs.declared.found.Found.{Found}
+use Rattle.keep_reach.specs.declared.reached_blobs.Found.{Found}
 use Rattle.keep_names.specs.declared.blob.BlobId.{BlobId}
 use Rattle.keep_upkeep.proofs.MarkUsed.{all_found, one_more_found}
 use Rattle.keep_upkeep.proofs.mark.uses_found.Goals as goal

@@ -1,0 +1,135 @@
+ghost use Rattle.std.specs.Prelude.{◌≡◌, map, string_bytes};
+ghost use Rattle.keep_docs.specs.Doc.{Answers};
+ghost use Rattle.keep_plan.specs.declared.plan_error.PlanError.TheVariants as the_error;
+ghost use Rattle.keep_backup.specs.Backup.{facts_view};
+ghost use Rattle.keep_archive.specs.Archive.{going_view};
+ghost use Rattle.keep_archive.specs.Plans.{part_of};
+ghost use Rattle.keep_archive.specs.Plans as spec;
+
+use crate::archive::Archive;
+use crate::going::Going;
+use crate::part_storing::{store_held, store_last};
+use keep_backup::{BackupFacts, change_with, has_bad_time, snapshot_file};
+use keep_change::{Change, Planned};
+use keep_plan::{PlanError, Stored};
+use keep_repo::Facet;
+use keep_view::View;
+use std::alloc::Global;
+
+impl Archive {
+    ghost use Rattle.std.specs.Prelude.{true, IfOk, IfSome, option_map};
+    ghost use Rattle.keep_repo.specs.Repository as repository;
+    ghost use Rattle.keep_change.specs.Change.{is_met};
+    ghost use Rattle.keep_change.specs.Form.{IsWellFormed};
+    ghost use Rattle.keep_archive.specs.Archive.{archive_view};
+    ghost use Rattle.keep_archive.specs.Plans.{last_change, of_open, part_change};
+
+    /// The change that stores what is held, as far as it has no place: it adds packs and their index alone. None where
+    /// nothing is to be stored. `Unread` where a file of the repository can't be read.
+    pub fn plan_part(&self, alloc: Global, view: &View) -> Result<Option<Planned>, PlanError>
+        ensures change { Answers the_error.Memory (option_map (λ planned. planned.change))
+            (of_open (part_change view.now.repo) (archive_view self.now)) result }
+        ensures seen { IfOk result (λ part. IfSome part (λ planned. planned.seen ≡ view.now.length)) }
+        ensures well_formed { IfOk result (λ part. IfSome part (λ planned. IsWellFormed planned.change)) }
+        ensures met { IfOk result (λ part. IfSome part
+            (λ planned. is_met (repository.held view.now.repo) planned.change ≡ true)) }
+    {
+        let Some(going) = &self.going else {
+            return Err(PlanError::Memory);
+        };
+        let Some(change) = part(alloc, view, going)? else {
+            return Ok(None);
+        };
+        Ok(Some(Planned {
+            change,
+            seen: view.length(),
+        }))
+    }
+
+    /// The last change: it stores what is left, rests on what was stored and on the pieces of files that weren't read,
+    /// and adds the snapshot, with these tags.
+    ///
+    /// The refusals in their order: `BadPath` where a folder below the root is open, `BadTime`, `Unread`, `Full`,
+    /// `MissingBlob` of the first blob that was stored or named and has no place any more, `SnapshotThere`.
+    pub fn plan_backup(
+        &self,
+        alloc: Global,
+        view: &View,
+        facts: &BackupFacts,
+        tags: &[String],
+    ) -> Result<Planned, PlanError>
+        ensures change { Answers the_error.Memory (λ planned. planned.change)
+            (of_open (last_change view.now.repo (facts_view facts.now) (map string_bytes tags.now))
+            (archive_view self.now)) result }
+        ensures seen { IfOk result (λ planned. planned.seen ≡ view.now.length) }
+        ensures well_formed { IfOk result (λ planned. IsWellFormed planned.change) }
+        ensures met { IfOk result (λ planned. is_met (repository.held view.now.repo) planned.change ≡ true) }
+    {
+        let Some(going) = &self.going else {
+            return Err(PlanError::Memory);
+        };
+        let change = last(alloc, view, going, facts, tags)?;
+        Ok(Planned {
+            change,
+            seen: view.length(),
+        })
+    }
+}
+
+/// The change of a part.
+fn part(alloc: Global, view: &View, going: &Going) -> Result<Option<Change>, PlanError>
+    ensures { Answers the_error.Memory (λ part. part) (spec.part_change view.now.repo (going_view going.now)) result }
+{
+    let stored = store_held(alloc, view, &going.blobs.held)?;
+    if is_idle(&stored) {
+        return Ok(None);
+    }
+    Ok(Some(part_with(alloc, stored)))
+}
+
+/// The last change.
+fn last(
+    alloc: Global,
+    view: &View,
+    going: &Going,
+    facts: &BackupFacts,
+    tags: &[String],
+) -> Result<Change, PlanError>
+    ensures { Answers the_error.Memory (λ change. change) (spec.last_change view.now.repo
+        (facts_view facts.now) (map string_bytes tags.now) (going_view going.now)) result }
+{
+    if !going.place.around.is_empty() {
+        return Err(PlanError::BadPath);
+    }
+    if has_bad_time(facts) {
+        return Err(PlanError::BadTime);
+    }
+    let (tree, stored) = store_last(alloc, view, going)?;
+    let snapshot = snapshot_file(alloc, facts, tags, tree)?;
+    if view.repo().facet_filled(Facet::File(snapshot.name())) {
+        return Err(PlanError::SnapshotThere);
+    }
+    let change = change_with(alloc, stored, snapshot)?;
+    Ok(change)
+}
+
+/// Whether nothing would be written.
+fn is_idle(stored: &Stored) -> bool
+    ensures { result ≡ spec.is_idle stored.now }
+{
+    let no_adds = stored.adds.as_slice().is_empty();
+    let no_clears = stored.clears.as_slice().is_empty();
+    no_adds & no_clears
+}
+
+/// The change that stores this.
+fn part_with(alloc: Global, stored: Stored) -> Change
+    ensures { result ≡ part_of stored }
+{
+    let mut change = Change::new(alloc);
+    change.adds = stored.adds;
+    change.clears = stored.clears;
+    change.present = stored.present;
+    change.unmarked = stored.unmarked;
+    change
+}

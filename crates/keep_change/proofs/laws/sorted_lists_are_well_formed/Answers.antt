@@ -1,5 +1,0 @@
-use Rattle.keep_change.proofs.Apart.{sorted_lists_are_well_formed_lem}
-use Rattle.keep_change.proofs.laws.sorted_lists_are_well_formed.Goals as goal
-
-pub returns : goal.returns
-returns c = sorted_lists_are_well_formed_lem

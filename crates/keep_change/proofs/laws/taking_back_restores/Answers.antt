@@ -1,5 +1,0 @@
-use Rattle.keep_change.proofs.laws.taking_back_restores.Goals as goal
-use Rattle.keep_change.proofs.History.{taking_back_restores_lem}
-
-pub returns : goal.returns
-returns c = taking_back_restores_lem

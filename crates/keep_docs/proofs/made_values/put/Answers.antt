@@ -1,0 +1,12 @@
+use Rattle.std.proofs.Common.{ap, ◌∙◌}
+use Rattle.serde_json.specs.Data.{put}
+use Rattle.serde_json.specs.View.{view, members_view}
+use Rattle.serde_json.proofs.Views.{members_view-insert_entry}
+use Rattle.keep_docs.proofs.made_values.put.Goals as goal
+
+pub returns : goal.returns
+returns c =
+    let old = members_view c.args.members.now.entries in
+    ap members_view c.in_ok-insert.ensures.entries
+    ∙ members_view-insert_entry c.args.members.now.entries c.in_ok-from_str.field-0 c.args.value
+    ∙ ap (λ name. put name (view c.args.value) old) c.in_ok-from_str.ensures.ok

@@ -1,0 +1,79 @@
+ghost use Rattle.std.specs.Prelude.{◌≡◌, ◌<◌, ◌++◌, ◌^◌, IfOk, OnOk, codes, decimal};
+ghost use Rattle.std.specs.List.{AllByRecursion};
+ghost use Rattle.serde_json.specs.Written.{compact_text};
+ghost use Rattle.keep_entries.specs.Entry.{FilesFit, Fits, FitsMark, MarksFit};
+ghost use Rattle.keep_entries.specs.Spelling.{commit_data, empty_data, entry_text, event_data};
+ghost use Rattle.keep_entries.specs.declared.form.Form.TheVariants.{Moments};
+
+use crate::entry_values::{put, put_marks, put_number};
+use crate::object_text::{put_first, put_last, put_middle};
+use keep_change::{Change, PackMark};
+use keep_journal::{Event, EventKind};
+use std::alloc::{AllocError, Global};
+
+/// Room for the text of an event that changes little.
+const ROOM: usize = 512;
+
+/// The text of an event.
+pub(crate) fn event_text(alloc: Global, event: &Event) -> Result<Vec<u8>, AllocError>
+    ensures text { IfOk result (λ bytes. bytes.items ≡ entry_text event.now) }
+    ensures fits { IfOk result (λ _. Fits event.now) }
+{
+    let mut bytes = Vec::with_capacity(alloc, ROOM)?;
+    put_event(alloc, &mut bytes, event)?;
+    Ok(bytes)
+}
+
+/// Writes an event.
+fn put_event(alloc: Global, out: &mut Vec<u8>, event: &Event) -> Result<(), AllocError>
+    ensures text { OnOk result (out.new.items ≡ out.old.items ++ compact_text (event_data Moments event.now)) }
+    ensures fits { OnOk result (Fits event.now) }
+{
+    let number = event.number;
+    match &event.kind {
+        EventKind::Commit(change) => put_commit(alloc, out, number, change.as_change()),
+        EventKind::Undo => put_turn(out, b"{\"event\":\"undo\",\"form\":2,\"number\":", number),
+        EventKind::Redo => put_turn(out, b"{\"event\":\"redo\",\"form\":2,\"number\":", number),
+        EventKind::Empty(marks) => put_empty(out, number, marks.as_slice()),
+    }
+}
+
+/// Writes a commit.
+fn put_commit(
+    alloc: Global,
+    out: &mut Vec<u8>,
+    number: u64,
+    change: &Change,
+) -> Result<(), AllocError>
+    ensures text { OnOk result (out.new.items ≡ out.old.items ++ compact_text (commit_data Moments number change.now)) }
+    ensures number { OnOk result (number < 2 ^ 64) }
+    ensures files { OnOk result (FilesFit change.now) }
+    ensures marks { OnOk result (MarksFit change.now) }
+{
+    put_first(alloc, out, change)?;
+    put_middle(out, number, change)?;
+    put_last(out, change)
+}
+
+/// Writes an undo or a redo: the text up to its number, which says the one or the other, and the rest.
+fn put_turn(out: &mut Vec<u8>, beginning: &[u8], number: u64) -> Result<(), AllocError>
+    ensures text { OnOk result (out.new.items ≡ out.old.items ++ (beginning.now ++ (decimal number ++ codes "}"))) }
+    ensures number { OnOk result (number < 2 ^ 64) }
+{
+    put(out, beginning)?;
+    put_number(out, number)?;
+    put(out, b"}")
+}
+
+/// Writes an emptying.
+fn put_empty(out: &mut Vec<u8>, number: u64, marks: &[PackMark]) -> Result<(), AllocError>
+    ensures text { OnOk result (out.new.items ≡ out.old.items ++ compact_text (empty_data Moments number marks.now)) }
+    ensures number { OnOk result (number < 2 ^ 64) }
+    ensures fit { OnOk result (AllByRecursion FitsMark marks.now) }
+{
+    put(out, b"{\"event\":\"empty\",\"form\":2,\"marks\":[")?;
+    put_marks(out, marks)?;
+    put(out, b"],\"number\":")?;
+    put_number(out, number)?;
+    put(out, b"}")
+}

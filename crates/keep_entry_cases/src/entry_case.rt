@@ -1,0 +1,81 @@
+use crate::facets::facets;
+use crate::mixing::{cuts, mixed};
+use crate::no_entry::No;
+use crate::told_entry::tell;
+use keep_entries::{read_entry, write_entry};
+use keep_journal::Entry;
+use keep_names::decode_hex;
+use std::alloc::Global;
+use std::str;
+
+/// The answer to a line. Comments and empty lines answer with themselves.
+pub(crate) fn answer(alloc: Global, line: &str) -> Result<String, No> {
+    let (word, rest) = cut(line);
+    match word {
+        "" | "#" => Ok(String::from_str(alloc, line)?),
+        "x" => answer_digits(alloc, rest),
+        _ => {
+            let (number, text) = cut(rest);
+            answer_bytes(alloc, word, number, text.as_bytes())
+        }
+    }
+}
+
+/// The word that a text begins with, and what stands behind it.
+fn cut<'a>(text: &'a str) -> (&'a str, &'a str) {
+    match text.split_once(' ') {
+        Some(parts) => parts,
+        None => (text, ""),
+    }
+}
+
+/// A case whose bytes are written in hex.
+fn answer_digits(alloc: Global, text: &str) -> Result<String, No> {
+    let (word, rest) = cut(text);
+    let (number, digits) = cut(rest);
+    let bytes = decode_hex(alloc, digits)?.ok_or(No::Case)?;
+    answer_bytes(alloc, word, number, &bytes)
+}
+
+fn answer_bytes(alloc: Global, word: &str, number: &str, bytes: &[u8]) -> Result<String, No> {
+    let Ok(number) = number.parse::<u64>() else {
+        return Err(No::Case);
+    };
+    match word {
+        "entry" => told(alloc, number, bytes),
+        "again" => written(alloc, number, bytes),
+        "cuts" => cuts(alloc, number, bytes),
+        "mixed" => mixed(alloc, number, bytes),
+        "facets" => facets(alloc, number, count_in(bytes).ok_or(No::Case)?),
+        _ => Err(No::Case),
+    }
+}
+
+/// What an entry says, and whether it is written so.
+fn told(alloc: Global, number: u64, bytes: &[u8]) -> Result<String, No> {
+    let entry = read_entry(alloc, number, bytes)?;
+    let mut told = tell(alloc, &entry)?;
+    told.push_str(if is_same(alloc, &entry, bytes)? {
+        " same"
+    } else {
+        " anew"
+    })?;
+    Ok(told)
+}
+
+fn is_same(alloc: Global, entry: &Entry, bytes: &[u8]) -> Result<bool, No> {
+    let text = write_entry(alloc, entry)?;
+    Ok(text.as_slice() == bytes)
+}
+
+/// How an entry that was read is written.
+fn written(alloc: Global, number: u64, bytes: &[u8]) -> Result<String, No> {
+    let entry = read_entry(alloc, number, bytes)?;
+    let text = write_entry(alloc, &entry)?;
+    Ok(String::from_utf8_lossy(alloc, &text)?)
+}
+
+/// The number that is written in decimal.
+fn count_in(digits: &[u8]) -> Option<u32> {
+    str::from_utf8(digits).ok()?.parse::<u32>().ok()
+}

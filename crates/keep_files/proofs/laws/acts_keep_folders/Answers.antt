@@ -1,5 +1,0 @@
-use Rattle.keep_files.proofs.Kept.{acts_keep_folders}
-use Rattle.keep_files.proofs.laws.acts_keep_folders.Goals as goal
-
-pub returns : goal.returns
-returns c = acts_keep_folders

@@ -1,5 +1,0 @@
-use Rattle.keep_ledger.proofs.Taken.{files_alone}
-use Rattle.keep_ledger.proofs.laws.live_files_alone_are_opened.Goals as goal
-
-pub returns : goal.returns
-returns c = files_alone

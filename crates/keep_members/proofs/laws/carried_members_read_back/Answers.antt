@@ -1,5 +1,0 @@
-use Rattle.keep_members.proofs.ReadBack.{carried_back}
-use Rattle.keep_members.proofs.laws.carried_members_read_back.Goals as goal
-
-pub returns : goal.returns
-returns c = carried_back

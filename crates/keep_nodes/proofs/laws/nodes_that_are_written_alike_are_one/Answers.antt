@@ -1,5 +1,0 @@
-use Rattle.keep_nodes.proofs.Alike.{alike}
-use Rattle.keep_nodes.proofs.laws.nodes_that_are_written_alike_are_one.Goals as goal
-
-pub returns : goal.returns
-returns c = alike

@@ -1,5 +1,0 @@
-use Rattle.keep_opening.proofs.Resting.{due_leads}
-use Rattle.keep_opening.proofs.laws.what_is_due_leads_on.Goals as goal
-
-pub returns : goal.returns
-returns c = due_leads

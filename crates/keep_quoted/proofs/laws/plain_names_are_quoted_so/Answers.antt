@@ -1,5 +1,0 @@
-use Rattle.keep_quoted.proofs.Plain.{plain_quoted}
-use Rattle.keep_quoted.proofs.laws.plain_names_are_quoted_so.Goals as goal
-
-pub returns : goal.returns
-returns c = plain_quoted

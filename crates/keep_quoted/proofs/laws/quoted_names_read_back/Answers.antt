@@ -1,5 +1,0 @@
-use Rattle.keep_quoted.proofs.ReadBack.{name_back}
-use Rattle.keep_quoted.proofs.laws.quoted_names_read_back.Goals as goal
-
-pub returns : goal.returns
-returns c = name_back

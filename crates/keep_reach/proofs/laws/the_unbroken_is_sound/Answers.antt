@@ -1,5 +1,0 @@
-use Rattle.keep_reach.proofs.Sound.{unbroken_sound}
-use Rattle.keep_reach.proofs.laws.the_unbroken_is_sound.Goals as goal
-
-pub returns : goal.returns
-returns c = unbroken_sound

@@ -1,5 +1,0 @@
-use Rattle.keep_read.proofs.Paths.{paths_apart}
-use Rattle.keep_read.proofs.laws.paths_are_apart.Goals as goal
-
-pub returns : goal.returns
-returns c = paths_apart

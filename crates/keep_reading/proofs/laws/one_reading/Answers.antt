@@ -1,5 +1,0 @@
-use Rattle.keep_reading.proofs.Checked.{one_reading_lem}
-use Rattle.keep_reading.proofs.laws.one_reading.Goals as goal
-
-pub returns : goal.returns
-returns c = one_reading_lem

@@ -1,5 +1,0 @@
-use Rattle.keep_snap.proofs.Relabelled.{IsSnap-retreed}
-use Rattle.keep_snap.proofs.written.retreed_snapshots_can_be_written.Goals as goal
-
-pub returns : goal.returns
-returns c = IsSnap-retreed

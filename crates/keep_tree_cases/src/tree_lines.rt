@@ -1,0 +1,64 @@
+use crate::act::Act;
+use crate::running::answer;
+use crate::tree_case::{Case, Entry};
+use crate::tree_stop::Stop;
+use keep_paths::key_of_path;
+use keep_repo::Bytes;
+use keep_shelf::Key;
+use std::alloc::{AllocError, Global};
+use std::fmt::Write;
+
+/// Takes a row of the table. One that is an act has the case answered.
+pub(crate) fn take(case: &mut Case, row: &str, out: &mut String) -> Result<(), Stop> {
+    if row.is_empty() || row.starts_with('#') {
+        return Ok(());
+    }
+    let alloc = case.alloc;
+    let (verb, rest) = row.split_once(' ').unwrap_or((row, ""));
+    match verb {
+        "=" => {
+            *case = Case::new(alloc);
+            writeln!(out, "= {rest}")?;
+            Ok(())
+        }
+        "folder" => {
+            let path = String::from_str(alloc, rest)?;
+            Ok(case.entries.push(Entry::Folder(path))?)
+        }
+        "file" => {
+            let (path, text) = rest.split_once(' ').ok_or(Stop::NoRow)?;
+            let path = String::from_str(alloc, path)?;
+            let bytes = bytes_of(alloc, text)?;
+            Ok(case.entries.push(Entry::File(path, bytes))?)
+        }
+        _ => answer(case, &act_of(alloc, verb, rest)?, out),
+    }
+}
+
+/// The act that the row names.
+fn act_of(alloc: Global, verb: &str, rest: &str) -> Result<Act, Stop> {
+    match verb {
+        "put" => {
+            let (path, text) = rest.split_once(' ').ok_or(Stop::NoRow)?;
+            Ok(Act::Put(key_at(path)?, bytes_of(alloc, text)?))
+        }
+        "shift" => {
+            let (from, to) = rest.split_once(' ').ok_or(Stop::NoRow)?;
+            Ok(Act::Shift(key_at(from)?, key_at(to)?))
+        }
+        "remove" => Ok(Act::Remove(key_at(rest)?)),
+        "clear" => Ok(Act::Clear),
+        "walk" => Ok(Act::Walk),
+        _ => Err(Stop::NoRow),
+    }
+}
+
+fn key_at(path: &str) -> Result<Key, Stop> {
+    key_of_path(path).ok_or(Stop::NoRow)
+}
+
+/// The bytes of a text.
+fn bytes_of(alloc: Global, text: &str) -> Result<Bytes, AllocError> {
+    let text = String::from_str(alloc, text)?;
+    Bytes::new(alloc, text.into_bytes())
+}

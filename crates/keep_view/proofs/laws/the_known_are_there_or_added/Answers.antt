@@ -1,5 +1,0 @@
-use Rattle.keep_view.proofs.Knowing.{known_are_there_or_added}
-use Rattle.keep_view.proofs.laws.the_known_are_there_or_added.Goals as goal
-
-pub returns : goal.returns
-returns c = known_are_there_or_added
