@@ -20,7 +20,7 @@ use Rattle.keep_read.specs.declared.finding.Finding.{Finding}
 use Rattle.keep_read.specs.declared.restore_error.RestoreError.{RestoreError}
 use Rattle.keep_read.specs.declared.restore_error.RestoreError.TheVariants.{NoSnapshot, Reach, Unread}
 use Rattle.keep_catalog.specs.declared.reach_error.ReachError.TheVariants.{BadTree, Memory, MissingBlob, TooDeep, WrongHash}
-use Rattle.keep_read.specs.declared.restored.Restored.{Restored}
+use Rattle.keep_read.specs.declared.restored.RestoredFiles.{RestoredFiles}
 use Rattle.keep_answers.specs.Answer.{Restores, Tells}
 use Rattle.keep_answers.specs.Known.{Puts}
 use Rattle.keep_answers.specs.State.{State}
@@ -81,7 +81,7 @@ pub audit_split : (findings : List Finding) (written rest : List ℕ) → writte
 audit_split findings written rest split = ap (λ l. l ++ audit_last (length findings)) (sym split) ∙ append_assoc written rest (audit_last (length findings))
 
 -- what a restore told is what it has to tell, or that memory ran out, where the snapshot was there
-restore_told : (is_there : Bool) (due : Result RestoredData RestoreError) (outcome : Result Restored RestoreError) → Answers (Reach Memory) restored_view due outcome → (is_there ≡ false → outcome ≡ Err NoSnapshot)
+restore_told : (is_there : Bool) (due : Result RestoredData RestoreError) (outcome : Result RestoredFiles RestoreError) → Answers (Reach Memory) restored_view due outcome → (is_there ≡ false → outcome ≡ Err NoSnapshot)
     → (restore_answer (result_map_both restored_view (λ e. e) outcome) ≡ restore_answer due) ⊎ ((is_there ≡ true) × (restore_answer (result_map_both restored_view (λ e. e) outcome) ≡ no_memory_answer))
 restore_told is_there due (Ok restored) h none = inl (ap restore_answer (sym h))
 restore_told is_there due (Err NoSnapshot) h none = inl (ap restore_answer (sym (h (λ e. cc e))))
@@ -93,7 +93,7 @@ restore_told is_there due (Err (Reach (MissingBlob blob))) h none = inl (ap rest
 restore_told is_there due (Err (Reach (WrongHash blob))) h none = inl (ap restore_answer (sym (h (λ e. cc e))))
 
 -- so a restore was answered
-pub Restored-tells : (repository : Repository) (snapshot : Id) (outcome : Result Restored RestoreError) → Answers (Reach Memory) restored_view (restored repository snapshot) outcome
+pub Restored-tells : (repository : Repository) (snapshot : Id) (outcome : Result RestoredFiles RestoreError) → Answers (Reach Memory) restored_view (restored repository snapshot) outcome
     → (is_filled repository (snapshot_facet snapshot) ≡ false → outcome ≡ Err NoSnapshot)
     → Restores repository snapshot (restore_answer (result_map_both restored_view (λ e. e) outcome))
 Restored-tells repository snapshot outcome told none = restore_told (is_filled repository (snapshot_facet snapshot)) (restored repository snapshot) outcome told none

@@ -5,8 +5,8 @@ use Rattle.std.specs.Ordering.{min_by_ordering}
 use Rattle.std.specs.List.{reduce}
 use Rattle.keep_names.specs.Orders.{name_cmp}
 use Rattle.std.specs.FinMap as finite
-use Rattle.keep_lines.specs.declared.word.Target.{Target}
-use Rattle.keep_lines.specs.declared.word.Target.TheVariants.{Named, AddedBy}
+use Rattle.keep_lines.specs.declared.word.MeantFile.{MeantFile}
+use Rattle.keep_lines.specs.declared.word.MeantFile.TheVariants.{Named, AddedBy}
 use Rattle.keep_names.specs.Sha256.{sha256}
 use Rattle.keep_names.specs.declared.file_name.FileName.{FileName}
 use Rattle.keep_names.specs.declared.file_name.Kind.{Kind}
@@ -63,6 +63,6 @@ abbrev pub added_in : Journal → ℕ → Kind → Option FileName
 added_in j n kind = option_and_then (λ c. least (names_of_kind kind (file_names c.adds))) (change_of j n)
 
 -- the file that a target means, if there is one: that of an id, or the least of its kind that a change added
-abbrev pub file_meant : Journal → Kind → Target → Option FileName
+abbrev pub file_meant : Journal → Kind → MeantFile → Option FileName
 file_meant j kind (Named id) = Some (record { kind = kind; id = id })
 file_meant j kind (AddedBy n) = added_in j n kind

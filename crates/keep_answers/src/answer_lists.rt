@@ -11,11 +11,11 @@ use crate::output::put_line;
 use keep_hooks::ArmedWatch;
 use keep_journal::{History, Notice};
 use keep_lines::{
-    Counts, EventLine, FileLine, Found, FoundCount, RestoredCounts, RestoredFile, TotalLine,
+    Counts, EventLine, FileLine, FindingLine, FoundCount, RestoredCounts, RestoredFile, TotalLine,
     print_hex,
 };
 use keep_names::{FileName, Kind};
-use keep_read::{Finding, Restored};
+use keep_read::{Finding, RestoredFiles};
 use keep_repo::Repo;
 use std::alloc::Global;
 use std::io::Write;
@@ -143,7 +143,7 @@ fn write_total<W: Write>(alloc: Global, watch: &ArmedWatch, writer: &mut W) -> R
 /// Writes what a restore gives: each file by path, and then the counts.
 pub(crate) fn write_restored<W: Write>(
     alloc: Global,
-    restored: &Restored,
+    restored: &RestoredFiles,
     writer: &mut W,
 ) -> Result<(), Halt>
     ensures puts { Puts (W.contents writer.old) (W.contents writer.new)
@@ -174,7 +174,11 @@ fn write_restored_file<W: Write>(
     put_line(alloc, &file, writer)
 }
 
-fn write_counts<W: Write>(alloc: Global, restored: &Restored, writer: &mut W) -> Result<(), Halt>
+fn write_counts<W: Write>(
+    alloc: Global,
+    restored: &RestoredFiles,
+    writer: &mut W,
+) -> Result<(), Halt>
     ensures puts { let restored = restored_view restored.now in
         Puts (W.contents writer.old) (W.contents writer.new)
         (texts.restored_last (map.len restored.files) restored.skipped) result }
@@ -198,7 +202,7 @@ pub(crate) fn write_findings<W: Write>(
     ensures whole { result ≢ Err Halt.WriteFailed → WritesLines (W.contents writer.old) (W.contents writer.new) }
 {
     for finding in findings {
-        put_line(alloc, &Found(finding), writer)?;
+        put_line(alloc, &FindingLine(finding), writer)?;
     }
     put_line(alloc, &FoundCount(findings.len()), writer)
 }

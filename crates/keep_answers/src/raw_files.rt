@@ -3,18 +3,18 @@ ghost use Rattle.keep_answers.specs.Files.{added_file, added_in, bytes_in, dropp
 
 use keep_change::{Change, Listed, StoredFile};
 use keep_journal::History;
-use keep_lines::Target;
+use keep_lines::MeantFile;
 use keep_names::{FileName, Kind};
 use keep_repo::{Bytes, Repo};
 use std::alloc::{AllocError, Global};
 
 /// The file that the target means.
-pub(crate) fn find(history: &History, kind: Kind, target: Target) -> Option<FileName>
+pub(crate) fn find(history: &History, kind: Kind, target: MeantFile) -> Option<FileName>
     ensures { result ≡ file_meant history.now.journal kind target }
 {
     match target {
-        Target::Named(id) => Some(FileName { kind, id }),
-        Target::AddedBy(n) => added_by(history, n, kind),
+        MeantFile::Named(id) => Some(FileName { kind, id }),
+        MeantFile::AddedBy(n) => added_by(history, n, kind),
     }
 }
 

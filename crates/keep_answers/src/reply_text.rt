@@ -14,7 +14,7 @@ use keep_book::TakenBack;
 use keep_ledger::{Refusal, Told};
 use keep_lines::{Accepted, Armed, Committed, Refused, Sizes, TakenNumbers};
 use keep_plan::PlanError;
-use keep_read::{Finding, RestoreError, Restored};
+use keep_read::{Finding, RestoreError, RestoredFiles};
 use std::alloc::{AllocError, Global};
 use std::io::Write;
 
@@ -123,7 +123,7 @@ pub(crate) fn write_outcome<W: Write>(
 /// Writes the answer to `restore`.
 pub(crate) fn write_restore<W: Write>(
     alloc: Global,
-    outcome: Result<Restored, RestoreError>,
+    outcome: Result<RestoredFiles, RestoreError>,
     writer: &mut W,
 ) -> Result<(), Halt>
     ensures puts { Puts (W.contents writer.old) (W.contents writer.new)

@@ -15,7 +15,7 @@ use crate::session::Session;
 use keep_book::Book;
 use keep_hooks::{Veto, Watch};
 use keep_jobs::Kit;
-use keep_lines::{Command, Mistake, Question, RawFile, Target};
+use keep_lines::{Command, MeantFile, Mistake, Question, RawFile};
 use keep_names::{FileName, Kind};
 use keep_shelf::Shelf;
 
@@ -76,7 +76,7 @@ impl Session {
 }
 
 /// The file that the target means.
-fn file_named<S: Shelf>(book: &Book<S>, kind: Kind, target: Target) -> Result<FileName, Mistake>
+fn file_named<S: Shelf>(book: &Book<S>, kind: Kind, target: MeantFile) -> Result<FileName, Mistake>
     ensures found { IfOk result (λ name. file_meant (ledger_of book.now).events kind target ≡ Some name) }
     ensures none { IfErr result (λ error. (error ≡ NoFile)
         × (file_meant (ledger_of book.now).events kind target ≡ None)) }

@@ -20,7 +20,7 @@ use Rattle.keep_change.specs.declared.change.PackMark.{PackMark}
 use Rattle.keep_plan.proofs.Made.{added_so, settled_made}
 use Rattle.keep_plan.proofs.Ordered.{All-of_map, each_so}
 use Rattle.keep_plan.specs.Refusal.{unless, unread_first}
-use Rattle.keep_plan.specs.Settling.{CanBeMade, is_there, settled}
+use Rattle.keep_plan.specs.Storing.{CanBeMade, is_there, stored_built}
 use Rattle.keep_plan.specs.declared.plan_error.PlanError.{PlanError}
 use Rattle.keep_plan.specs.declared.plan_error.PlanError.TheVariants.{SnapshotThere}
 use Rattle.keep_plan.specs.declared.stored.Stored.{Stored}
@@ -41,7 +41,7 @@ unfolding stored_with
 can_be_stored r named blobs = settled_made r (named ++ names_once blobs) (built r blobs) (built_own r blobs)
 
 stored_below : (id : Id) (r : Repository) (named : List BlobId) (blobs : List BlobData) → AllByRecursion (IsBelow id) (stored_with r named blobs).adds
-unfolding stored_with settled
+unfolding stored_with stored_built
 stored_below id r named blobs = added_so r (IsBelow id) (built r blobs) (built_so (IsBelow id) (pack_below id) (index_below id) (packs_built r blobs))
 
 -- ---- the last change

@@ -14,7 +14,7 @@ use Rattle.keep_archive.specs.declared.folder.Folder.{Folder}
 use Rattle.keep_archive.specs.declared.going.Going.{Going}
 use Rattle.keep_archive.specs.declared.held.HeldBlob.{HeldBlob}
 use Rattle.keep_archive.specs.declared.open_folders.Around.{Around}
-use Rattle.keep_archive.specs.declared.open_folders.Place.{Place}
+use Rattle.keep_archive.specs.declared.open_folders.OpenFolders.{OpenFolders}
 
 -- a folder in which another one is open: that one's name, and the nodes before it
 pub record AroundData : Type 0 where
@@ -53,7 +53,7 @@ folder_view folder = tree_view folder.tree
 abbrev pub around_view : Around → AroundData
 around_view around = record { name = string_bytes around.name; nodes = folder_view around.folder }
 
-abbrev pub place_view : Place → PlaceData
+abbrev pub place_view : OpenFolders → PlaceData
 place_view place = record { around = map around_view place.around.items; nodes = folder_view place.folder }
 
 abbrev pub begun_view : Begun → BegunData

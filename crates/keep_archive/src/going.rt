@@ -1,6 +1,6 @@
 use crate::begun_file::Begun;
 use crate::blobs::Blobs;
-use crate::open_folders::Place;
+use crate::open_folders::OpenFolders;
 use keep_build::Cut;
 use std::alloc::Global;
 
@@ -8,7 +8,7 @@ use std::alloc::Global;
 #[derive(Drop)]
 pub(crate) struct Going {
     pub(crate) alloc: Global,
-    pub(crate) place: Place,
+    pub(crate) place: OpenFolders,
     pub(crate) begun: Begun,
     pub(crate) blobs: Blobs,
 }
@@ -27,7 +27,7 @@ impl Going {
     {
         Going {
             alloc,
-            place: Place::new(alloc),
+            place: OpenFolders::new(alloc),
             begun: Begun::new(alloc, cut),
             blobs: Blobs::new(alloc),
         }

@@ -23,14 +23,14 @@ pub(crate) struct Around {
 
 /// Where nodes are given.
 #[derive(Drop)]
-pub(crate) struct Place {
+pub(crate) struct OpenFolders {
     /// The folders around, from the root on.
     pub(crate) around: Vec<Around>,
     /// The one that is open.
     pub(crate) folder: Folder,
 }
 
-impl Place {
+impl OpenFolders {
     ghost use Rattle.std.specs.Prelude.{[], ◌∷◌, ◌++◌, ◌<◌, IfOk, List, length};
     ghost use Rattle.std.specs.Option.{option_or};
     ghost use Rattle.std.specs.Vec.{vec_len};
@@ -40,10 +40,10 @@ impl Place {
     ghost use Rattle.keep_archive.specs.Steps.{deep_refusal, has_name, name_refusal, opened, root_refusal, with_node};
 
     /// An empty root is open.
-    pub(crate) fn new(alloc: Global) -> Place
+    pub(crate) fn new(alloc: Global) -> OpenFolders
         ensures { place_view result ≡ record { around = []; nodes = [] } }
     {
-        Place {
+        OpenFolders {
             around: Vec::new(alloc),
             folder: Folder::new(alloc),
         }
@@ -64,14 +64,14 @@ impl Place {
     }
 
     /// With an empty folder of this name open.
-    pub(crate) fn open(self, alloc: Global, name: String) -> Result<Place, AllocError>
+    pub(crate) fn open(self, alloc: Global, name: String) -> Result<OpenFolders, AllocError>
         requires named { tree_names.is_name (string_bytes name) ≡ true }
         requires apart { has_name (place_view self).nodes (string_bytes name) ≡ false }
         ensures { IfOk result (λ place. place_view place ≡ opened (string_bytes name) (place_view self)) }
     {
-        let Place { mut around, folder } = self;
+        let OpenFolders { mut around, folder } = self;
         around.push(Around { name, folder })?;
-        Ok(Place {
+        Ok(OpenFolders {
             around,
             folder: Folder::new(alloc),
         })
@@ -88,7 +88,7 @@ impl Place {
     }
 
     /// With the folder closed, whose tree has this id. The root stays open.
-    pub(crate) fn close(self, subtree: Id, others: Carried) -> Result<Place, AllocError>
+    pub(crate) fn close(self, subtree: Id, others: Carried) -> Result<OpenFolders, AllocError>
         requires { 0 < vec_len self.around }
         ensures { IfOk result (λ place. (outer : List AroundData) × (around : AroundData)
             × ((place_view self).around ≡ outer ++ around ∷ [])
@@ -101,24 +101,24 @@ impl Place {
               } ∷ [];
             })) }
     {
-        let Place { mut around, folder } = self;
+        let OpenFolders { mut around, folder } = self;
         let Some(last) = around.pop() else {
-            return Ok(Place { around, folder });
+            return Ok(OpenFolders { around, folder });
         };
         let Around { name, folder } = last;
         let node = node_of(name, kind_of_folder(subtree), others);
         let folder = folder.with(node)?;
-        Ok(Place { around, folder })
+        Ok(OpenFolders { around, folder })
     }
 
     /// With one more node.
-    pub(crate) fn add(self, node: Node) -> Result<Place, AllocError>
+    pub(crate) fn add(self, node: Node) -> Result<OpenFolders, AllocError>
         requires stands { ∥ IsNode (node_view node) ∥₁ }
         requires apart { has_name (place_view self).nodes (string_bytes node.name) ≡ false }
         ensures { IfOk result (λ place. place_view place ≡ with_node (node_view node) (place_view self)) }
     {
-        let Place { around, folder } = self;
+        let OpenFolders { around, folder } = self;
         let folder = folder.with(node)?;
-        Ok(Place { around, folder })
+        Ok(OpenFolders { around, folder })
     }
 }

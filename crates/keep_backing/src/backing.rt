@@ -12,7 +12,7 @@ use keep_plan::PlanError;
 use keep_progress::{CountedSource, Meter};
 use keep_run::{Failure, Left, Run, left_value, patterns_of, refused, require_told, tell_left};
 use keep_shelf::Shelf;
-use keep_sources::{Job, Known, Why};
+use keep_sources::{Known, Scope, Why};
 use keep_tables::utc_time;
 use keep_words::Backup;
 use serde_json::json;
@@ -121,14 +121,14 @@ fn job_of(
     words: &Backup<'_>,
     places: &[String],
     known: BTreeMap<String, Known>,
-) -> Result<Job, Failure> {
+) -> Result<Scope, Failure> {
     let mut paths = Vec::new(run.alloc);
     for place in places {
         let path = place.as_str();
         let path = path.strip_prefix('/').unwrap_or(path);
         paths.push(String::from_str(run.alloc, path)?)?;
     }
-    Ok(Job {
+    Ok(Scope {
         paths,
         excludes: patterns_of(run, words.exclude.as_slice())?,
         known,

@@ -2,7 +2,7 @@ use keep_backup::BackupFacts;
 use keep_backups::known_of;
 use keep_book::Book;
 use keep_catalog::ReachError;
-use keep_named::{SnapshotRow, snapshots_of};
+use keep_named::{ListedSnapshot, snapshots_of};
 use keep_names::Id;
 use keep_read::RestoreError;
 use keep_run::{Failure, Run};
@@ -31,7 +31,7 @@ pub(crate) fn unchanged<S: Shelf>(
     }
 }
 
-fn last_of(rows: &[SnapshotRow<'_>], facts: &BackupFacts) -> Option<Id> {
+fn last_of(rows: &[ListedSnapshot<'_>], facts: &BackupFacts) -> Option<Id> {
     let mut last = None;
     for row in rows {
         if is_of(row.snap, facts) {

@@ -23,7 +23,7 @@ use Rattle.keep_change.specs.declared.change.PackMark.{PackMark}
 use Rattle.keep_plan.proofs.Made.{settled_made}
 use Rattle.keep_plan.proofs.Ordered.{All-of_map, each_so}
 use Rattle.keep_plan.specs.Refusal.{unless, unread_first}
-use Rattle.keep_plan.specs.Settling.{CanBeMade, is_there}
+use Rattle.keep_plan.specs.Storing.{CanBeMade, is_there}
 use Rattle.keep_plan.specs.declared.plan_error.PlanError.{PlanError}
 use Rattle.keep_plan.specs.declared.plan_error.PlanError.TheVariants.{SnapshotThere}
 use Rattle.keep_plan.specs.declared.stored.Stored.{Stored}

@@ -22,7 +22,7 @@ use Rattle.keep_backup.specs.Folders.{root_folder}
 use Rattle.keep_backup.specs.Paths.{FileData, by_path, files_in_order, is_too_deep, path_of}
 use Rattle.keep_plan.specs.Refusal.{of_catalog}
 use Rattle.keep_plan.specs.Refusal.{unless, unread_first}
-use Rattle.keep_plan.specs.Settling.{is_there}
+use Rattle.keep_plan.specs.Storing.{is_there}
 use Rattle.keep_build.specs.Stored.{stored_of}
 use Rattle.keep_backup.specs.Walk.{blobs_of, walk_refusal, root_tree}
 use Rattle.keep_plan.specs.declared.plan_error.PlanError.{PlanError}

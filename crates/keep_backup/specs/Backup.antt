@@ -11,7 +11,7 @@ use Rattle.keep_snap.specs.Snap.{SnapData}
 use Rattle.keep_snap.specs.Time.{time_in}
 use Rattle.keep_snap.specs.Written.{snap_data}
 use Rattle.keep_plan.specs.Refusal.{unless, unread_first}
-use Rattle.keep_plan.specs.Settling.{is_there}
+use Rattle.keep_plan.specs.Storing.{is_there}
 use Rattle.keep_plan.specs.declared.plan_error.PlanError.{PlanError}
 use Rattle.keep_plan.specs.declared.plan_error.PlanError.TheVariants.{BadTime, SnapshotThere}
 use Rattle.keep_plan.specs.declared.stored.Stored.{Stored}

@@ -16,7 +16,7 @@ use Rattle.keep_quoted.specs.Quote.{quoted}
 use Rattle.keep_sources.proofs.GivenAll.{gives-split}
 use Rattle.keep_sources.specs.Given.{GivesAll, ClosedFolder, DroppedFile, EndedFile, GotOther, GotSame, OpenedFolder, Wrote}
 use Rattle.keep_sources.specs.Met.{Leaf, Excluded, Missed, Other, Same, Whole, Broken, Met, End, Then, Inside, given_of, given_of_leaf, sized, total}
-use Rattle.keep_sources.specs.declared.stat.Sight.{Sight}
+use Rattle.keep_sources.specs.declared.stat.Stat.{Stat}
 use Rattle.keep_tree.specs.Tree.{KindData, NodeData, dir, file, other}
 use Rattle.keep_backups.specs.Sighted.{sighted, type_name_of}
 use Rattle.keep_backups.specs.Taken.{Gives, TakenData}
@@ -56,7 +56,7 @@ module _ (cut : ℕ) where
       add_none before after (ap (λ (t : TakenData). t.place) same) (ap (λ (t : TakenData). t.begun) same ∙ waits)
       (grows_same before.kept after.kept (ap (λ (t : TakenData). t.kept) (sym same)))
 
-  pub add_one : (name : List ℕ) (kind : KindData) (sight : Sight) (node : NodeData) (before after : TakenData) → node.name ≡ quoted name
+  pub add_one : (name : List ℕ) (kind : KindData) (sight : Stat) (node : NodeData) (before after : TakenData) → node.name ≡ quoted name
       → node.kind ≡ kind → IsCarried (sighted sight) node.others → All (Contains after.kept) (named_in kind)
       → after.place ≡ with_node node before.place → after.begun ≡ idle cut → Grows before.kept after.kept
       → Adds cut (λ kept. IsOne kept name kind sight) before after
@@ -83,7 +83,7 @@ module _ (cut : ℕ) where
       ∙ (λ i. record { around = before.place.around; nodes = (append_assoc before.place.nodes a.nodes b.nodes) i })
 
   module _ (pos : 0 < cut) where
-    pub file_ends : (name bytes : List ℕ) (sight : Sight) (before between after : TakenData) → HasWritten cut bytes before between
+    pub file_ends : (name bytes : List ℕ) (sight : Stat) (before between after : TakenData) → HasWritten cut bytes before between
         → Gives between (EndedFile name sight) after
         → Adds cut (λ kept. IsOne kept name (file (map id_of (pieces_of cut bytes))) sight) before after
     file_ends name bytes sight before between after h g =
@@ -117,7 +117,7 @@ module _ (cut : ℕ) where
         (ap (λ (t : TakenData). t.begun) g.is ∙ ap (λ (a : ArchiveData). a.begun) g.does ∙ ap ended from ∙ ended_idle cut pos bytes before between h)
         (λ blob is. step_same between DroppedFile after g (ap (λ (a : ArchiveData). a.blobs) g.does) blob (h.grows blob is))
 
-    pub same_given : (name : List ℕ) (content : List Id) (sight : Sight) (before after : TakenData) → before.begun ≡ idle cut
+    pub same_given : (name : List ℕ) (content : List Id) (sight : Stat) (before after : TakenData) → before.begun ≡ idle cut
         → Gives before (GotSame name content sight) after → Adds cut (λ kept. IsOne kept name (file content) sight) before after
     same_given name content sight before after waits g =
         let node : NodeData = record { name = quoted name; kind = file content; others = g.does.0 } in
@@ -128,7 +128,7 @@ module _ (cut : ℕ) where
         (ap (λ (t : TakenData). t.begun) g.is ∙ ap (λ (a : ArchiveData). a.begun) g.does.2 ∙ ap (λ (t : TakenData). t.begun) (sym g.was) ∙ waits)
         (step_names before (GotSame name content sight) after g content names)
 
-    pub other_given : (name : List ℕ) (sight : Sight) (before after : TakenData) → before.begun ≡ idle cut
+    pub other_given : (name : List ℕ) (sight : Stat) (before after : TakenData) → before.begun ≡ idle cut
         → Gives before (GotOther name sight) after → Adds cut (λ kept. IsOne kept name (other (type_name_of sight.kind)) sight) before after
     other_given name sight before after waits g =
         let node : NodeData = record { name = quoted name; kind = other (type_name_of sight.kind); others = g.does.0 } in
@@ -160,7 +160,7 @@ module _ (cut : ℕ) where
         subst (Adds cut (OfLeaf name (Broken sight pieces why)) before) (sym parts.2.2)
         (file_dropped (flat_map (λ (p : List ℕ). p) pieces) before parts.0 parts.2.0 h parts.2.1)
 
-    pub folder_given : (name : List ℕ) (sight : Sight) (Are : List BlobId → List NodeData → Type 0) (before entered full after : TakenData)
+    pub folder_given : (name : List ℕ) (sight : Stat) (Are : List BlobId → List NodeData → Type 0) (before entered full after : TakenData)
         → Gives before (OpenedFolder name) entered → (a : Adds cut Are entered full) → Gives full (ClosedFolder sight) after
         → Adds cut (λ kept. IsOne kept name (dir (id_of (tree_blob a.nodes))) sight) before after
     folder_given name sight Are before entered full after opens a closes =
@@ -193,7 +193,7 @@ module _ (cut : ℕ) where
     entered_idle name before entered waits opens =
         ap (λ (t : TakenData). t.begun) opens.is ∙ ap (λ (x : ArchiveData). x.begun) opens.does ∙ ap (λ (t : TakenData). t.begun) (sym opens.was) ∙ waits
 
-    pub leaving_grows : (sight : Sight) (full after : TakenData) → Gives full (ClosedFolder sight) after → Grows full.kept after.kept
+    pub leaving_grows : (sight : Stat) (full after : TakenData) → Gives full (ClosedFolder sight) after → Grows full.kept after.kept
     leaving_grows sight full after closes =
         step_holds full (ClosedFolder sight) after closes (tree_blob closes.old.place.nodes ∷ []) closes.does.2.blobs
 

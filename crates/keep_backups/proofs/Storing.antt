@@ -17,7 +17,7 @@ use Rattle.keep_ledger.specs.LedgerState.{LedgerState}
 use Rattle.keep_ledger.specs.Made.{with_event}
 use Rattle.keep_ledger.specs.declared.reply.Refusal.{Refusal}
 use Rattle.keep_sources.specs.Told.{Told}
-use Rattle.keep_sources.specs.declared.scope.Job.{Job}
+use Rattle.keep_sources.specs.declared.scope.Scope.{Scope}
 use Rattle.keep_backups.specs.Holding.{held_of}
 use Rattle.keep_backups.specs.Parts.{AddsSnapshot, BacksUp, IsLastOn, IsPartOn, StoresParts, none, one_more}
 use Rattle.keep_backups.specs.Taken.{kept_in, taken_in, taken_of}
@@ -64,7 +64,7 @@ is_last None now facts tags planned is seen = cc is
 is_last (Some a) now facts tags planned is seen = (a, refl, record { last = is; seen = seen })
 
 -- the last change follows the parts, and its snapshot has the tree of what was taken
-pub backs_up : (told : Told) (job : Job) (cut : ℕ) (facts : FactsData) (tags : List (List ℕ)) (before stored after : LedgerState) (filled : Filled)
+pub backs_up : (told : Told) (job : Scope) (cut : ℕ) (facts : FactsData) (tags : List (List ℕ)) (before stored after : LedgerState) (filled : Filled)
     (result : Result BackedUp NotBackedUp) → ∥ StoresParts before stored ∥₁
     → IfSome (archive_view filled.archive) (λ archive. IsTreeOf told job cut (kept_in archive.blobs) archive.place.nodes filled.skipped.items)
     → IfOk result (λ _. (archive : ArchiveData) × (archive_view filled.archive ≡ Some archive) × AddsSnapshot stored after archive facts tags)

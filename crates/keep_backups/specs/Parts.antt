@@ -10,7 +10,7 @@ use Rattle.keep_journal.specs.declared.request.Request.TheVariants.{Commit}
 use Rattle.keep_ledger.specs.LedgerState.{LedgerState}
 use Rattle.keep_ledger.specs.Made.{with_event}
 use Rattle.keep_sources.specs.Told.{Told}
-use Rattle.keep_sources.specs.declared.scope.Job.{Job}
+use Rattle.keep_sources.specs.declared.scope.Scope.{Scope}
 use Rattle.keep_sources.specs.declared.skipped.Skipped.{Skipped}
 use Rattle.keep_backups.specs.Taken.{kept_in}
 use Rattle.keep_backups.specs.Trees.{IsTreeOf}
@@ -43,7 +43,7 @@ pub record AddsSnapshot (before after : LedgerState) (archive : ArchiveData) (fa
 -- Parts are committed one after another, and then the change that adds the snapshot. Its tree has just the nodes of what
 -- a walk over the source met, and what isn't among them is named. Each blob that a node names is one that this change
 -- asks for, or stores where it has no place.
-pub record BacksUp (told : Told) (job : Job) (cut : ℕ) (facts : FactsData) (tags : List (List ℕ)) (before after : LedgerState)
+pub record BacksUp (told : Told) (job : Scope) (cut : ℕ) (facts : FactsData) (tags : List (List ℕ)) (before after : LedgerState)
     (skips : List Skipped) : Type 0 where
   pub stored : LedgerState
   pub parts : StoresParts before stored

@@ -3,13 +3,13 @@ use Rattle.std.specs.Prelude.{ℕ, Option, None, Some, List, codes, string_bytes
 use Rattle.keep_members.specs.Members.{MembersData, text_view}
 use Rattle.keep_members.specs.Mode.{go_mode}
 use Rattle.keep_members.specs.Stamp.{StampData, nearest}
-use Rattle.keep_sources.specs.declared.stat.Kind.{Kind}
-use Rattle.keep_sources.specs.declared.stat.Kind.TheVariants.{File, Folder, Link, Fifo, Socket, Device, CharDevice}
+use Rattle.keep_sources.specs.declared.stat.StatKind.{StatKind}
+use Rattle.keep_sources.specs.declared.stat.StatKind.TheVariants.{File, Folder, Link, Fifo, Socket, Device, CharDevice}
 use Rattle.keep_sources.specs.declared.stat.Moment.{Moment}
-use Rattle.keep_sources.specs.declared.stat.Sight.{Sight}
+use Rattle.keep_sources.specs.declared.stat.Stat.{Stat}
 
 -- the word for a kind
-abbrev pub type_name_of : Kind → List ℕ
+abbrev pub type_name_of : StatKind → List ℕ
 type_name_of File = codes "file"
 type_name_of Folder = codes "dir"
 type_name_of (Link target) = codes "symlink"
@@ -23,29 +23,29 @@ abbrev pub stamp_of : Moment → StampData
 stamp_of moment = nearest moment.seconds moment.nanoseconds
 
 -- a size is said of files alone
-abbrev pub size_of : Kind → ℕ → ℕ
+abbrev pub size_of : StatKind → ℕ → ℕ
 size_of File size = size
 size_of _ size = 0
 
 -- how many names lead there is said of what can have several
-abbrev pub links_of : Kind → ℕ → ℕ
+abbrev pub links_of : StatKind → ℕ → ℕ
 links_of Folder links = 0
 links_of Fifo links = 0
 links_of Socket links = 0
 links_of _ links = links
 
 -- the device that it stands for is said of devices alone
-abbrev pub device_of : Kind → ℕ → ℕ
+abbrev pub device_of : StatKind → ℕ → ℕ
 device_of Device number = number
 device_of CharDevice number = number
 device_of _ number = 0
 
 -- where a link leads
-abbrev pub target_of : Kind → Option (List ℕ)
+abbrev pub target_of : StatKind → Option (List ℕ)
 target_of (Link target) = Some (string_bytes target)
 target_of _ = None
 
-abbrev pub sighted : Sight → MembersData
+abbrev pub sighted : Stat → MembersData
 sighted sight = record {
   mode = go_mode sight.mode;
   mtime = stamp_of sight.mtime;

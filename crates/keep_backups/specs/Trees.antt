@@ -10,16 +10,16 @@ use Rattle.keep_sources.specs.Limits.{most_levels}
 use Rattle.keep_sources.specs.Met.{Leaf, Excluded, Missed, Other, Same, Whole, Broken, Met, End, Then, Inside, names_of, sized, skips_of, total, unsaid}
 use Rattle.keep_sources.specs.Told.{Told}
 use Rattle.keep_sources.specs.Took.{IsMet, listed_names, skip_view}
-use Rattle.keep_sources.specs.declared.scope.Job.{Job}
-use Rattle.keep_sources.specs.declared.stat.Sight.{Sight}
+use Rattle.keep_sources.specs.declared.scope.Scope.{Scope}
+use Rattle.keep_sources.specs.declared.stat.Stat.{Stat}
 use Rattle.keep_sources.specs.declared.skipped.Skipped.{Skipped}
 use Rattle.keep_sources.specs.declared.skipped.Why.{Why}
-use Rattle.keep_sources.specs.declared.source.Listing.{Listing}
+use Rattle.keep_sources.specs.declared.source.FolderListing.{FolderListing}
 use Rattle.keep_tree.specs.Tree.{KindData, NodeData, dir, file, other}
 use Rattle.keep_backups.specs.Sighted.{sighted, type_name_of}
 
 -- just one node: of this name, as a tree has it, and of this kind. It says what was seen, and names blobs that are kept.
-pub record IsOne (kept : List BlobId) (name : List ℕ) (kind : KindData) (sight : Sight) (nodes : List NodeData) : Type 0 where
+pub record IsOne (kept : List BlobId) (name : List ℕ) (kind : KindData) (sight : Stat) (nodes : List NodeData) : Type 0 where
   pub node : NodeData
   pub alone : nodes ≡ node ∷ []
   pub named : node.name ≡ quoted name
@@ -50,7 +50,7 @@ AreNodesOf cut kept (Inside name sight unsayable inside rest) nodes =
     × AreNodesOf cut kept inside inner × IsOne kept name (dir (id_of (tree_blob inner))) sight first × AreNodesOf cut kept rest more
 
 -- a listing of the root was met so, these are the nodes of that, and this is named
-pub record IsListed (told : Told) (job : Job) (cut : ℕ) (kept : List BlobId) (listing : Listing) (nodes : List NodeData)
+pub record IsListed (told : Told) (job : Scope) (cut : ℕ) (kept : List BlobId) (listing : FolderListing) (nodes : List NodeData)
     (skips : List Skipped) : Type 0 where
   pub met : Met
   pub is : IsMet told job most_levels [] met
@@ -60,7 +60,7 @@ pub record IsListed (told : Told) (job : Job) (cut : ℕ) (kept : List BlobId) (
 
 -- The nodes are those of all that a walk met below the root of the source, as it told it, and what isn't among them, or
 -- not as it was seen, is named. Each blob that they name is kept. A root that can't be listed is named, and there is no node.
-abbrev pub IsTreeOf : Told → Job → ℕ → List BlobId → List NodeData → List Skipped → Type 0
+abbrev pub IsTreeOf : Told → Scope → ℕ → List BlobId → List NodeData → List Skipped → Type 0
 IsTreeOf told job cut kept nodes skips =
-    ((listing : Listing) × told.listed [] listing × IsListed told job cut kept listing nodes skips)
+    ((listing : FolderListing) × told.listed [] listing × IsListed told job cut kept listing nodes skips)
     ⊎ ((why : Why) × told.lost [] why × (nodes ≡ []) × (map skip_view skips ≡ ([], why) ∷ []))

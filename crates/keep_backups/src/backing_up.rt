@@ -19,14 +19,14 @@ use keep_backup::BackupFacts;
 use keep_book::Book;
 use keep_build::Cut;
 use keep_shelf::Shelf;
-use keep_sources::{Job, Receives, Skipped, Source, Stop, Taking};
+use keep_sources::{Receives, Scope, Skipped, Source, Stop, Taking};
 use std::alloc::{AllocError, Global};
 use std::marker::{Brand, PhantomData};
 
 /// What of a source a backup takes, and how its files are cut.
 #[derive(Drop)]
 pub struct Wish<'a> {
-    pub job: &'a Job,
+    pub job: &'a Scope,
     pub facts: &'a BackupFacts,
     pub tags: &'a [String],
     pub cut: Cut,
@@ -136,7 +136,7 @@ fn fill<B: Begun, K: Keeps, R: Source>(
 fn walk<B: Begun, K: Keeps, R: Source>(
     alloc: Global,
     mut taking: Taking<R, Intake<'_, '_, B, K>>,
-    job: &Job,
+    job: &Scope,
 ) -> Result<Filled, NotBackedUp>
     ensures { IfOk result (λ filled. TookAll R.told Gives job.now
         (taken_of (archive_view (archive_of taking.entry).archive)) (taken_of (archive_view filled.archive))
@@ -151,7 +151,7 @@ fn walk<B: Begun, K: Keeps, R: Source>(
 fn take<A: Receives, R: Source>(
     alloc: Global,
     taking: &mut Taking<R, A>,
-    job: &Job,
+    job: &Scope,
 ) -> Result<Vec<Skipped>, Stop>
     ensures { IfOk result (λ skipped. TookAll R.told A.gives job.now
         (A.seen (archive_of taking.old)) (A.seen (archive_of taking.new)) (skipped_of taking.old) skipped.items) }

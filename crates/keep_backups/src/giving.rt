@@ -6,7 +6,7 @@ use crate::keeps::Keeps;
 use crate::not_backed_up::NotBackedUp;
 use crate::type_name::type_name_of;
 use keep_names::Id;
-use keep_sources::{Receives, Sight, Stop};
+use keep_sources::{Receives, Stat, Stop};
 
 impl<B: Begun, K: Keeps> Receives for Intake<'_, '_, B, K> {
     ghost use Rattle.keep_archive.specs.Archive.{archive_view};
@@ -27,7 +27,7 @@ impl<B: Begun, K: Keeps> Receives for Intake<'_, '_, B, K> {
         self.told(done)
     }
 
-    fn close_folder(&mut self, sight: &Sight) -> Result<(), Stop> {
+    fn close_folder(&mut self, sight: &Stat) -> Result<(), Stop> {
         let others = others_of(self.alloc, sight)?;
         let done = self.archive.close_folder(others);
         self.told(done)
@@ -38,7 +38,7 @@ impl<B: Begun, K: Keeps> Receives for Intake<'_, '_, B, K> {
         self.told(done)
     }
 
-    fn end_file(&mut self, name: &str, sight: &Sight) -> Result<(), Stop> {
+    fn end_file(&mut self, name: &str, sight: &Stat) -> Result<(), Stop> {
         let name = name_of(self.alloc, name)?;
         let others = others_of(self.alloc, sight)?;
         let done = self.archive.end_file(name, others);
@@ -50,14 +50,14 @@ impl<B: Begun, K: Keeps> Receives for Intake<'_, '_, B, K> {
         self.told(done)
     }
 
-    fn same_file(&mut self, name: &str, content: &[Id], sight: &Sight) -> Result<(), Stop> {
+    fn same_file(&mut self, name: &str, content: &[Id], sight: &Stat) -> Result<(), Stop> {
         let name = name_of(self.alloc, name)?;
         let others = others_of(self.alloc, sight)?;
         let done = self.archive.same_file(name, content, others);
         self.told(done)
     }
 
-    fn add_other(&mut self, name: &str, sight: &Sight) -> Result<(), Stop> {
+    fn add_other(&mut self, name: &str, sight: &Stat) -> Result<(), Stop> {
         let name = name_of(self.alloc, name)?;
         let type_name = String::from_str(self.alloc, type_name_of(&sight.kind))?;
         let others = others_of(self.alloc, sight)?;

@@ -15,7 +15,7 @@ use keep_build::Cut;
 use keep_members::carried;
 use keep_plan::PlanError;
 use keep_quoted::quote;
-use keep_sources::{Sight, Skipped, Stop};
+use keep_sources::{Skipped, Stat, Stop};
 use std::alloc::{AllocError, Global};
 
 /// What a walk gives, on its way into an archive over a book.
@@ -104,7 +104,7 @@ pub(crate) fn name_of(alloc: Global, name: &str) -> Result<String, AllocError>
 }
 
 /// What was seen, as a node carries it.
-pub(crate) fn others_of(alloc: Global, sight: &Sight) -> Result<Carried, AllocError>
+pub(crate) fn others_of(alloc: Global, sight: &Stat) -> Result<Carried, AllocError>
     ensures { IfOk result (λ others. IsCarried (sighted sight.now) (carried_view others)) }
 {
     let members = members_of(sight)?;

@@ -6,7 +6,7 @@ ghost use Rattle.keep_read.specs.declared.restore_error.RestoreError.TheVariants
 use crate::known_file::known_file;
 use crate::source_paths::source_path;
 use keep_names::Id;
-use keep_nodes::{Entry, nodes_of};
+use keep_nodes::{PathNode, nodes_of};
 use keep_read::RestoreError;
 use keep_sources::Known;
 use keep_view::View;
@@ -28,7 +28,7 @@ pub fn known_of(
 }
 
 /// Those of these nodes.
-fn known_in(alloc: Global, entries: &[Entry]) -> Result<BTreeMap<String, Known>, AllocError> {
+fn known_in(alloc: Global, entries: &[PathNode]) -> Result<BTreeMap<String, Known>, AllocError> {
     let mut all = BTreeMap::new(alloc);
     for entry in entries {
         add(alloc, entry, &mut all)?;
@@ -37,7 +37,11 @@ fn known_in(alloc: Global, entries: &[Entry]) -> Result<BTreeMap<String, Known>,
 }
 
 /// Adds a node, if it is a file of which enough is known.
-fn add(alloc: Global, entry: &Entry, all: &mut BTreeMap<String, Known>) -> Result<(), AllocError> {
+fn add(
+    alloc: Global,
+    entry: &PathNode,
+    all: &mut BTreeMap<String, Known>,
+) -> Result<(), AllocError> {
     let Some(known) = known_file(alloc, &entry.node)? else {
         return Ok(());
     };

@@ -3,11 +3,11 @@ ghost use Rattle.keep_members.specs.Members.{members_data, stamp_view, text_view
 ghost use Rattle.keep_backups.specs.Sighted as spec;
 
 use keep_members::{Members, Stamp, go_mode};
-use keep_sources::{Kind, Moment, Sight};
+use keep_sources::{Moment, Stat, StatKind};
 use std::alloc::AllocError;
 
 /// What its node says beside its name and what it is. A number that doesn't matter for its kind is 0.
-pub fn members_of(sight: &Sight) -> Result<Members, AllocError>
+pub fn members_of(sight: &Stat) -> Result<Members, AllocError>
     ensures { IfOk result (λ members. members_data members ≡ spec.sighted sight.now) }
 {
     let user = text_copy(&sight.user)?;
@@ -37,38 +37,38 @@ fn stamp(moment: Moment) -> Stamp
     Stamp::nearest(moment.seconds, moment.nanoseconds)
 }
 
-fn size_of(kind: &Kind, size: u64) -> u64
+fn size_of(kind: &StatKind, size: u64) -> u64
     ensures { result ≡ spec.size_of kind.now size }
 {
     match kind {
-        Kind::File => size,
+        StatKind::File => size,
         _ => 0,
     }
 }
 
-fn links_of(kind: &Kind, links: u64) -> u64
+fn links_of(kind: &StatKind, links: u64) -> u64
     ensures { result ≡ spec.links_of kind.now links }
 {
     match kind {
-        Kind::Folder | Kind::Fifo | Kind::Socket => 0,
+        StatKind::Folder | StatKind::Fifo | StatKind::Socket => 0,
         _ => links,
     }
 }
 
-fn device_of(kind: &Kind, stands_for: u64) -> u64
+fn device_of(kind: &StatKind, stands_for: u64) -> u64
     ensures { result ≡ spec.device_of kind.now stands_for }
 {
     match kind {
-        Kind::Device | Kind::CharDevice => stands_for,
+        StatKind::Device | StatKind::CharDevice => stands_for,
         _ => 0,
     }
 }
 
-fn target_copy(kind: &Kind) -> Result<Option<String>, AllocError>
+fn target_copy(kind: &StatKind) -> Result<Option<String>, AllocError>
     ensures { IfOk result (λ target. text_view target ≡ spec.target_of kind.now) }
 {
     match kind {
-        Kind::Link(target) => Ok(Some(target.clone()?)),
+        StatKind::Link(target) => Ok(Some(target.clone()?)),
         _ => Ok(None),
     }
 }

@@ -25,15 +25,15 @@ abbrev pub bench_change : List ℕ → Result Change PlanError
 bench_change bytes = backup_change empty_repository bench_facts 1_048_576 (bench_file bytes ∷ [])
 
 -- the id of the last file that the change adds, its snapshot, and how many it adds
-abbrev pub told_of : Change → BackedUp
-told_of c = record {
+abbrev pub change_summary : Change → BackedUp
+change_summary c = record {
   snapshot = option_map_or (λ file. file.name.id) (slice_get c.adds (length c.adds - 1)) (record { 0 = [] });
   adds = length c.adds;
 }
 
 -- what is told of a planned change, else its refusal
 abbrev pub backed_up_with : Result Change PlanError → Result BackedUp PlanError
-backed_up_with (Ok change) = Ok (told_of change)
+backed_up_with (Ok change) = Ok (change_summary change)
 backed_up_with (Err refusal) = Err refusal
 
 -- what is told of the backup of these bytes, or why there is none

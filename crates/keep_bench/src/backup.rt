@@ -35,7 +35,7 @@ pub(crate) fn back_up(alloc: Global, bytes: Vec<u8>) -> Result<BackedUp, PlanErr
     let files = files_of(alloc, bytes)?;
     let facts = facts(alloc)?;
     let plan = plan_alone(alloc, &files, &facts)?;
-    Ok(told_of(&plan.change))
+    Ok(change_summary(&plan.change))
 }
 
 /// Plans the backup of these files into an empty repository.
@@ -54,9 +54,9 @@ fn plan_alone(
 }
 
 /// What is told of a change that adds files, the snapshot last.
-fn told_of(change: &Change) -> BackedUp
+fn change_summary(change: &Change) -> BackedUp
     requires { 0 < length change.now.adds }
-    ensures { result ≡ spec.told_of change.now }
+    ensures { result ≡ spec.change_summary change.now }
 {
     let adds = change.adds.as_slice();
     BackedUp {

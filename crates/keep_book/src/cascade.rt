@@ -18,7 +18,7 @@ impl<S: Shelf> Book<S> {
     ///
     /// `Unknown`, `Final`, `NotInForce`, as an undo of n is refused, or `Memory`. No call of the shelf is made, whether
     /// moves are due or not.
-    pub fn taken(&self, n: u64) -> Result<Vec<u64>, Refusal>
+    pub fn taken_with(&self, n: u64) -> Result<Vec<u64>, Refusal>
         ensures taken { let events = (ledger_of self.now).events in
             RefusesOrGives (taken_refusal events n) (λ numbers. AreTaken events n numbers.items) result }
         ensures open { let b = ledger_of self.now in IsOpen b.opening b.events b.live }
@@ -42,7 +42,7 @@ impl<S: Shelf> Book<S> {
         requires { HasSums self.old }
         ensures { Cascades self.old n result self.new }
     {
-        let numbers = match self.taken(n) {
+        let numbers = match self.taken_with(n) {
             Ok(numbers) => numbers,
             Err(refusal) => return TakenBack::refused(self.alloc, refusal),
         };

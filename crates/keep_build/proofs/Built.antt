@@ -11,7 +11,7 @@ use Rattle.keep_repo.specs.Repository.{Repository}
 use Rattle.keep_change.specs.Form.{AreNamedByBytes}
 use Rattle.keep_change.specs.NamedBytes.{NamedBytes}
 use Rattle.keep_plan.proofs.Made.{added_so}
-use Rattle.keep_plan.specs.Settling.{settled}
+use Rattle.keep_plan.specs.Storing.{stored_built}
 use Rattle.keep_build.specs.Blobs.{BlobData}
 use Rattle.keep_build.specs.Stored.{built, index_file, pack_file, packs_and_index, packs_built, stored_of}
 
@@ -52,5 +52,5 @@ index_below id packs = refl
 
 -- what all built files are, those that are added are
 pub adds_so : (r : Repository) (P : NamedBytes → Type 0) (blobs : List BlobData) → AllByRecursion P (built r blobs) → AllByRecursion P (stored_of r blobs).adds
-unfolding stored_of settled
+unfolding stored_of stored_built
 adds_so r P blobs all = added_so r P (built r blobs) all

@@ -10,7 +10,7 @@ use Rattle.keep_index.specs.Index.{PackData}
 use Rattle.keep_index.specs.Writing.{index_text}
 use Rattle.keep_change.specs.NamedBytes.{NamedBytes, file_of}
 use Rattle.keep_plan.specs.Refusal.{unless, unread_first}
-use Rattle.keep_plan.specs.Settling.{settled}
+use Rattle.keep_plan.specs.Storing.{stored_built}
 use Rattle.keep_plan.specs.declared.plan_error.PlanError.{PlanError}
 use Rattle.keep_plan.specs.declared.plan_error.PlanError.TheVariants.{Full}
 use Rattle.keep_plan.specs.declared.stored.Stored.{Stored}
@@ -49,11 +49,11 @@ built r blobs = packs_and_index (packs_built r blobs)
 
 -- what becomes of the files that are built, where the blobs that have a place are used there
 unfoldable pub stored_of : Repository → List BlobData → Stored
-stored_of r blobs = settled r (names_once blobs) (built r blobs)
+stored_of r blobs = stored_built r (names_once blobs) (built r blobs)
 
 -- the same, where these named blobs are used where they are besides
 unfoldable pub stored_with : Repository → List BlobId → List BlobData → Stored
-stored_with r named blobs = settled r (named ++ names_once blobs) (built r blobs)
+stored_with r named blobs = stored_built r (named ++ names_once blobs) (built r blobs)
 
 -- what is stored, where each blob is short enough
 abbrev pub stored_short : Repository → List BlobData → Result Stored PlanError

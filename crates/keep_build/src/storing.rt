@@ -11,7 +11,7 @@ ghost use Rattle.keep_build.specs.Storing.{AreKept, Keeps, text_bytes};
 use crate::packs::built_files;
 use keep_catalog::Catalog;
 use keep_names::{BlobId, BlobType, Id, id_of};
-use keep_plan::{PlanError, Reuses, Stored, settle};
+use keep_plan::{PlanError, Reuses, Stored, store_built};
 use keep_repo::Repo;
 use std::alloc::{AllocError, Global};
 use std::borrow::CowSlice;
@@ -100,7 +100,7 @@ impl<'a> Storing<'a> {
             ..
         } = self;
         let files = built_files(alloc, &pieces, &trees)?;
-        settle(alloc, repo, files, reuses)
+        store_built(alloc, repo, files, reuses)
     }
 
     /// Offers one more blob, whose name is known and isn't made again.

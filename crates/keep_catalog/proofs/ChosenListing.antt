@@ -11,11 +11,11 @@ use Rattle.keep_names.specs.Orders.{id_cmp}
 use Rattle.keep_names.specs.declared.blob.BlobId.{BlobId}
 use Rattle.keep_names.specs.declared.id.Id.{Id}
 use Rattle.keep_repo.specs.Repository.{Repository}
-use Rattle.keep_catalog.specs.Chosen.{IsChosen, IsListed, IsOpenPlace, IsStored}
+use Rattle.keep_catalog.specs.Chosen.{IsChosen, IsListed, IsUsablePlace, IsStored}
 use Rattle.keep_catalog.specs.Kept.{lists_in}
 use Rattle.keep_catalog.specs.Naming.{missing}
 use Rattle.keep_catalog.specs.Orders.{IsLessSpot, listing_cmp, spot_cmp}
-use Rattle.keep_catalog.specs.Places.{at, chosen_listing, is_honest, is_open, is_stored, is_unmarked}
+use Rattle.keep_catalog.specs.Places.{at, chosen_listing, is_honest, is_usable, is_stored, is_unmarked}
 use Rattle.keep_catalog.specs.declared.reach_error.ReachError.TheVariants.{MissingBlob, WrongHash}
 use Rattle.keep_catalog.specs.declared.spot.Listing.{Listing}
 use Rattle.keep_catalog.specs.declared.spot.Spot.{Spot}
@@ -136,7 +136,7 @@ module _ (r : Repository) (blob : BlobId) where
   -- ---- the listings that are kept of it
 
   abbrev usable : Listing → Bool
-  usable l = is_stored r (at blob l.spot) && is_open r blob l.spot
+  usable l = is_stored r (at blob l.spot) && is_usable r blob l.spot
 
   abbrev pair : Listing → Pair
   pair l = (l.spot, l.index)
@@ -148,14 +148,14 @@ module _ (r : Repository) (blob : BlobId) where
     listing_of : (spot : Spot) (index : Id) → IsListed r blob spot index → list_any (is_at (listing_cmp (record { spot = spot; index = index }))) listings ≡ true
     listing_of spot index h = kept (record { spot = spot; index = index }) ∙ h
 
-    passes : (spot : Spot) (index : Id) → IsOpenPlace r blob spot index → usable (record { spot = spot; index = index }) ≡ true
+    passes : (spot : Spot) (index : Id) → IsUsablePlace r blob spot index → usable (record { spot = spot; index = index }) ≡ true
     passes spot index place =
-        ap (λ b. b && is_open r blob spot) place.stored
+        ap (λ b. b && is_usable r blob spot) place.stored
         ∙ ap (λ b. b && is_honest r blob spot) place.unmarked ∙ place.honest
 
-    open_place : (l : Listing) → list_any (is_at (listing_cmp l)) listings ≡ true → usable l ≡ true → IsOpenPlace r blob l.spot l.index
+    open_place : (l : Listing) → list_any (is_at (listing_cmp l)) listings ≡ true → usable l ≡ true → IsUsablePlace r blob l.spot l.index
     open_place l h fits =
-        let both = both_true (is_stored r (at blob l.spot)) (is_open r blob l.spot) fits in
+        let both = both_true (is_stored r (at blob l.spot)) (is_usable r blob l.spot) fits in
         let parts = both_true (is_unmarked r l.spot.pack) (is_honest r blob l.spot) both.1 in
         record { listed = listed l h; stored = both.0; honest = parts.1; unmarked = parts.0 }
 

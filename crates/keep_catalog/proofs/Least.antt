@@ -10,9 +10,9 @@ use Rattle.std.proofs.lemmas.Map.Views.{tells_apart}
 use Rattle.keep_names.specs.declared.blob.BlobId.{BlobId}
 use Rattle.keep_names.specs.declared.id.Id.{Id}
 use Rattle.keep_repo.specs.Repository.{Repository}
-use Rattle.keep_catalog.specs.Chosen.{IsChosen, IsOpenPlace}
+use Rattle.keep_catalog.specs.Chosen.{IsChosen, IsUsablePlace}
 use Rattle.keep_catalog.specs.Orders.{spot_cmp}
-use Rattle.keep_catalog.specs.Places.{chosen_listing, is_honest, is_open, is_unmarked, spots_of}
+use Rattle.keep_catalog.specs.Places.{chosen_listing, is_honest, is_usable, is_unmarked, spots_of}
 use Rattle.keep_catalog.specs.declared.spot.Spot.{Spot}
 use Rattle.keep_repo.proofs.Rising.{first_of_both, less, second_of_both}
 use Rattle.keep_catalog.proofs.SpotOrders.{spot_exact, spot_less, spot_total}
@@ -93,20 +93,20 @@ module _ (p : Spot × Id → Bool) where
         (ap (λ b. cond b (Some x.1) (finite.find spot_cmp e.0 es)) other ∙ found.0, found.1)
 
 abbrev open_at : Repository → BlobId → Spot × Id → Bool
-open_at r blob e = is_open r blob e.0
+open_at r blob e = is_usable r blob e.0
 
 -- a spot that is kept and open, and the first of those
-abbrev IsOpenSpot : Repository → BlobId → Spot → Id → Type 0
-IsOpenSpot r blob spot index =
-    (finite.get (spots_of r blob) spot ≡ Some index) × (is_open r blob spot ≡ true)
+abbrev IsUsableSpot : Repository → BlobId → Spot → Id → Type 0
+IsUsableSpot r blob spot index =
+    (finite.get (spots_of r blob) spot ≡ Some index) × (is_usable r blob spot ≡ true)
 
-abbrev IsFirstOpen : Repository → BlobId → Option (Spot × Id) → Type 0
-IsFirstOpen r blob None = (spot : Spot) (index : Id) → ¬ IsOpenSpot r blob spot index
-IsFirstOpen r blob (Some c) =
-    IsOpenSpot r blob c.0 c.1
-    × ((spot : Spot) (index : Id) → IsOpenSpot r blob spot index → spot_cmp spot c.0 ≢ Less)
+abbrev IsFirstUsable : Repository → BlobId → Option (Spot × Id) → Type 0
+IsFirstUsable r blob None = (spot : Spot) (index : Id) → ¬ IsUsableSpot r blob spot index
+IsFirstUsable r blob (Some c) =
+    IsUsableSpot r blob c.0 c.1
+    × ((spot : Spot) (index : Id) → IsUsableSpot r blob spot index → spot_cmp spot c.0 ≢ Less)
 
-first_chosen : (r : Repository) (blob : BlobId) → IsFirstOpen r blob (chosen_listing r blob)
+first_chosen : (r : Repository) (blob : BlobId) → IsFirstUsable r blob (chosen_listing r blob)
 unfolding chosen_listing
 first_chosen r blob = cases (find (open_at r blob) es) refl where
   es : Entries
@@ -118,7 +118,7 @@ first_chosen r blob = cases (find (open_at r blob) es) refl where
   listed : (q : Spot) (w : Id) → finite.get (spots_of r blob) q ≡ Some w → finite.find spot_cmp q es ≡ Some w
   listed q w h = sym (finite.get-entries (spots_of r blob) q) ∙ h
 
-  cases : (o : Option (Spot × Id)) → find (open_at r blob) es ≡ o → IsFirstOpen r blob o
+  cases : (o : Option (Spot × Id)) → find (open_at r blob) es ≡ o → IsFirstUsable r blob o
   cases None none = λ q w at_spot.
       let found = picks (open_at r blob) es q w sorted (listed q w at_spot.0) at_spot.1 in
       cc (none, found.1)
@@ -144,7 +144,7 @@ some_index (Some x) h = (x, refl)
 
 module _ (r : Repository) (blob : BlobId) where
   -- an open spot is an open place
-  open_place : (spot : Spot) (index : Id) → IsOpenSpot r blob spot index → IsOpenPlace r blob spot index
+  open_place : (spot : Spot) (index : Id) → IsUsableSpot r blob spot index → IsUsablePlace r blob spot index
   open_place spot index is =
       let parts = both_true (is_unmarked r spot.pack) (is_honest r blob spot) is.1 in
       record {
@@ -155,12 +155,12 @@ module _ (r : Repository) (blob : BlobId) where
       }
 
   -- an open place is an open spot, by the index that is kept
-  open_spot : (spot : Spot) (index : Id) → IsOpenPlace r blob spot index → (kept : Id) × IsOpenSpot r blob spot kept
+  open_spot : (spot : Spot) (index : Id) → IsUsablePlace r blob spot index → (kept : Id) × IsUsableSpot r blob spot kept
   open_spot spot index place =
       let kept = some_index (finite.get (spots_of r blob) spot) (spot_kept r blob spot index place.listed place.stored) in
       (kept.0, (kept.1, ap (λ b. b && is_honest r blob spot) place.unmarked ∙ place.honest))
 
-  by_places : (o : Option (Spot × Id)) → IsFirstOpen r blob o → IsChosen r blob o
+  by_places : (o : Option (Spot × Id)) → IsFirstUsable r blob o → IsChosen r blob o
   by_places None none = λ spot index place. let kept = open_spot spot index place in none spot kept.0 kept.1
   by_places (Some c) first = record {
     place = open_place c.0 c.1 first.0;

@@ -23,7 +23,7 @@ IsLeastIndex r blob spot index = (other : Id) → IsListed r blob spot other →
 
 -- this index lists the blob at the spot, the header of its pack has it there, the bytes there have its id,
 -- and the pack has no mark
-pub record IsOpenPlace (r : Repository) (blob : BlobId) (spot : Spot) (index : Id) : Type 0 where
+pub record IsUsablePlace (r : Repository) (blob : BlobId) (spot : Spot) (index : Id) : Type 0 where
   pub listed : IsListed r blob spot index
   pub stored : IsStored r blob spot
   pub honest : is_honest r blob spot ≡ true
@@ -31,11 +31,11 @@ pub record IsOpenPlace (r : Repository) (blob : BlobId) (spot : Spot) (index : I
 
 -- it is such a place, no lesser spot is one by any index, and the index is the least that lists it there
 pub record IsLeastPlace (r : Repository) (blob : BlobId) (spot : Spot) (index : Id) : Type 0 where
-  pub place : IsOpenPlace r blob spot index
-  pub least_spot : (other : Spot) (by : Id) → IsOpenPlace r blob other by → ¬ IsLessSpot other spot
+  pub place : IsUsablePlace r blob spot index
+  pub least_spot : (other : Spot) (by : Id) → IsUsablePlace r blob other by → ¬ IsLessSpot other spot
   pub least_index : IsLeastIndex r blob spot index
 
 -- the least of the open places; none just where there is none
 abbrev pub IsChosen : Repository → BlobId → Option (Spot × Id) → Type 0
-IsChosen r blob None = (spot : Spot) (index : Id) → ¬ IsOpenPlace r blob spot index
+IsChosen r blob None = (spot : Spot) (index : Id) → ¬ IsUsablePlace r blob spot index
 IsChosen r blob (Some c) = IsLeastPlace r blob c.0 c.1

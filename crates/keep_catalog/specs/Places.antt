@@ -92,13 +92,13 @@ abbrev pub is_unmarked : Repository → Id → Bool
 is_unmarked r pack = is_none (finite.get r.marks pack)
 
 -- whether the spot is honest and its pack has no mark
-abbrev pub is_open : Repository → BlobId → Spot → Bool
-is_open r blob spot = is_unmarked r spot.pack && is_honest r blob spot
+abbrev pub is_usable : Repository → BlobId → Spot → Bool
+is_usable r blob spot = is_unmarked r spot.pack && is_honest r blob spot
 
 -- the chosen spot of the blob: the first open one by pack and offset, with the least-named index that lists
 -- it
 unfoldable pub chosen_listing : Repository → BlobId → Option (Spot × Id)
-chosen_listing r blob = find (λ e. is_open r blob e.0) (finite.entries (spots_of r blob))
+chosen_listing r blob = find (λ e. is_usable r blob e.0) (finite.entries (spots_of r blob))
 
 -- the chosen place
 abbrev pub chosen : Repository → BlobId → Option PackedBlob

@@ -21,7 +21,7 @@ use crate::reach_error::ReachError;
 use crate::spot::{PackedBlob, Spot};
 use crate::tables::{Tables, unread_files};
 use crate::unread::Unread;
-use crate::usable_listings::{first_open, some_honest, some_stored};
+use crate::usable_listings::{first_usable, some_honest, some_stored};
 use keep_names::{BlobId, Id};
 use keep_repo::Repo;
 use keep_snap::Snap;
@@ -179,7 +179,7 @@ impl<'a> Catalog<'a> {
     {
         let tables = self.tables();
         let listings = tables.listed.get(&blob)?;
-        first_open(self.repo, &tables.stored, blob, listings)
+        first_usable(self.repo, &tables.stored, blob, listings)
     }
 
     /// The chosen listing of the blob, and what it names there: a tree the trees and pieces of its nodes, a piece

@@ -16,7 +16,7 @@ use keep_repo::Repo;
 use std::collections::BTreeSet;
 
 /// The first of the listings whose spot the header has and is open.
-pub(crate) fn first_open(
+pub(crate) fn first_usable(
     repo: &Repo,
     stored: &Stored,
     blob: BlobId,
@@ -25,13 +25,13 @@ pub(crate) fn first_open(
     requires stored { IsStoredIn repo.now stored.now }
     requires hashed { IsHashedIn repo.now stored.now }
     ensures first { result ≡ option_map (λ l. (l.spot, l.index))
-        (find (λ l. spec.is_stored repo.now (at blob l.spot) && spec.is_open repo.now blob l.spot)
+        (find (λ l. spec.is_stored repo.now (at blob l.spot) && spec.is_usable repo.now blob l.spot)
         (listings_in listings.now)) }
     ensures ordered { IsStrictlySortedBy listing_cmp (listings_in listings.now) }
 {
     match listings {
         Listings::One(Listing { spot, index }) => {
-            is_open(repo, stored, PackedBlob { blob, spot: *spot }).then_some((*spot, *index))
+            is_usable(repo, stored, PackedBlob { blob, spot: *spot }).then_some((*spot, *index))
         }
         Listings::More(listings) => first_open_among(repo, stored, blob, listings),
     }
@@ -46,12 +46,12 @@ fn first_open_among(
     requires stored { IsStoredIn repo.now stored.now }
     requires hashed { IsHashedIn repo.now stored.now }
     ensures first { result ≡ option_map (λ l. (l.spot, l.index))
-        (find (λ l. spec.is_stored repo.now (at blob l.spot) && spec.is_open repo.now blob l.spot) listings.now.keys) }
+        (find (λ l. spec.is_stored repo.now (at blob l.spot) && spec.is_usable repo.now blob l.spot) listings.now.keys) }
     ensures ordered { IsOrdered listing_cmp listings.now }
 {
     for listing in listings {
         let spot = listing.spot;
-        if is_open(repo, stored, PackedBlob { blob, spot }) {
+        if is_usable(repo, stored, PackedBlob { blob, spot }) {
             return Some((spot, listing.index));
         }
     }
@@ -59,10 +59,10 @@ fn first_open_among(
 }
 
 /// Whether a header has the place, its bytes have the blob's id, and its pack has no mark.
-fn is_open(repo: &Repo, stored: &Stored, place: PackedBlob) -> bool
+fn is_usable(repo: &Repo, stored: &Stored, place: PackedBlob) -> bool
     requires stored { IsStoredIn repo.now stored.now }
     requires hashed { IsHashedIn repo.now stored.now }
-    ensures { result ≡ (spec.is_stored repo.now place && spec.is_open repo.now place.blob place.spot) }
+    ensures { result ≡ (spec.is_stored repo.now place && spec.is_usable repo.now place.blob place.spot) }
 {
     !repo.is_marked(place.spot.pack) && has_bytes(repo, stored, place)
 }

@@ -6,9 +6,9 @@ use Rattle.keep_jobs.specs.Job.{SettingsData}
 use Rattle.keep_operators.specs.Crewed.{IsCrewed}
 use Rattle.keep_operators.specs.declared.order.NoCrew.{NoCrew}
 use Rattle.keep_operators.specs.declared.order.NoCrew.TheVariants as uncrewed
-use Rattle.keep_operators.specs.declared.order.Tally.{Tally}
-use Rattle.keep_script.specs.declared.status.Status.{Status}
-use Rattle.keep_script.specs.declared.status.Status.TheVariants.{Done, ScriptTooLong, Untold, WriteFailed}
+use Rattle.keep_operators.specs.declared.order.CrewTally.{CrewTally}
+use Rattle.keep_script.specs.declared.status.RunStatus.{RunStatus}
+use Rattle.keep_script.specs.declared.status.RunStatus.TheVariants.{Done, ScriptTooLong, Untold, WriteFailed}
 use Rattle.keep_options.specs.Option.{OptionsData}
 use Rattle.keep_command.specs.Ending.{ending_uncrewed}
 use Rattle.keep_command.specs.Following.{Crews, Follows, TellsCrew}
@@ -30,7 +30,7 @@ uncrewed-short : (error : NoCrew) → ending_uncrewed error ≡ Ran ScriptTooLon
 uncrewed-short uncrewed.Memory e = cc e
 uncrewed-short uncrewed.NoPass e = cc e
 
-pub crews-short : (takes : LeftData → Type 0) (answers : Result Tally NoCrew → Type 0) (settings : SettingsData) (time : List ℕ) (size : ℕ) (before : OnShelf) (armed : HooksData) (old new : Option (List ℕ)) (ended : Ending)
+pub crews-short : (takes : LeftData → Type 0) (answers : Result CrewTally NoCrew → Type 0) (settings : SettingsData) (time : List ℕ) (size : ℕ) (before : OnShelf) (armed : HooksData) (old new : Option (List ℕ)) (ended : Ending)
     → Crews takes answers settings time size before armed old new ended → ended ≡ Ran ScriptTooLong → ⊥
 crews-short takes answers settings time size before armed old new ended (inl h) short = go h.told
   where
@@ -41,7 +41,7 @@ crews-short takes answers settings time size before armed old new ended (inl h) 
 crews-short takes answers settings time size before armed old new ended (inr none) short = uncrewed-short none.error (sym none.told ∙ short)
 
 -- a crew that worked by what it was asked for, and was told of
-pub crews-worked : (takes : LeftData → Type 0) (answers : Result Tally NoCrew → Type 0) (asked settings : SettingsData) (at time : List ℕ) (many size : ℕ) (before after : OnShelf) (armed kept : HooksData) (tally : Tally) (old new : Option (List ℕ)) (ended : Ending)
+pub crews-worked : (takes : LeftData → Type 0) (answers : Result CrewTally NoCrew → Type 0) (asked settings : SettingsData) (at time : List ℕ) (many size : ℕ) (before after : OnShelf) (armed kept : HooksData) (tally : CrewTally) (old new : Option (List ℕ)) (ended : Ending)
     → asked ≡ settings → at ≡ time → many ≡ size → kept ≡ armed → answers (Ok tally)
     → IsCrewed armed.vetoes asked at many before.state after.state tally.accepted tally.length → takes (LeftBook after kept)
     → TellsCrew old new size tally ended → Crews takes answers settings time size before armed old new ended
@@ -57,7 +57,7 @@ crews-worked takes answers asked settings at time many size before after armed k
 })
 
 -- a crew that was refused, with the book handed back as it was
-pub crews-uncrewed : (takes : LeftData → Type 0) (answers : Result Tally NoCrew → Type 0) (settings : SettingsData) (time : List ℕ) (size : ℕ) (before handed : OnShelf) (armed kept : HooksData) (old : Option (List ℕ)) (error : NoCrew) (ended : Ending)
+pub crews-uncrewed : (takes : LeftData → Type 0) (answers : Result CrewTally NoCrew → Type 0) (settings : SettingsData) (time : List ℕ) (size : ℕ) (before handed : OnShelf) (armed kept : HooksData) (old : Option (List ℕ)) (error : NoCrew) (ended : Ending)
     → handed ≡ before → kept ≡ armed → answers (Err error) → takes (LeftBook handed kept) → ended ≡ ending_uncrewed error
     → Crews takes answers settings time size before armed old old ended
 crews-uncrewed takes answers settings time size before handed armed kept old error ended same stays answered taken told = inr (record {
@@ -69,7 +69,7 @@ crews-uncrewed takes answers settings time size before handed armed kept old err
 })
 
 -- what follows, said of a book with this ledger, under what is armed
-pub follows-where : (takes : LeftData → Type 0) (answers : Result Tally NoCrew → Type 0) (options : OptionsData) (ledger ledger' : OnShelf) (armed armed' : HooksData) (old new : Option (List ℕ)) (status : Status) (ended : Ending)
+pub follows-where : (takes : LeftData → Type 0) (answers : Result CrewTally NoCrew → Type 0) (options : OptionsData) (ledger ledger' : OnShelf) (armed armed' : HooksData) (old new : Option (List ℕ)) (status : RunStatus) (ended : Ending)
     → ledger ≡ ledger' → armed ≡ armed' → Follows takes answers options ledger armed old new status ended → Follows takes answers options ledger' armed' old new status ended
 follows-where takes answers options ledger ledger' armed armed' old new status ended stands same h =
     subst (λ (hooks : HooksData). Follows takes answers options ledger' hooks old new status ended) same

@@ -6,7 +6,7 @@ use Rattle.keep_disk.specs.declared.folder_error.FolderError.TheVariants as unop
 use Rattle.keep_answers.proofs.KnownLemmas.{WritesLines-none}
 use Rattle.keep_answers.specs.Known.{WritesLines}
 use Rattle.keep_script.specs.Run.{IsUntouched}
-use Rattle.keep_script.specs.declared.status.Status.TheVariants.{ScriptTooLong, NoMemory}
+use Rattle.keep_script.specs.declared.status.RunStatus.TheVariants.{ScriptTooLong, NoMemory}
 use Rattle.keep_command.specs.Ending.{ending_unopened}
 use Rattle.keep_command.specs.Running.{KeepsLines}
 use Rattle.keep_command.specs.declared.ending.Ending.{Ending}

@@ -12,7 +12,7 @@ use Rattle.keep_book.specs.declared.book.Book.{Book}
 use Rattle.keep_jobs.specs.Job.{SettingsData}
 use Rattle.keep_jobs.specs.Kits.{KitData}
 use Rattle.keep_operators.specs.declared.order.NoCrew.{NoCrew}
-use Rattle.keep_operators.specs.declared.order.Tally.{Tally}
+use Rattle.keep_operators.specs.declared.order.CrewTally.{CrewTally}
 use Rattle.keep_answers.proofs.KnownLemmas.{WritesLines-none, WritesLines-trans}
 use Rattle.keep_answers.specs.Known.{Writes, WritesLines}
 use Rattle.keep_answers.specs.State.{State, kit_of}
@@ -22,8 +22,8 @@ use Rattle.keep_script.specs.Left.{IsLeft}
 use Rattle.keep_script.specs.Line.{longest_script}
 use Rattle.keep_script.specs.Run.{Ends, EndsFrom}
 use Rattle.keep_script.specs.Status.{status_unopened}
-use Rattle.keep_script.specs.declared.status.Status.{Status}
-use Rattle.keep_script.specs.declared.status.Status.TheVariants.{Done, ScriptTooLong, WriteFailed}
+use Rattle.keep_script.specs.declared.status.RunStatus.{RunStatus}
+use Rattle.keep_script.specs.declared.status.RunStatus.TheVariants.{Done, ScriptTooLong, WriteFailed}
 use Rattle.keep_options.specs.Option.{OptionsData}
 use Rattle.keep_command.proofs.CrewLemmas.{crews-short, follows-where}
 use Rattle.keep_command.specs.Damage.{IsRefusedSo, TellsDamage}
@@ -34,7 +34,7 @@ use Rattle.keep_command.specs.declared.ending.Ending.{Ending}
 use Rattle.keep_command.specs.declared.ending.Ending.TheVariants.{Ran}
 
 -- a script that was answered so over this book, and what followed
-pub serves-run : {S I F g J E h : _} (takes : LeftData → Type 0) (answers : Result Tally NoCrew → Type 0) (kit left_kit : KitData) (asked : SettingsData) (options : OptionsData) (book left_book : Book S I F g J E h) (known rest old middle new : Option (List ℕ)) (status : Status) (ended : Ending)
+pub serves-run : {S I F g J E h : _} (takes : LeftData → Type 0) (answers : Result CrewTally NoCrew → Type 0) (kit left_kit : KitData) (asked : SettingsData) (options : OptionsData) (book left_book : Book S I F g J E h) (known rest old middle new : Option (List ℕ)) (status : RunStatus) (ended : Ending)
     → asked ≡ settings_of options
     → Writes old middle (λ text. (after : State) × IsLeft after left_book × (left_kit ≡ kit_of after) × Ends (begun_over asked kit book) known rest text status after)
     → Follows takes answers options (on_shelf left_book) (hooks_of left_book) middle new status ended
@@ -48,7 +48,7 @@ serves-run takes answers kit left_kit asked options book left_book known rest ol
 }
 
 -- a script that was answered so over a shelf of which that book was opened, and what followed
-pub serves-opened : {S I F g J E h : _} (takes : LeftData → Type 0) (answers : Result Tally NoCrew → Type 0) (shelf : Shelved) (kit : KitData) (options : OptionsData) (book : Book S I F g J E h) (known rest old new : Option (List ℕ)) (ended : Ending)
+pub serves-opened : {S I F g J E h : _} (takes : LeftData → Type 0) (answers : Result CrewTally NoCrew → Type 0) (shelf : Shelved) (kit : KitData) (options : OptionsData) (book : Book S I F g J E h) (known rest old new : Option (List ℕ)) (ended : Ending)
     → IsOpened shelf (on_shelf book) → hooks_of book ≡ record { vetoes = []; watches = [] }
     → Serves takes answers (Ends (begun_over (settings_of options) kit book) known rest) options old new ended
     → Serves takes answers (EndsFrom shelf (settings_of options) kit known rest) options old new ended
@@ -87,14 +87,14 @@ is-unopened takes shelf left after error ended why given told same unread taken 
   let_go = taken;
 }
 
-ran-same : (x y : Status) → Ran x ≡ Ran y → x ≡ y
+ran-same : (x y : RunStatus) → Ran x ≡ Ran y → x ≡ y
 ran-same x y e = cc e
 
 done-written : Done ≡ WriteFailed → ⊥
 done-written e = cc e
 
 -- a run keeps lines as the program does, with what follows it
-pub keeps-followed : (takes : LeftData → Type 0) (answers : Result Tally NoCrew → Type 0) (options : OptionsData) (ledger : OnShelf) (armed : HooksData) (known old middle new : Option (List ℕ)) (status : Status) (ended : Ending)
+pub keeps-followed : (takes : LeftData → Type 0) (answers : Result CrewTally NoCrew → Type 0) (options : OptionsData) (ledger : OnShelf) (armed : HooksData) (known old middle new : Option (List ℕ)) (status : RunStatus) (ended : Ending)
     → (status ≢ WriteFailed → WritesLines old middle) → (status ≡ ScriptTooLong → IfSome known (λ script. longest_script ≤ length script))
     → Follows takes answers options ledger armed middle new status ended → (ended ≢ Ran WriteFailed → WritesLines middle new) → KeepsLines known old new ended
 keeps-followed takes answers options ledger armed known old middle new status ended whole past (inl (idle, taken, same, e)) next = (

@@ -11,7 +11,7 @@ use Rattle.keep_jobs.specs.Kits.{NamedRule}
 use Rattle.keep_shelf.specs.Shelved.{Shelved}
 use Rattle.keep_disk.specs.declared.folder_error.FolderError.{FolderError}
 use Rattle.keep_operators.specs.declared.order.NoCrew.{NoCrew}
-use Rattle.keep_operators.specs.declared.order.Tally.{Tally}
+use Rattle.keep_operators.specs.declared.order.CrewTally.{CrewTally}
 use Rattle.keep_command.specs.Left.{LeftData}
 use Rattle.keep_options.specs.Option.{OptionsData}
 use Rattle.keep_command.specs.Following.{EndsBy, EndsWith}
@@ -31,7 +31,7 @@ pub are-watches : (first second : List ℕ) (p q : Measure) → first ≡ codes 
 are-watches first second p q events is_events files is_files = rw (events, is_events, files, is_files) refl
 
 -- an end with just the filters of the kit is one by the options
-pub ends-by : {S E : Type 0} (shelved : S → Shelved) (gives : Option (List ℕ) → Result S FolderError → Type 0) (takes : LeftData → Type 0) (answers : Result Tally NoCrew → Type 0) (r : Result Ending E) (options : OptionsData) (filters : List NamedRule) (host tag : String Global) (known left old new : Option (List ℕ))
+pub ends-by : {S E : Type 0} (shelved : S → Shelved) (gives : Option (List ℕ) → Result S FolderError → Type 0) (takes : LeftData → Type 0) (answers : Result CrewTally NoCrew → Type 0) (r : Result Ending E) (options : OptionsData) (filters : List NamedRule) (host tag : String Global) (known left old new : Option (List ℕ))
     → string_bytes host ≡ options.host → string_bytes tag ≡ options.tagged → filters ≡ stored_filters host tag
     → IfOk r (λ ended. EndsWith shelved gives takes answers (stored filters options.drops) options known left old new ended × KeepsLines known old new ended)
     → IfOk r (λ ended. EndsBy shelved gives takes answers options known left old new ended × KeepsLines known old new ended)

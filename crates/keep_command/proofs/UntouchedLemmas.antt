@@ -4,9 +4,9 @@ use Rattle.std.proofs.KnownBytes.{Keeps-refl}
 use Rattle.keep_shelf.specs.Shelved.{Shelved}
 use Rattle.keep_disk.specs.declared.folder_error.FolderError.{FolderError}
 use Rattle.keep_operators.specs.declared.order.NoCrew.{NoCrew}
-use Rattle.keep_operators.specs.declared.order.Tally.{Tally}
+use Rattle.keep_operators.specs.declared.order.CrewTally.{CrewTally}
 use Rattle.keep_script.specs.Run.{IsUntouched}
-use Rattle.keep_script.specs.declared.status.Status.TheVariants.{NoMemory}
+use Rattle.keep_script.specs.declared.status.RunStatus.TheVariants.{NoMemory}
 use Rattle.keep_options.specs.Option.{OptionsData}
 use Rattle.keep_command.specs.Following.{EndsBy}
 use Rattle.keep_command.specs.Left.{LeftData}
@@ -16,7 +16,7 @@ pub nothing-done : (known old : Option (List ℕ)) → IsUntouched known known o
 nothing-done known old = (Keeps-refl known, Keeps-refl old)
 
 -- whatever the options are
-pub without-memory : {S : Type 0} (shelved : S → Shelved) (gives : Option (List ℕ) → Result S FolderError → Type 0) (takes : LeftData → Type 0) (answers : Result Tally NoCrew → Type 0) (found : Option OptionsData) (known left old new : Option (List ℕ))
+pub without-memory : {S : Type 0} (shelved : S → Shelved) (gives : Option (List ℕ) → Result S FolderError → Type 0) (takes : LeftData → Type 0) (answers : Result CrewTally NoCrew → Type 0) (found : Option OptionsData) (known left old new : Option (List ℕ))
     → IsUntouched known left old new → IfSome found (λ options. EndsBy shelved gives takes answers options known left old new (Ran NoMemory))
 without-memory shelved gives takes answers None known left old new same = tt
 without-memory shelved gives takes answers (Some options) known left old new same = inr (refl, same)

@@ -10,7 +10,7 @@ use Rattle.keep_opening.specs.declared.open_error.OpenError.{OpenError}
 use Rattle.keep_opening.specs.declared.open_error.OpenError.TheVariants as unread
 use Rattle.keep_opening.specs.declared.open_error.OpenError.TheVariants.{BadEntry}
 use Rattle.keep_lines.specs.Mistake.{mistake_text}
-use Rattle.keep_script.specs.declared.status.Status.TheVariants.{Done, Faulted, BadLine, ReadFailed, ScriptTooLong, WriteFailed, NoMemory, Untold, NotOpened}
+use Rattle.keep_script.specs.declared.status.RunStatus.TheVariants.{Done, Faulted, BadLine, ReadFailed, ScriptTooLong, WriteFailed, NoMemory, Untold, NotOpened}
 use Rattle.keep_options.specs.Option.{IsBadWord}
 use Rattle.keep_operators.specs.declared.order.NoCrew.{NoCrew}
 use Rattle.keep_operators.specs.declared.order.NoCrew.TheVariants as uncrewed

@@ -19,10 +19,10 @@ use Rattle.keep_answers.specs.Known.{AppendsPart, Writes, line}
 use Rattle.keep_answers.specs.State.{State, ledger_in}
 use Rattle.keep_operators.specs.Crewed.{IsCrewed}
 use Rattle.keep_operators.specs.declared.order.NoCrew.{NoCrew}
-use Rattle.keep_operators.specs.declared.order.Tally.{Tally}
+use Rattle.keep_operators.specs.declared.order.CrewTally.{CrewTally}
 use Rattle.keep_script.specs.Run.{EndsFrom, IsUntouched}
-use Rattle.keep_script.specs.declared.status.Status.{Status}
-use Rattle.keep_script.specs.declared.status.Status.TheVariants.{Done, NoMemory, Untold, WriteFailed}
+use Rattle.keep_script.specs.declared.status.RunStatus.{RunStatus}
+use Rattle.keep_script.specs.declared.status.RunStatus.TheVariants.{Done, NoMemory, Untold, WriteFailed}
 use Rattle.keep_options.specs.Option.{OptionsData}
 use Rattle.keep_command.specs.Damage.{IsRefusedSo}
 use Rattle.keep_command.specs.Ending.{ending_uncrewed, ending_unopened}
@@ -49,22 +49,22 @@ abbrev pub IsHeldBack : (old new : Option (List ℕ)) → (size accepted : ℕ) 
 IsHeldBack old new size accepted ended = (accepted < size) × (new ≡ old) × (ended ≡ ending.Ran Untold)
 
 -- what a crew of this size did is reported, or held back
-abbrev pub TellsCrew : (old new : Option (List ℕ)) → (size : ℕ) → Tally → Ending → Type 0
+abbrev pub TellsCrew : (old new : Option (List ℕ)) → (size : ℕ) → CrewTally → Ending → Type 0
 TellsCrew old new size tally ended =
     Reports old new (report_text size tally.accepted tally.length) ended ⊎ IsHeldBack old new size tally.accepted ended
 
 -- a crew of this size worked over a book with this ledger and left it with another; that is let go, and told of
-pub record CrewReports (takes : LeftData → Type 0) (answers : Result Tally NoCrew → Type 0) (settings : SettingsData)
+pub record CrewReports (takes : LeftData → Type 0) (answers : Result CrewTally NoCrew → Type 0) (settings : SettingsData)
     (time : List ℕ) (size : ℕ) (before : OnShelf) (armed : HooksData) (old new : Option (List ℕ)) (ended : Ending) : Type 0 where
   pub after : OnShelf
-  pub tally : Tally
+  pub tally : CrewTally
   pub answered : answers (Ok tally)
   pub crewed : IsCrewed armed.vetoes settings time size before.state after.state tally.accepted tally.length
   pub let_go : takes (LeftBook after armed)
   pub told : TellsCrew old new size tally ended
 
 -- no operator worked, since the crew was refused: the book is let go as it was, and nothing is written
-pub record IsUncrewed (takes : LeftData → Type 0) (answers : Result Tally NoCrew → Type 0) (before : OnShelf)
+pub record IsUncrewed (takes : LeftData → Type 0) (answers : Result CrewTally NoCrew → Type 0) (before : OnShelf)
     (armed : HooksData) (old new : Option (List ℕ)) (ended : Ending) : Type 0 where
   pub error : NoCrew
   pub answered : answers (Err error)
@@ -73,7 +73,7 @@ pub record IsUncrewed (takes : LeftData → Type 0) (answers : Result Tally NoCr
   pub unwritten : new ≡ old
 
 -- a crew is had work over a book with this ledger, under what is armed
-abbrev pub Crews : (takes : LeftData → Type 0) → (answers : Result Tally NoCrew → Type 0) → SettingsData → (time : List ℕ)
+abbrev pub Crews : (takes : LeftData → Type 0) → (answers : Result CrewTally NoCrew → Type 0) → SettingsData → (time : List ℕ)
     → (size : ℕ) → OnShelf → HooksData → (old new : Option (List ℕ)) → Ending → Type 0
 Crews takes answers settings time size before armed old new ended =
     CrewReports takes answers settings time size before armed old new ended
@@ -82,22 +82,22 @@ Crews takes answers settings time size before armed old new ended =
 -- ---- a script and what follows it
 
 -- a crew is due behind a run that ended so: one is asked for, and the script was answered to its end without a fault
-abbrev pub IsCrewDue : (size : ℕ) → Status → Type 0
+abbrev pub IsCrewDue : (size : ℕ) → RunStatus → Type 0
 IsCrewDue size status = (1 ≤ size) × (status ≡ Done)
 
 -- what follows a run that ended so and left a book with this ledger, under what is armed: the crew that the options ask
 -- for has it, where one is due, and else it is let go
-abbrev pub Follows : (takes : LeftData → Type 0) → (answers : Result Tally NoCrew → Type 0) → OptionsData → OnShelf → HooksData
-    → (old new : Option (List ℕ)) → Status → Ending → Type 0
+abbrev pub Follows : (takes : LeftData → Type 0) → (answers : Result CrewTally NoCrew → Type 0) → OptionsData → OnShelf → HooksData
+    → (old new : Option (List ℕ)) → RunStatus → Ending → Type 0
 Follows takes answers options ledger armed old new status ended =
     ((IsCrewDue options.crew status → ⊥) × takes (LeftBook ledger armed) × (new ≡ old) × (ended ≡ ending.Ran status))
     ⊎ (IsCrewDue options.crew status
     × Crews takes answers (settings_of options) options.time options.crew ledger armed old new ended)
 
 -- a script is answered so, up to a state, and what follows is done with the book as that state has it
-pub record Serves (takes : LeftData → Type 0) (answers : Result Tally NoCrew → Type 0)
-    (answered : List ℕ → Status → State → Type 0) (options : OptionsData) (old new : Option (List ℕ)) (ended : Ending) : Type 0 where
-  pub status : Status
+pub record Serves (takes : LeftData → Type 0) (answers : Result CrewTally NoCrew → Type 0)
+    (answered : List ℕ → RunStatus → State → Type 0) (options : OptionsData) (old new : Option (List ℕ)) (ended : Ending) : Type 0 where
+  pub status : RunStatus
   pub after : State
   -- what is written then
   pub middle : Option (List ℕ)
@@ -120,7 +120,7 @@ pub record IsUnopened (takes : LeftData → Type 0) (shelf : Shelved) (ended : E
 -- ---- the program
 
 -- the script is answered over this shelf by the options with this kit, or nothing is read or written
-abbrev pub EndsOver : (takes : LeftData → Type 0) → (answers : Result Tally NoCrew → Type 0) → Shelved → KitData
+abbrev pub EndsOver : (takes : LeftData → Type 0) → (answers : Result CrewTally NoCrew → Type 0) → Shelved → KitData
     → OptionsData → (known rest old new : Option (List ℕ)) → Ending → Type 0
 EndsOver takes answers shelf kit options known rest old new ended =
     Serves takes answers (EndsFrom shelf (settings_of options) kit known rest) options old new ended
@@ -135,7 +135,7 @@ pub record HasNoShelf {S : Type 0} (gives : Option (List ℕ) → Result S Folde
 
 -- how the program ends by options with this kit: a shelf is had of the folder that they name, and it ends over that
 abbrev pub EndsWith : {S : Type 0} → (shelved : S → Shelved) → (gives : Option (List ℕ) → Result S FolderError → Type 0)
-    → (takes : LeftData → Type 0) → (answers : Result Tally NoCrew → Type 0) → KitData → OptionsData
+    → (takes : LeftData → Type 0) → (answers : Result CrewTally NoCrew → Type 0) → KitData → OptionsData
     → (known rest old new : Option (List ℕ)) → Ending → Type 0
 EndsWith {S} shelved gives takes answers kit options known rest old new ended =
     ((shelf : S) × gives options.folder (Ok shelf)
@@ -144,7 +144,7 @@ EndsWith {S} shelved gives takes answers kit options known rest old new ended =
 
 -- how it ends by options, with the filters, vetoes and watches that are stored for them; there may be no memory for those
 abbrev pub EndsBy : {S : Type 0} → (shelved : S → Shelved) → (gives : Option (List ℕ) → Result S FolderError → Type 0)
-    → (takes : LeftData → Type 0) → (answers : Result Tally NoCrew → Type 0) → OptionsData
+    → (takes : LeftData → Type 0) → (answers : Result CrewTally NoCrew → Type 0) → OptionsData
     → (known rest old new : Option (List ℕ)) → Ending → Type 0
 EndsBy shelved gives takes answers options known rest old new ended =
     ((host tag : String Global) × (string_bytes host ≡ options.host) × (string_bytes tag ≡ options.tagged)

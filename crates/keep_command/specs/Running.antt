@@ -9,7 +9,7 @@ use Rattle.keep_hooks.specs.declared.measure.Measure.TheVariants.{Events, FilesW
 use Rattle.keep_plan.specs.declared.pick.Pick.TheVariants.{Any, Host, Tagged}
 use Rattle.keep_answers.specs.Known.{WritesLines}
 use Rattle.keep_script.specs.Line.{longest_script}
-use Rattle.keep_script.specs.declared.status.Status.TheVariants.{ScriptTooLong, WriteFailed}
+use Rattle.keep_script.specs.declared.status.RunStatus.TheVariants.{ScriptTooLong, WriteFailed}
 use Rattle.keep_options.specs.Option.{OptionsData}
 use Rattle.keep_command.specs.declared.ending.Ending.{Ending}
 use Rattle.keep_command.specs.declared.ending.Ending.TheVariants as ending

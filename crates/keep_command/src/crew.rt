@@ -5,23 +5,23 @@ ghost use Rattle.keep_operators.specs.Crewed.{IsCrewed};
 
 use crate::named_shelf::NamedShelf;
 use keep_book::Book;
-use keep_operators::{NoCrew, Order, Tally};
+use keep_operators::{CrewTally, NoCrew, Order};
 
 /// Has operators work over a book, all at once. The program has them work in threads.
 pub trait Crew {
     ghost use Rattle.std.specs.Prelude.{Result};
     ghost use Rattle.keep_operators.specs.declared.order.NoCrew.{NoCrew};
-    ghost use Rattle.keep_operators.specs.declared.order.Tally.{Tally};
+    ghost use Rattle.keep_operators.specs.declared.order.CrewTally.{CrewTally};
 
     /// Whether this was answered.
-    ghost answers: { Self → Result Tally NoCrew → Type 0 };
+    ghost answers: { Self → Result CrewTally NoCrew → Type 0 };
 
     /// The book comes back: as they left it, or as it was where nobody worked.
     fn work<'s>(
         &self,
         book: Book<NamedShelf<'s>>,
         order: Order<'_>,
-    ) -> (Book<NamedShelf<'s>>, Result<Tally, NoCrew>)
+    ) -> (Book<NamedShelf<'s>>, Result<CrewTally, NoCrew>)
         requires sums { HasSums book }
         requires some { 1 ≤ order.size }
         requires most { order.size ≤ 8 }
@@ -47,7 +47,7 @@ impl Crew for NoOperators {
         &self,
         book: Book<NamedShelf<'s>>,
         _order: Order<'_>,
-    ) -> (Book<NamedShelf<'s>>, Result<Tally, NoCrew>) {
+    ) -> (Book<NamedShelf<'s>>, Result<CrewTally, NoCrew>) {
         (book, Err(NoCrew::NoPass))
     }
 }

@@ -1,13 +1,13 @@
 ghost use Rattle.std.specs.Prelude.{◌≡◌, ◌↔◌, IsTrue, OnOk};
 ghost use Rattle.std.specs.Io.KnownBytes.{Appends};
 ghost use Rattle.keep_command.specs.Ending.{advice_on, code_of, told_text};
-ghost use Rattle.keep_script.specs.declared.status.Status.TheVariants as the_status;
+ghost use Rattle.keep_script.specs.declared.status.RunStatus.TheVariants as the_status;
 
 use keep_folder::FolderError;
 use keep_opening::OpenError;
 use keep_operators::NoCrew;
 use keep_options::BadOptions;
-use keep_script::Status;
+use keep_script::RunStatus;
 use std::alloc::AllocError;
 use std::fmt;
 use std::io::{self, Write};
@@ -35,7 +35,7 @@ pub fn tell<E: Write>(ending: Ending<'_>, errors: &mut E) -> (u8, io::Result<()>
 #[derive(Drop)]
 pub enum Ending<'a> {
     /// The script was run, to this end.
-    Ran(Status),
+    Ran(RunStatus),
     /// The words behind the program's name aren't its options. The bad one is named, but where one
     /// isn't UTF-8 none is.
     BadOptions(Option<&'a str>),
@@ -58,12 +58,12 @@ impl Ending<'_> {
         ensures { result ≡ code_of self.now }
     {
         match self {
-            Ending::Ran(Status::Done) => 0,
-            Ending::Ran(Status::ReadFailed | Status::ScriptTooLong) => 1,
-            Ending::Ran(Status::WriteFailed | Status::NoMemory) => 1,
-            Ending::Ran(Status::Faulted | Status::Untold | Status::NotOpened(_)) => 1,
+            Ending::Ran(RunStatus::Done) => 0,
+            Ending::Ran(RunStatus::ReadFailed | RunStatus::ScriptTooLong) => 1,
+            Ending::Ran(RunStatus::WriteFailed | RunStatus::NoMemory) => 1,
+            Ending::Ran(RunStatus::Faulted | RunStatus::Untold | RunStatus::NotOpened(_)) => 1,
             Ending::NoFolder(_) | Ending::Damaged(_, _) | Ending::NoCrew(_) => 1,
-            Ending::Ran(Status::BadLine(_, _)) | Ending::BadOptions(_) => 2,
+            Ending::Ran(RunStatus::BadLine(_, _)) | Ending::BadOptions(_) => 2,
         }
     }
 
@@ -71,7 +71,7 @@ impl Ending<'_> {
     pub fn is_done(&self) -> bool
         ensures { IsTrue result ↔ (self.now ≡ the_ending.Ran the_status.Done) }
     {
-        matches!(self, Ending::Ran(Status::Done))
+        matches!(self, Ending::Ran(RunStatus::Done))
     }
 }
 
@@ -83,20 +83,20 @@ impl From<BadOptions> for Ending<'_> {
     fn from(error: BadOptions) -> Self {
         match error {
             BadOptions::Refused => Ending::BadOptions(None),
-            BadOptions::Memory => Ending::Ran(Status::NoMemory),
+            BadOptions::Memory => Ending::Ran(RunStatus::NoMemory),
         }
     }
 }
 
 impl From<AllocError> for Ending<'_> {
     ghost use Rattle.std.specs.Prelude.{◌≡◌};
-    ghost use Rattle.keep_script.specs.declared.status.Status.TheVariants.{NoMemory};
+    ghost use Rattle.keep_script.specs.declared.status.RunStatus.TheVariants.{NoMemory};
     ghost use Rattle.keep_command.specs.declared.ending.Ending.TheVariants.{Ran};
 
     ghost from_gives = { λ _ ending. ending ≡ Ran NoMemory };
 
     fn from(_error: AllocError) -> Self {
-        Ending::Ran(Status::NoMemory)
+        Ending::Ran(RunStatus::NoMemory)
     }
 }
 
@@ -107,7 +107,7 @@ impl From<FolderError> for Ending<'_> {
 
     fn from(error: FolderError) -> Self {
         match error {
-            FolderError::Memory => Ending::Ran(Status::NoMemory),
+            FolderError::Memory => Ending::Ran(RunStatus::NoMemory),
             error => Ending::NoFolder(error),
         }
     }
@@ -120,7 +120,7 @@ impl From<NoCrew> for Ending<'_> {
 
     fn from(error: NoCrew) -> Self {
         match error {
-            NoCrew::Memory => Ending::Ran(Status::NoMemory),
+            NoCrew::Memory => Ending::Ran(RunStatus::NoMemory),
             NoCrew::NoPass => Ending::NoCrew(NoCrew::NoPass),
         }
     }
@@ -134,17 +134,20 @@ impl fmt::Display for Ending<'_> {
 
     fn fmt<W: fmt::Write>(&self, f: &mut fmt::Formatter<W>) -> fmt::Result {
         match self {
-            Ending::Ran(Status::Done) => f.write_str("keepd: done"),
-            Ending::Ran(Status::Faulted) => f.write_str("keepd: the shelf failed"),
-            Ending::Ran(Status::BadLine(number, why)) => write!(f, "keepd: line {number}: {why}"),
-            Ending::Ran(Status::ReadFailed) => f.write_str("keepd: cannot read the script"),
-            Ending::Ran(Status::ScriptTooLong) => {
+            Ending::Ran(RunStatus::Done) => f.write_str("keepd: done"),
+            Ending::Ran(RunStatus::Faulted) => f.write_str("keepd: the shelf failed"),
+            Ending::Ran(RunStatus::BadLine(number, why)) => write!(
+                f,
+                "keepd: line {number}: {why}"
+            ),
+            Ending::Ran(RunStatus::ReadFailed) => f.write_str("keepd: cannot read the script"),
+            Ending::Ran(RunStatus::ScriptTooLong) => {
                 f.write_str("keepd: the script has more than 67,108,863 bytes")
             }
-            Ending::Ran(Status::WriteFailed) => f.write_str("keepd: cannot write the answers"),
-            Ending::Ran(Status::NoMemory) => f.write_str("keepd: no memory"),
-            Ending::Ran(Status::Untold) => f.write_str("keepd: the shelf can't be told"),
-            Ending::Ran(Status::NotOpened(error)) => {
+            Ending::Ran(RunStatus::WriteFailed) => f.write_str("keepd: cannot write the answers"),
+            Ending::Ran(RunStatus::NoMemory) => f.write_str("keepd: no memory"),
+            Ending::Ran(RunStatus::Untold) => f.write_str("keepd: the shelf can't be told"),
+            Ending::Ran(RunStatus::NotOpened(error)) => {
                 write!(f, "keepd: cannot open: {error}; {}", advice_on(error))
             }
             Ending::Damaged(number, damage) => {

@@ -15,7 +15,7 @@ mod unopened;
 pub use crew::{Crew, NoOperators};
 pub use ending::{Ending, tell};
 pub use keep_folder::FolderError;
-pub use keep_operators::{NoCrew, Order, Tally};
+pub use keep_operators::{CrewTally, NoCrew, Order};
 pub use keep_options::BadOptions;
 pub use named_shelf::{HostShelves, NamedShelf};
 pub use program::keepd;

@@ -3,7 +3,7 @@ ghost use Rattle.keep_jobs.specs.Kits.{named_rule};
 ghost use Rattle.keep_answers.specs.Known.{WritesLines};
 ghost use Rattle.keep_script.specs.Line.{longest_script};
 ghost use Rattle.keep_script.specs.Run.{IsUntouched};
-ghost use Rattle.keep_script.specs.declared.status.Status.{Status};
+ghost use Rattle.keep_script.specs.declared.status.RunStatus.{RunStatus};
 ghost use Rattle.keep_command.specs.Ending.{NamesBadWord};
 ghost use Rattle.keep_command.specs.Following.{EndsBy, EndsWith};
 ghost use Rattle.keep_options.specs.Option.{options_of, options_view};
@@ -22,7 +22,7 @@ use keep_hooks::{
 };
 use keep_options::{BadOptions, Options, find_bad_word, read_options};
 use keep_plan::{AskFacts, Filter, Pick, has_tag};
-use keep_script::Status;
+use keep_script::RunStatus;
 use keep_snap::SnapFacts;
 use std::alloc::{AllocError, Global};
 use std::io::{Read, Write};
@@ -45,21 +45,21 @@ where
     R: Read,
     W: Write,
     ensures refused { let given = map (λ word. word.now) words.entry.now in options_of given ≡ None
-        → (NamesBadWord given result ⊎ (result ≡ Ending.Ran Status.NoMemory))
+        → (NamesBadWord given result ⊎ (result ≡ Ending.Ran RunStatus.NoMemory))
         × IsUntouched (R.remaining reader.old) (R.remaining reader.new) (W.contents writer.old)
         (W.contents writer.new) }
     ensures answers { IfSome (options_of (map (λ word. word.now) words.entry.now)) (λ options.
         EndsBy shelved_of (H.gives shelves.now) (H.takes shelves.now) (C.answers crew.now) options
         (R.remaining reader.old) (R.remaining reader.new) (W.contents writer.old) (W.contents writer.new) result) }
-    ensures whole { result ≢ Ending.Ran Status.WriteFailed →
+    ensures whole { result ≢ Ending.Ran RunStatus.WriteFailed →
         WritesLines (W.contents writer.old) (W.contents writer.new) }
-    ensures past_limit { result ≡ Ending.Ran Status.ScriptTooLong →
+    ensures past_limit { result ≡ Ending.Ran RunStatus.ScriptTooLong →
         IfSome (R.remaining reader.old) (λ script. longest_script ≤ length script) }
 {
     match read_options(alloc, &*words) {
         Ok(options) => answer_by(shelves, crew, Terms::new(alloc, options), reader, writer),
         Err(BadOptions::Refused) => refuse(alloc, words),
-        Err(BadOptions::Memory) => Ending::Ran(Status::NoMemory),
+        Err(BadOptions::Memory) => Ending::Ran(RunStatus::NoMemory),
     }
 }
 
@@ -178,10 +178,10 @@ where
 /// The end where the words aren't options.
 fn refuse<'a>(alloc: Global, words: &[&'a str]) -> Ending<'a>
     requires { options_of (map (λ word. word.now) words.now) ≡ None }
-    ensures { NamesBadWord (map (λ word. word.now) words.entry.now) result ⊎ (result ≡ Ending.Ran Status.NoMemory) }
+    ensures { NamesBadWord (map (λ word. word.now) words.entry.now) result ⊎ (result ≡ Ending.Ran RunStatus.NoMemory) }
 {
     match find_bad_word(alloc, words) {
         Ok(word) => Ending::BadOptions(word),
-        Err(AllocError) => Ending::Ran(Status::NoMemory),
+        Err(AllocError) => Ending::Ran(RunStatus::NoMemory),
     }
 }

@@ -1,13 +1,13 @@
 ghost use Rattle.std.specs.Prelude.{◌≡◌, ◌≢◌};
 ghost use Rattle.keep_answers.specs.Known.{WritesLines};
-ghost use Rattle.keep_script.specs.declared.status.Status.{Status};
+ghost use Rattle.keep_script.specs.declared.status.RunStatus.{RunStatus};
 ghost use Rattle.keep_command.specs.Ending.{ending_flushed};
 ghost use Rattle.keep_command.specs.Following.{Reports, TellsCrew, report_text};
 
 use crate::ending::Ending;
 use keep_answers::put_line;
-use keep_operators::Tally;
-use keep_script::Status;
+use keep_operators::CrewTally;
+use keep_script::RunStatus;
 use std::alloc::Global;
 use std::fmt;
 use std::io::{self, Write};
@@ -17,7 +17,7 @@ use std::io::{self, Write};
 pub(crate) struct Report {
     /// How many operators it had.
     pub size: u32,
-    pub tally: Tally,
+    pub tally: CrewTally,
 }
 
 impl fmt::Display for Report {
@@ -27,7 +27,7 @@ impl fmt::Display for Report {
     ghost output = { λ report. Some (report_text report.size report.tally.accepted report.tally.length) };
 
     fn fmt<W: fmt::Write>(&self, f: &mut fmt::Formatter<W>) -> fmt::Result {
-        let Tally { accepted, length } = self.tally;
+        let CrewTally { accepted, length } = self.tally;
         write!(f, "crew {} accepted {accepted} length {length}", self.size)
     }
 }
@@ -41,11 +41,11 @@ pub(crate) fn tell_crew<'a, W: Write>(
     writer: &mut W,
 ) -> Ending<'a>
     ensures tells { TellsCrew (W.contents writer.old) (W.contents writer.new) report.size report.tally result }
-    ensures whole { result ≢ Ending.Ran Status.WriteFailed →
+    ensures whole { result ≢ Ending.Ran RunStatus.WriteFailed →
         WritesLines (W.contents writer.old) (W.contents writer.new) }
 {
     if !is_told && report.tally.accepted < u64::from(report.size) {
-        return Ending::Ran(Status::Untold);
+        return Ending::Ran(RunStatus::Untold);
     }
     tell_tally(alloc, report, writer)
 }
@@ -55,12 +55,12 @@ pub(crate) fn tell_crew<'a, W: Write>(
 fn tell_tally<'a, W: Write>(alloc: Global, report: Report, writer: &mut W) -> Ending<'a>
     ensures reports { Reports (W.contents writer.old) (W.contents writer.new)
         (report_text report.size report.tally.accepted report.tally.length) result }
-    ensures whole { result ≢ Ending.Ran Status.WriteFailed →
+    ensures whole { result ≢ Ending.Ran RunStatus.WriteFailed →
         WritesLines (W.contents writer.old) (W.contents writer.new) }
 {
     match put_line(alloc, &report, writer) {
         Ok(()) => end_flushed(writer.flush()),
-        Err(_halt) => Ending::Ran(Status::WriteFailed),
+        Err(_halt) => Ending::Ran(RunStatus::WriteFailed),
     }
 }
 
@@ -69,7 +69,7 @@ fn end_flushed<'a>(flushed: io::Result<()>) -> Ending<'a>
     ensures { result ≡ ending_flushed flushed }
 {
     match flushed {
-        Ok(()) => Ending::Ran(Status::Done),
-        Err(_error) => Ending::Ran(Status::WriteFailed),
+        Ok(()) => Ending::Ran(RunStatus::Done),
+        Err(_error) => Ending::Ran(RunStatus::WriteFailed),
     }
 }

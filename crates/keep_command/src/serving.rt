@@ -4,7 +4,7 @@ ghost use Rattle.keep_opening.specs.declared.open_error.OpenError.TheVariants as
 ghost use Rattle.keep_answers.specs.Known.{WritesLines};
 ghost use Rattle.keep_script.specs.Begun.{begun_over};
 ghost use Rattle.keep_script.specs.Run.{Ends};
-ghost use Rattle.keep_script.specs.declared.status.Status.{Status};
+ghost use Rattle.keep_script.specs.declared.status.RunStatus.{RunStatus};
 ghost use Rattle.keep_options.specs.Option.{options_view};
 ghost use Rattle.keep_command.specs.Damage.{IsRefusedSo, SaysDamage};
 ghost use Rattle.keep_command.specs.Following.{Crews, EndsOver, EndsWith, Follows, IsCrewDue, Serves};
@@ -25,7 +25,7 @@ use keep_damage::{damage_on, report};
 use keep_jobs::Kit;
 use keep_ledger::NotOpened;
 use keep_opening::OpenError;
-use keep_script::{Status, run_on};
+use keep_script::{RunStatus, run_on};
 use keep_shelf::Shelf;
 use std::alloc::Global;
 use std::io::{Read, Write};
@@ -131,11 +131,11 @@ fn refused<'a, S: Shelf>(alloc: Global, shelf: &mut S, error: OpenError) -> Endi
     ensures unread { ((k : ℕ) → error ≢ the_cause.BadEntry k) → S.shelved shelf.new ≡ S.shelved shelf.old }
 {
     let OpenError::BadEntry(number) = error else {
-        return Ending::Ran(Status::from(error));
+        return Ending::Ran(RunStatus::from(error));
     };
     match damage_said(alloc, shelf) {
         Ok(damage) => Ending::Damaged(number, damage),
-        Err(_) => Ending::Ran(Status::NotOpened(OpenError::BadEntry(number))),
+        Err(_) => Ending::Ran(RunStatus::NotOpened(OpenError::BadEntry(number))),
     }
 }
 
@@ -155,7 +155,7 @@ fn follow<'a, H, C, W>(
     crew: &C,
     terms: Terms<'_>,
     book: Book<NamedShelf<'_>>,
-    status: Status,
+    status: RunStatus,
     writer: &mut W,
 ) -> Ending<'a>
 where
@@ -165,7 +165,7 @@ where
     requires sums { HasSums book }
     ensures follows { Follows (H.takes shelves.now) (C.answers crew.now) (options_view terms.entry.options)
         (on_shelf book.entry) (hooks_of book.entry) (W.contents writer.old) (W.contents writer.new) status result }
-    ensures whole { result ≢ Ending.Ran Status.WriteFailed →
+    ensures whole { result ≢ Ending.Ran RunStatus.WriteFailed →
         WritesLines (W.contents writer.old) (W.contents writer.new) }
 {
     if is_crew_due(terms.options.crew, &status) {
@@ -177,10 +177,10 @@ where
 }
 
 /// Whether a crew of this size is to work behind a run that ended so.
-fn is_crew_due(size: u32, status: &Status) -> bool
+fn is_crew_due(size: u32, status: &RunStatus) -> bool
     ensures { IsTrue result ↔ IsCrewDue size status.now }
 {
-    matches!(status, Status::Done) && size > 0
+    matches!(status, RunStatus::Done) && size > 0
 }
 
 /// Has the crew work over the book, lets it go, and says what the crew did.
@@ -200,7 +200,7 @@ where
     ensures crews { let options = options_view terms.entry.options in Crews (H.takes shelves.now) (C.answers crew.now)
         (settings_of options) options.time options.crew (on_shelf book.entry) (hooks_of book.entry)
         (W.contents writer.old) (W.contents writer.new) result }
-    ensures whole { result ≢ Ending.Ran Status.WriteFailed →
+    ensures whole { result ≢ Ending.Ran RunStatus.WriteFailed →
         WritesLines (W.contents writer.old) (W.contents writer.new) }
 {
     let (left, worked) = crew.work(book, terms.order());

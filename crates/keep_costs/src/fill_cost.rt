@@ -4,7 +4,7 @@ use crate::counted::Counted;
 use anyhow::{Result, anyhow};
 use keep_book::Book;
 use keep_jobs::{Cut, Kit, Settings};
-use keep_script::{Setup, Status, run_on};
+use keep_script::{RunStatus, Setup, run_on};
 use keep_shelf::MemoryShelf;
 use std::alloc::{AllocError, Global};
 
@@ -36,7 +36,7 @@ pub(crate) fn answer(
     };
     let mut text = Vec::new(alloc);
     match run_on(setup, book, &mut kit, &mut line.as_bytes(), &mut text) {
-        Status::Done => Ok(String::from_utf8(text)?),
+        RunStatus::Done => Ok(String::from_utf8(text)?),
         _ => Err(anyhow!("a line isn't answered")),
     }
 }

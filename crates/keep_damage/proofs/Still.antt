@@ -21,7 +21,7 @@ use Rattle.keep_journal.specs.Journal.{Journal}
 use Rattle.keep_journal.specs.Kept.{kept}
 use Rattle.keep_reading.specs.Checks.{Files}
 use Rattle.keep_damage.specs.Asked.{asked_live, filled, passed, stepped, with_placeholder, without}
-use Rattle.keep_damage.specs.declared.half.Pass.TheVariants.{Look, Write}
+use Rattle.keep_damage.specs.declared.half.Half.TheVariants.{Look, Write}
 
 -- ---- one file under steps
 

@@ -12,8 +12,8 @@ use Rattle.keep_shelf.specs.declared.key.Key.TheVariants.{Live, Trash}
 use Rattle.keep_moves.specs.Standing.{trashed}
 use Rattle.keep_reading.specs.Checks.{Files}
 use Rattle.keep_opening.specs.Filing.{live_into}
-use Rattle.keep_damage.specs.declared.half.Pass.{Pass}
-use Rattle.keep_damage.specs.declared.half.Pass.TheVariants.{Look, Write}
+use Rattle.keep_damage.specs.declared.half.Half.{Half}
+use Rattle.keep_damage.specs.declared.half.Half.TheVariants.{Look, Write}
 
 -- the files with something under the name
 abbrev pub with_placeholder : FileName → Files → Files
@@ -30,12 +30,12 @@ without [] files = files
 without (name ∷ names) files = without names (map.remove files name)
 
 -- what a change makes of files: what it only looks at is there, or isn't, as it asks; or what it writes is written
-abbrev pub stepped : Pass → Change → Files → Files
+abbrev pub stepped : Half → Change → Files → Files
 stepped Look c files = without c.absent (filled c.present files)
 stepped Write c files = take_files c.drops (put_files c.adds files)
 
 -- and what all of these make of them, in turn
-abbrev pub passed : Pass → List Numbered → Files → Files
+abbrev pub passed : Half → List Numbered → Files → Files
 passed pass [] files = files
 passed pass (n ∷ ns) files = passed pass ns (stepped pass n.change files)
 

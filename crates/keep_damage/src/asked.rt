@@ -5,7 +5,7 @@ ghost use Rattle.keep_damage.specs.Asked.{IsAsked, filled, passed, stepped, with
 ghost use Rattle.keep_journal.specs.Kept.{kept};
 ghost use Rattle.keep_journal.specs.Opening.{AreWellFormed};
 
-use crate::half::Pass;
+use crate::half::Half;
 use keep_change::Change;
 use keep_journal::History;
 use keep_names::FileName;
@@ -21,13 +21,13 @@ pub(crate) fn asked(alloc: Global, history: &History, there: &Stock) -> Result<S
 {
     let mut live = Repo::new(alloc);
     put_live(there, &mut live)?;
-    pass_all(alloc, Pass::Look, history, &mut live)?;
-    pass_all(alloc, Pass::Write, history, &mut live)?;
+    pass_all(alloc, Half::Look, history, &mut live)?;
+    pass_all(alloc, Half::Write, history, &mut live)?;
     wanted(alloc, history, &live)
 }
 
 /// Does this of all kept changes in turn, be they met or not.
-fn pass_all(alloc: Global, pass: Pass, history: &History, repo: &mut Repo) -> Result<(), AllocError>
+fn pass_all(alloc: Global, pass: Half, history: &History, repo: &mut Repo) -> Result<(), AllocError>
     ensures { OnOk result (repo.new.files ≡ passed pass (kept history.now.journal) repo.old.files) }
 {
     for n in history.final_number()..history.last_change() {
@@ -38,16 +38,16 @@ fn pass_all(alloc: Global, pass: Pass, history: &History, repo: &mut Repo) -> Re
     Ok(())
 }
 
-fn take_step(alloc: Global, pass: Pass, change: &Change, repo: &mut Repo) -> Result<(), AllocError>
+fn take_step(alloc: Global, pass: Half, change: &Change, repo: &mut Repo) -> Result<(), AllocError>
     ensures { OnOk result (repo.new.files ≡ stepped pass change.now repo.old.files) }
 {
     match pass {
-        Pass::Look => {
+        Half::Look => {
             fill(alloc, change.present.as_slice(), repo)?;
             take_out(change.absent.as_slice(), repo);
             Ok(())
         }
-        Pass::Write => make_files(change, repo),
+        Half::Write => make_files(change, repo),
     }
 }
 

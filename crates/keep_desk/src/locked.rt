@@ -77,7 +77,7 @@ impl<B: Naming, R: Wait + Drop, K: Keeper> Locked<B, R, K> {
     }
 
     /// Publishes an event that came late, if there is one.
-    fn settle(&mut self) -> Result<(), AllocError>
+    fn publish_late(&mut self) -> Result<(), AllocError>
         ensures journal { self.new.journal ≡ self.old.journal }
         ensures ok { OnOk result (self.new.published ≡ self.old.journal) }
         ensures err { OnErr result (self.new.published ≡ self.old.published) }
@@ -122,7 +122,7 @@ impl<B: Naming, R: Wait + Drop, K: Keeper> Locked<B, R, K> {
         if let Err(AllocError) = self.catch_up(pass) {
             return TakenBack::refused(self.alloc, Refusal::Memory);
         }
-        let numbers = match self.taken(n) {
+        let numbers = match self.taken_with(n) {
             Ok(numbers) => numbers,
             Err(refusal) => return TakenBack::refused(self.alloc, refusal),
         };
@@ -177,7 +177,7 @@ impl<B: Naming, R: Wait + Drop, K: Keeper> Locked<B, R, K> {
     {
         pass.leave();
         self.covers(pass);
-        self.settle()?;
+        self.publish_late()?;
         self.tell(pass);
         Ok(())
     }
@@ -230,7 +230,7 @@ impl<B: Naming, R: Wait + Drop, K: Keeper> Locked<B, R, K> {
         ensures legal { IsLegal B.hooks.vetoes B.opening pass.new.seen }
         ensures counted { pass.new.counted ≡ pass.old.counted }
     {
-        if let Err(AllocError) = self.settle() {
+        if let Err(AllocError) = self.publish_late() {
             return false;
         }
         pass.read_all(&mut self.register)
@@ -261,12 +261,12 @@ impl<B: Naming, R: Wait + Drop, K: Keeper> Locked<B, R, K> {
     }
 
     /// What has to be taken back with change n.
-    fn taken(&self, n: u64) -> Result<Vec<u64>, Refusal>
+    fn taken_with(&self, n: u64) -> Result<Vec<u64>, Refusal>
         ensures taken { let events = (state_of B.opening self.now.journal).events in
             RefusesOrGives (taken_refusal events n) (λ numbers. AreTaken events n numbers.items) result }
         ensures history { IsHistory B.hooks.vetoes B.opening self.now.journal }
     {
-        self.register.taken(n)
+        self.register.taken_with(n)
     }
 
     /// Takes the passes in, and gives the book back.

@@ -16,8 +16,8 @@ use Rattle.keep_change.specs.NamedBytes.{NamedBytes}
 use Rattle.keep_change.specs.declared.change.Change.{Change}
 use Rattle.keep_rows.specs.Values.{local_of}
 use Rattle.keep_rows.specs.declared.when.When.{When}
-use Rattle.keep_events.specs.declared.purpose.Deed.{Deed}
-use Rattle.keep_events.specs.declared.purpose.Deed.TheVariants as deed
+use Rattle.keep_events.specs.declared.purpose.Purpose.{Purpose}
+use Rattle.keep_events.specs.declared.purpose.Purpose.TheVariants as deed
 use Rattle.keep_events.specs.declared.shape.Files.{Files}
 use Rattle.keep_events.specs.declared.shape.Shape.{Shape}
 use Rattle.keep_events.specs.declared.taken.Taken.{Taken}
@@ -92,7 +92,7 @@ is_memory BadTime = false
 
 -- a change that adds snapshots: a backup adds one that isn't made from another one and drops none; a tag has as many new
 -- ones as it drops and adds nothing else; else it is a rewrite
-abbrev pub adding : Shape → Bool → Deed
+abbrev pub adding : Shape → Bool → Purpose
 adding s is_made =
     if s.drops.snapshots == 0
     then (if (s.adds.snapshots == 1) && not is_made then deed.Backup else deed.Rewrite)
@@ -100,7 +100,7 @@ adding s is_made =
 
 -- a change that writes no snapshots: a sweep drops packs, a part of a backup adds some, a repair writes indexes alone, and
 -- else there are marks
-abbrev pub upkeep : Shape → Deed
+abbrev pub upkeep : Shape → Purpose
 upkeep s =
     if nat_lt 0 s.drops.packs then deed.Sweep
     else (if nat_lt 0 s.adds.packs then deed.Store
@@ -110,7 +110,7 @@ upkeep s =
     else deed.Other))))
 
 -- what a change did, by its shape, and by whether its first new snapshot was made from another one
-abbrev pub deed_of : Shape → Bool → Deed
+abbrev pub deed_of : Shape → Bool → Purpose
 deed_of s is_made =
     if nat_lt 0 s.adds.snapshots then adding s is_made
     else (if nat_lt 0 s.drops.snapshots then deed.Forget else upkeep s)
@@ -133,7 +133,7 @@ abbrev pub of_host : Option TakenData → List ℕ
 of_host None = []
 of_host (Some taken) = codes " of " ++ (taken.host ++ at_time taken.at)
 
-abbrev pub deed_text : Deed → Shape → Option TakenData → List ℕ
+abbrev pub deed_text : Purpose → Shape → Option TakenData → List ℕ
 deed_text deed.Backup s taken = codes "backup" ++ of_host taken
 deed_text deed.Forget s taken = of_some (codes "forget") s.drops.snapshots (codes "snapshot")
 deed_text deed.Tag s taken = of_some (codes "tag") s.adds.snapshots (codes "snapshot")

@@ -14,7 +14,7 @@ pub use change_parts::parts_of;
 pub use event::EventRow;
 pub use event_rows::events_of;
 pub use part::{PartRow, Sign};
-pub use purpose::Deed;
+pub use purpose::Purpose;
 pub use shape::{Files, Shape, shape_of};
 pub use taken::Taken;
 pub use wrote::Wrote;

@@ -9,7 +9,7 @@ use std::alloc::{AllocError, Global};
 
 /// What a change did, told from the files and marks that it writes.
 #[derive(Clone, Copy, Debug, PartialEq, Eq)]
-pub enum Deed {
+pub enum Purpose {
     /// It adds one snapshot that isn't made from another one, and drops none.
     Backup,
     /// It drops snapshots and adds none.
@@ -31,57 +31,57 @@ pub enum Deed {
 }
 
 /// What a change of this shape did, whose first new snapshot was made from another one or not.
-pub(crate) fn deed_of(shape: &Shape, is_made: bool) -> Deed
+pub(crate) fn deed_of(shape: &Shape, is_made: bool) -> Purpose
     ensures { result ≡ spec.deed_of shape.now is_made }
 {
     if shape.adds.snapshots > 0 {
         adding(shape, is_made)
     } else if shape.drops.snapshots > 0 {
-        Deed::Forget
+        Purpose::Forget
     } else {
         upkeep(shape)
     }
 }
 
-fn adding(shape: &Shape, is_made: bool) -> Deed
+fn adding(shape: &Shape, is_made: bool) -> Purpose
     ensures { result ≡ spec.adding shape.now is_made }
 {
     let new = shape.adds.snapshots;
     if shape.drops.snapshots == 0 {
         if new == 1 && !is_made {
-            Deed::Backup
+            Purpose::Backup
         } else {
-            Deed::Rewrite
+            Purpose::Rewrite
         }
     } else if new == shape.drops.snapshots && shape.added == new {
-        Deed::Tag
+        Purpose::Tag
     } else {
-        Deed::Rewrite
+        Purpose::Rewrite
     }
 }
 
-fn upkeep(shape: &Shape) -> Deed
+fn upkeep(shape: &Shape) -> Purpose
     ensures { result ≡ spec.upkeep shape.now }
 {
     if shape.drops.packs > 0 {
-        Deed::Sweep
+        Purpose::Sweep
     } else if shape.adds.packs > 0 {
-        Deed::Store
+        Purpose::Store
     } else if shape.added > 0 || shape.dropped > 0 {
-        Deed::Repair
+        Purpose::Repair
     } else if shape.sets > 0 {
-        Deed::Mark
+        Purpose::Mark
     } else if shape.clears > 0 {
-        Deed::Unmark
+        Purpose::Unmark
     } else {
-        Deed::Other
+        Purpose::Other
     }
 }
 
 /// What a change did, as people read it.
 pub(crate) fn deed_text(
     alloc: Global,
-    deed: Deed,
+    deed: Purpose,
     shape: &Shape,
     taken: &Option<Taken>,
 ) -> Result<String, AllocError>
@@ -89,16 +89,16 @@ pub(crate) fn deed_text(
         ≡ spec.deed_text deed shape.now (option_map taken_view taken.now)) }
 {
     match deed {
-        Deed::Backup => backup_text(alloc, taken),
-        Deed::Forget => of_some(alloc, "forget", shape.drops.snapshots, "snapshot"),
-        Deed::Tag => of_some(alloc, "tag", shape.adds.snapshots, "snapshot"),
-        Deed::Rewrite => of_some(alloc, "rewrite", shape.adds.snapshots, "snapshot"),
-        Deed::Store => of_some(alloc, "store", shape.adds.packs, "pack"),
-        Deed::Sweep => of_some(alloc, "sweep", shape.drops.packs, "pack"),
-        Deed::Repair => String::from_str(alloc, "repair of indexes"),
-        Deed::Mark => of_some(alloc, "mark", shape.sets, "pack"),
-        Deed::Unmark => of_some(alloc, "unmark", shape.clears, "pack"),
-        Deed::Other => String::from_str(alloc, "change"),
+        Purpose::Backup => backup_text(alloc, taken),
+        Purpose::Forget => of_some(alloc, "forget", shape.drops.snapshots, "snapshot"),
+        Purpose::Tag => of_some(alloc, "tag", shape.adds.snapshots, "snapshot"),
+        Purpose::Rewrite => of_some(alloc, "rewrite", shape.adds.snapshots, "snapshot"),
+        Purpose::Store => of_some(alloc, "store", shape.adds.packs, "pack"),
+        Purpose::Sweep => of_some(alloc, "sweep", shape.drops.packs, "pack"),
+        Purpose::Repair => String::from_str(alloc, "repair of indexes"),
+        Purpose::Mark => of_some(alloc, "mark", shape.sets, "pack"),
+        Purpose::Unmark => of_some(alloc, "unmark", shape.clears, "pack"),
+        Purpose::Other => String::from_str(alloc, "change"),
     }
 }
 

@@ -1,7 +1,7 @@
 ghost use Rattle.std.specs.Prelude.{◌≤◌, OnOk};
 
 use keep_names::Id;
-use keep_sources::{Kind, Receives, Sight, Stop};
+use keep_sources::{Receives, Stat, StatKind, Stop};
 use std::alloc::{AllocError, Global};
 
 /// What was given, a line for each call.
@@ -33,9 +33,9 @@ impl Events {
         self.add(line.as_str())
     }
 
-    fn add_other_of(&mut self, name: &str, kind: &Kind) -> Result<(), AllocError> {
+    fn add_other_of(&mut self, name: &str, kind: &StatKind) -> Result<(), AllocError> {
         match kind {
-            Kind::Link(target) => {
+            StatKind::Link(target) => {
                 let line = format!(in self.alloc; "link {name} -> {target}")?;
                 self.add(line.as_str())
             }
@@ -43,7 +43,7 @@ impl Events {
         }
     }
 
-    fn add_file(&mut self, name: &str, sight: &Sight) -> Result<(), AllocError> {
+    fn add_file(&mut self, name: &str, sight: &Stat) -> Result<(), AllocError> {
         let size = sight.size;
         let is_seen = sight.links == 1 && sight.inode != 0 && sight.mtime.seconds > 0;
         let line = format!(in self.alloc; "file {name} {size} {is_seen}")?;
@@ -70,7 +70,7 @@ impl Receives for Events {
         Ok(())
     }
 
-    fn close_folder(&mut self, _sight: &Sight) -> Result<(), Stop> {
+    fn close_folder(&mut self, _sight: &Stat) -> Result<(), Stop> {
         self.add("close")?;
         Ok(())
     }
@@ -80,7 +80,7 @@ impl Receives for Events {
         Ok(())
     }
 
-    fn end_file(&mut self, name: &str, sight: &Sight) -> Result<(), Stop> {
+    fn end_file(&mut self, name: &str, sight: &Stat) -> Result<(), Stop> {
         self.add_file(name, sight)?;
         Ok(())
     }
@@ -90,12 +90,12 @@ impl Receives for Events {
         Ok(())
     }
 
-    fn same_file(&mut self, name: &str, _content: &[Id], _sight: &Sight) -> Result<(), Stop> {
+    fn same_file(&mut self, name: &str, _content: &[Id], _sight: &Stat) -> Result<(), Stop> {
         self.add_named("same", name)?;
         Ok(())
     }
 
-    fn add_other(&mut self, name: &str, sight: &Sight) -> Result<(), Stop> {
+    fn add_other(&mut self, name: &str, sight: &Stat) -> Result<(), Stop> {
         self.add_other_of(name, &sight.kind)?;
         Ok(())
     }

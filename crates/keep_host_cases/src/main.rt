@@ -5,7 +5,7 @@ mod host_events;
 
 use crate::host_events::Events;
 use keep_host_source::{HostSource, host_name, user_id, user_name};
-use keep_sources::{Job, Taking};
+use keep_sources::{Scope, Taking};
 use std::collections::BTreeMap;
 use std::io;
 
@@ -13,7 +13,7 @@ fn main(rt: HostRuntime) -> io::Result<()> {
     let alloc = rt.alloc();
     let source = HostSource::new(rt.clone()?, "tree")?;
     let mut taking = Taking::new(alloc, source, Events::new(alloc))?;
-    let job = Job {
+    let job = Scope {
         paths: vec![in alloc; String::new(alloc)]?,
         excludes: Vec::new(alloc),
         known: BTreeMap::new(alloc),

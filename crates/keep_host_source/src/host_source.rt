@@ -3,7 +3,7 @@ ghost use Rattle.std.specs.Prelude.{◌≤◌, IfErr, IfOk, length, take};
 use crate::failure::why_of;
 use crate::host_names::names_in;
 use crate::kind::kind_of;
-use keep_sources::{Kind, Listing, Moment, Sight, Source, Why};
+use keep_sources::{FolderListing, Moment, Source, Stat, StatKind, Why};
 use std::alloc::{AllocError, Global};
 use std::collections::BTreeMap;
 use std::fs;
@@ -58,12 +58,12 @@ impl<R: Files<File = File> + Alloc<A = Global> + Clone + Drop> HostSource<R> {
         }
     }
 
-    fn require_same(&self, place: &str, seen: &Sight) -> Result<(), Why> {
+    fn require_same(&self, place: &str, seen: &Stat) -> Result<(), Why> {
         require_seen(&self.metadata(place)?, seen)
     }
 
-    fn sight_of(&self, kind: Kind, found: &Metadata) -> Result<Sight, AllocError> {
-        Ok(Sight {
+    fn sight_of(&self, kind: StatKind, found: &Metadata) -> Result<Stat, AllocError> {
+        Ok(Stat {
             kind,
             mode: found.mode(),
             mtime: moment(found.mtime(), found.mtime_nsec()),
@@ -82,7 +82,7 @@ impl<R: Files<File = File> + Alloc<A = Global> + Clone + Drop> HostSource<R> {
     }
 
     /// The names in a folder, in order, and how many can't be said.
-    fn names_at(&self, place: &str) -> Result<Listing, Why> {
+    fn names_at(&self, place: &str) -> Result<FolderListing, Why> {
         let mut names = Vec::new(self.rt.alloc());
         let mut unsayable = 0u64;
         let entries = match fs::read_dir(&self.rt, place) {
@@ -99,13 +99,13 @@ impl<R: Files<File = File> + Alloc<A = Global> + Clone + Drop> HostSource<R> {
             }
         }
         match names.sort() {
-            Ok(()) => Ok(Listing { names, unsayable }),
+            Ok(()) => Ok(FolderListing { names, unsayable }),
             Err(AllocError) => Err(Why::Failed),
         }
     }
 
     /// Opens what lies there, if it is the file that was seen.
-    fn open_seen(&self, place: &str, seen: &Sight) -> Result<File, Why> {
+    fn open_seen(&self, place: &str, seen: &Stat) -> Result<File, Why> {
         self.require_same(place, seen)?;
         let file = match File::open(&self.rt, place) {
             Ok(file) => file,
@@ -124,7 +124,7 @@ impl<R: Files<File = File> + Alloc<A = Global> + Clone + Drop> Source for HostSo
 
     ghost told = { anything };
 
-    fn look(&mut self, path: &str) -> Result<Sight, Why> {
+    fn look(&mut self, path: &str) -> Result<Stat, Why> {
         let place = self.place(path)?;
         let found = self.metadata(place.as_str())?;
         let kind = kind_of(&self.rt, place.as_str(), &found)?;
@@ -134,14 +134,14 @@ impl<R: Files<File = File> + Alloc<A = Global> + Clone + Drop> Source for HostSo
         }
     }
 
-    fn list(&mut self, folder: &str, seen: &Sight) -> Result<Listing, Why> {
+    fn list(&mut self, folder: &str, seen: &Stat) -> Result<FolderListing, Why> {
         let place = self.place(folder)?;
         let listing = self.names_at(place.as_str())?;
         self.require_same(place.as_str(), seen)?;
         Ok(listing)
     }
 
-    fn open(&mut self, path: &str, seen: &Sight) -> Result<(), Why> {
+    fn open(&mut self, path: &str, seen: &Stat) -> Result<(), Why> {
         self.open = None;
         let place = self.place(path)?;
         self.open = Some(self.open_seen(place.as_str(), seen)?);
@@ -164,10 +164,10 @@ impl<R: Files<File = File> + Alloc<A = Global> + Clone + Drop> Source for HostSo
 }
 
 /// Refuses what isn't of the kind, the device and the inode that were seen.
-fn require_seen(found: &Metadata, seen: &Sight) -> Result<(), Why> {
+fn require_seen(found: &Metadata, seen: &Stat) -> Result<(), Why> {
     let is_same_kind = match seen.kind {
-        Kind::File => found.is_file(),
-        Kind::Folder => found.is_dir(),
+        StatKind::File => found.is_file(),
+        StatKind::Folder => found.is_dir(),
         _ => false,
     };
     if is_same_kind && found.dev() == seen.device && found.ino() == seen.inode {

@@ -1,5 +1,5 @@
 use crate::failure::why_of;
-use keep_sources::{Kind, Why};
+use keep_sources::{StatKind, Why};
 use std::alloc::Global;
 use std::fs;
 use std::fs::{File, Files, Metadata};
@@ -10,28 +10,31 @@ pub(crate) fn kind_of<R: Files<File = File> + Alloc<A = Global>>(
     rt: &R,
     place: &str,
     found: &Metadata,
-) -> Result<Kind, Why> {
+) -> Result<StatKind, Why> {
     let kind = found.file_type();
     if kind.is_file() {
-        Ok(Kind::File)
+        Ok(StatKind::File)
     } else if kind.is_dir() {
-        Ok(Kind::Folder)
+        Ok(StatKind::Folder)
     } else if kind.is_symlink() {
         target_of(rt, place)
     } else if kind.is_fifo() {
-        Ok(Kind::Fifo)
+        Ok(StatKind::Fifo)
     } else if kind.is_socket() {
-        Ok(Kind::Socket)
+        Ok(StatKind::Socket)
     } else if kind.is_block_device() {
-        Ok(Kind::Device)
+        Ok(StatKind::Device)
     } else {
-        Ok(Kind::CharDevice)
+        Ok(StatKind::CharDevice)
     }
 }
 
-fn target_of<R: Files<File = File> + Alloc<A = Global>>(rt: &R, place: &str) -> Result<Kind, Why> {
+fn target_of<R: Files<File = File> + Alloc<A = Global>>(
+    rt: &R,
+    place: &str,
+) -> Result<StatKind, Why> {
     match fs::read_link(rt, place) {
-        Ok(target) => Ok(Kind::Link(target.into_string())),
+        Ok(target) => Ok(StatKind::Link(target.into_string())),
         Err(error) => Err(why_of(&error)),
     }
 }

@@ -1,6 +1,6 @@
 use crate::refusals::{refusal_of, told};
 use keep_noted_target::Store;
-use keep_targets::{Instant, Owner, Refusal, Short, Times};
+use keep_targets::{Instant, Owner, Short, TargetError, Times};
 use std::alloc::{AllocError, Global};
 use std::fs::{DirBuilder, File, FileTimes, Files, OpenOptions, Permissions};
 use std::io;
@@ -117,11 +117,11 @@ impl<R: Files<File = File> + Alloc<A = Global> + Clone + Drop> HostStore<R> {
 }
 
 impl<R: Files<File = File> + Alloc<A = Global> + Clone + Drop> Store for HostStore<R> {
-    fn make_folder(&mut self, path: &str) -> Result<(), Refusal> {
+    fn make_folder(&mut self, path: &str) -> Result<(), TargetError> {
         told(self.try_make_folder(path))
     }
 
-    fn make_file(&mut self, path: &str) -> Result<(), Refusal> {
+    fn make_file(&mut self, path: &str) -> Result<(), TargetError> {
         told(self.try_make_file(path))
     }
 
@@ -130,28 +130,28 @@ impl<R: Files<File = File> + Alloc<A = Global> + Clone + Drop> Store for HostSto
             Some(opened) if opened.path.as_str() == path => write_all(&mut opened.file, bytes),
             _ => Err(Short {
                 written: 0,
-                refusal: Refusal::Failed,
+                refusal: TargetError::Failed,
             }),
         }
     }
 
-    fn make_link(&mut self, path: &str, to: &str) -> Result<(), Refusal> {
+    fn make_link(&mut self, path: &str, to: &str) -> Result<(), TargetError> {
         told(self.try_make_link(path, to))
     }
 
-    fn set_owner(&mut self, path: &str, owner: Owner) -> Result<(), Refusal> {
+    fn set_owner(&mut self, path: &str, owner: Owner) -> Result<(), TargetError> {
         told(self.try_set_owner(path, owner))
     }
 
-    fn set_link_owner(&mut self, path: &str, owner: Owner) -> Result<(), Refusal> {
+    fn set_link_owner(&mut self, path: &str, owner: Owner) -> Result<(), TargetError> {
         told(self.try_set_owner(path, owner))
     }
 
-    fn set_mode(&mut self, path: &str, mode: u32) -> Result<(), Refusal> {
+    fn set_mode(&mut self, path: &str, mode: u32) -> Result<(), TargetError> {
         told(self.try_set_mode(path, mode))
     }
 
-    fn set_times(&mut self, path: &str, times: Times) -> Result<(), Refusal> {
+    fn set_times(&mut self, path: &str, times: Times) -> Result<(), TargetError> {
         told(self.try_set_times(path, times))
     }
 }
@@ -169,16 +169,16 @@ fn write_all<W: Write>(file: &mut W, bytes: &[u8]) -> Result<(), Short> {
             return Ok(());
         }
         match file.write(rest) {
-            Ok(0) => return Err(short(bytes, rest, Refusal::Full)),
+            Ok(0) => return Err(short(bytes, rest, TargetError::Full)),
             Ok(count) => rest = rest.get(count..).unwrap_or(&[]),
             Err(error) if error.kind() == ErrorKind::Interrupted => {}
             Err(error) => return Err(short(bytes, rest, refusal_of(&error))),
         }
     }
-    Err(short(bytes, rest, Refusal::Failed))
+    Err(short(bytes, rest, TargetError::Failed))
 }
 
-fn short(bytes: &[u8], rest: &[u8], refusal: Refusal) -> Short {
+fn short(bytes: &[u8], rest: &[u8], refusal: TargetError) -> Short {
     let written = bytes.len().saturating_sub(rest.len()) as u64;
     Short { written, refusal }
 }

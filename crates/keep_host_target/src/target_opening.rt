@@ -4,7 +4,7 @@ ghost use Rattle.keep_noted_target.specs.Noted.{calls_in};
 use crate::refusals::refusal_of;
 use crate::store::{HostStore, make_dir};
 use keep_noted_target::NotedTarget;
-use keep_targets::Refusal;
+use keep_targets::TargetError;
 use std::alloc::Global;
 use std::fs::{File, Files};
 use std::io::ErrorKind;
@@ -15,7 +15,7 @@ use std::{fs, io};
 pub fn open_target<R: Files<File = File> + Alloc<A = Global> + Clone + Drop>(
     rt: R,
     root: &str,
-) -> Result<NotedTarget<HostStore<R>>, Refusal>
+) -> Result<NotedTarget<HostStore<R>>, TargetError>
     ensures { IfOk result (λ target. calls_in target ≡ []) }
 {
     let alloc = rt.alloc();
@@ -24,7 +24,7 @@ pub fn open_target<R: Files<File = File> + Alloc<A = Global> + Clone + Drop>(
         Err(error) => return Err(refusal_of(&error)),
     };
     let Ok(root) = String::from_str(alloc, root) else {
-        return Err(Refusal::Memory);
+        return Err(TargetError::Memory);
     };
     Ok(NotedTarget::new(alloc, HostStore::new(rt, root), is_new))
 }

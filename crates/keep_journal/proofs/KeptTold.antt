@@ -19,19 +19,19 @@ use Rattle.keep_journal.specs.declared.event.Entry.{Entry}
 use Rattle.keep_journal.specs.declared.event.Event.{Event}
 use Rattle.keep_journal.proofs.Commits.{final_number-push}
 use Rattle.keep_journal.specs.Laws.{ToldGrows, ToldHasTheMarks, ToldIsOpen, ToldIsTold, ToldShrinks, WhatIsToldIsKept}
-use Rattle.keep_journal.specs.Told.{is_told, told_at, told_of}
+use Rattle.keep_journal.specs.Told.{is_told, told_at, still_told}
 use Rattle.keep_journal.proofs.Filters.{filter-filter, find-filter, find_agree}
 use Rattle.keep_journal.proofs.Legal.{legal_numbered, legal_told, none_numbered}
 use Rattle.keep_journal.proofs.Long.{told_long, turn_tell}
 use Rattle.keep_journal.proofs.Telling.{committed_told, count_told, final_told, force_told, marks_told, told_with}
 
-pub final_is : (j : Journal) → final_number (told_of j) ≡ final_number j
+pub final_is : (j : Journal) → final_number (still_told j) ≡ final_number j
 final_is j = final_told (final_number j) j.entries
 
-pub force_is : (j : Journal) (m : ℕ) → final_number j < m → is_in_force (told_of j) m ≡ is_in_force j m
+pub force_is : (j : Journal) (m : ℕ) → final_number j < m → is_in_force (still_told j) m ≡ is_in_force j m
 force_is j m above = force_told (final_number j) m above j.entries false
 
-pub change_is : (j : Journal) (m : ℕ) → final_number j < m → change_of (told_of j) m ≡ change_of j m
+pub change_is : (j : Journal) (m : ℕ) → final_number j < m → change_of (still_told j) m ≡ change_of j m
 change_is j m above =
     ap (λ cs. option_map (λ (c : Numbered). c.change) (find (λ c. c.number == m) cs)) (committed_told (final_number j) j.entries)
     ∙ ap (option_map (λ (c : Numbered). c.change)) (find-filter (λ (c : Numbered). c.number == m) (λ c. nat_lt (final_number j) c.number) (committed j)
@@ -40,16 +40,16 @@ change_is j m above =
     it : (n : ℕ) → (nat_lt (final_number j) n && (n == m)) ≡ (n == m)
     it n = grind (arith, nat_tests)
 
-pub kept_is : (j : Journal) → kept (told_of j) ≡ kept j
+pub kept_is : (j : Journal) → kept (still_told j) ≡ kept j
 kept_is j =
-    ap (filter (λ (c : Numbered). is_kept (told_of j) c.number)) (committed_told (final_number j) j.entries)
-    ∙ filter-filter (λ (c : Numbered). is_kept (told_of j) c.number) (λ c. nat_lt (final_number j) c.number) (committed j)
-    ∙ filter_agree (λ (c : Numbered). nat_lt (final_number j) c.number && is_kept (told_of j) c.number) (λ c. is_kept j c.number) (λ c. same c.number) (committed j)
+    ap (filter (λ (c : Numbered). is_kept (still_told j) c.number)) (committed_told (final_number j) j.entries)
+    ∙ filter-filter (λ (c : Numbered). is_kept (still_told j) c.number) (λ c. nat_lt (final_number j) c.number) (committed j)
+    ∙ filter_agree (λ (c : Numbered). nat_lt (final_number j) c.number && is_kept (still_told j) c.number) (λ c. is_kept j c.number) (λ c. same c.number) (committed j)
   where
-    same : (m : ℕ) → (nat_lt (final_number j) m && is_kept (told_of j) m) ≡ is_kept j m
+    same : (m : ℕ) → (nat_lt (final_number j) m && is_kept (still_told j) m) ≡ is_kept j m
     same m = by (nat_lt (final_number j) m) refl
       where
-        by : (b : Bool) → nat_lt (final_number j) m ≡ b → (b && is_kept (told_of j) m) ≡ is_kept j m
+        by : (b : Bool) → nat_lt (final_number j) m ≡ b → (b && is_kept (still_told j) m) ≡ is_kept j m
         by true above = ap₂ (λ t g. t && nat_lt g m) (force_is j m (ltb-true (final_number j) m above)) (final_is j)
         by false below = sym (and_right (is_in_force j m) (nat_lt (final_number j) m) below)
 
@@ -74,7 +74,7 @@ is_open opening j live is =
     let legal = legal_told j is.legal in
     let later = committed_told (final_number j) j.entries in
     record {
-      numbered = legal_numbered (told_of j) legal;
+      numbered = legal_numbered (still_told j) legal;
       legal = legal;
       formed = rw later (All-filter (λ (c : Numbered). nat_lt (final_number j) c.number) (λ c. IsWellFormed c.change) (committed j) is.formed);
       within = rw later (All-filter (λ (c : Numbered). nat_lt (final_number j) c.number) (λ c. length (facets c.change) ≤ facet_limit) (committed j) is.within);
@@ -100,7 +100,7 @@ told_is_told j =
     ∙ ap (λ es. record { base = final_number j; entries = es }) (told_twice (final_number j) j.entries)
 
 told_then : (j : Journal) (k : ℕ) (e : Event) (f : ℕ) → final_number (posted j k e) ≡ f → is_told f e ≡ true
-    → told_of (posted j k e) ≡ posted (record { base = f; entries = told_at f j.entries }) k e
+    → still_told (posted j k e) ≡ posted (record { base = f; entries = told_at f j.entries }) k e
 told_then j k e f final told =
     ap (λ g. record { base = g; entries = told_at g (j.entries ++ record { at = k; event = e } ∷ []) }) final
     ∙ ap (λ es. record { base = f; entries = es }) (told_with f j.entries (record { at = k; event = e }) told)

@@ -10,7 +10,7 @@ use Rattle.keep_journal.specs.declared.event.Entry.{Entry}
 use Rattle.keep_journal.specs.declared.event.EventKind.{EventKind}
 use Rattle.keep_journal.specs.declared.event.EventKind.TheVariants.{Commit, Undo, Redo, Empty}
 use Rattle.keep_journal.proofs.Commits.{final_number-push, last_marks-push, IsNumbered-push}
-use Rattle.keep_journal.specs.Told.{is_told, is_told_by, told_at, told_of}
+use Rattle.keep_journal.specs.Told.{is_told, is_told_by, told_at, still_told}
 use Rattle.keep_journal.proofs.Telling.{committed_told, count_told, final_told, force_told, length_told, told_with, told_without}
 
 -- ---- a legal journal is numbered
@@ -131,6 +131,6 @@ module _ (f b : ℕ) (low : b ≤ f) where
       by true is later = (next_told es e h first is come.0, subst (λ xs. ComeInTurn (record { base = f; entries = xs }) (told_at f rest)) (told_with f es e is) later)
       by false is later = subst (λ xs. ComeInTurn (record { base = f; entries = xs }) (told_at f rest)) (told_without f es e is) later
 
-pub legal_told : (j : Journal) → IsLegal j → IsLegal (told_of j)
+pub legal_told : (j : Journal) → IsLegal j → IsLegal (still_told j)
 legal_told j legal =
     turns_told (final_number j) j.base (legal_numbered j legal).first_final [] j.entries (none_numbered j.base) (λ only. refl) legal refl

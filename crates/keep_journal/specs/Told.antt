@@ -22,8 +22,8 @@ abbrev pub told_at : ℕ → List Entry → List Entry
 told_at f es = filter (λ e. is_told f e.event) es
 
 -- what the journal still tells: a history that begins with the final number
-abbrev pub told_of : Journal → Journal
-told_of j = record { base = final_number j; entries = told_at (final_number j) j.entries }
+abbrev pub still_told : Journal → Journal
+still_told j = record { base = final_number j; entries = told_at (final_number j) j.entries }
 
 -- where changes up to top are final, each of the entries is about a change that isn't final when it comes
 abbrev pub Follow : ℕ → List Entry → Type 0

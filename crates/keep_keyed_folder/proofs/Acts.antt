@@ -9,7 +9,7 @@ use Rattle.keep_files.specs.Stands.{IsClosed}
 use Rattle.keep_files.specs.declared.tree_error.TreeError.{TreeError}
 use Rattle.keep_files.specs.declared.tree_error.TreeError.TheVariants.{Broken, Unknown}
 use Rattle.keep_keyed_folder.specs.Keyed.{HasFailure}
-use Rattle.keep_keyed_folder.specs.Order.{AreMade, AreSettled}
+use Rattle.keep_keyed_folder.specs.Order.{AreMade, AreSynced}
 
 -- ---- what stands lies in folders
 
@@ -70,22 +70,22 @@ made_more (Removed path ∷ rest) folder holder h held = absurd h
 made_more (Synced path ∷ rest) folder holder h held = absurd h
 
 -- a folder's outer one was synced, where it's sound
-settled_one : (path : List ℕ) (synced : List Act) → AreSettled true (path ∷ []) synced → (holder : List ℕ) × IsHeldIn path holder × (synced ≡ Synced holder ∷ [])
-settled_one path [] h = absurd (false≢true (sym h))
-settled_one path (Synced holder ∷ rest) h = (holder, h.0, ap (λ l. Synced holder ∷ l) h.1)
-settled_one path (Wrote other bytes ∷ rest) h = absurd h
-settled_one path (Renamed from to ∷ rest) h = absurd h
-settled_one path (Removed other ∷ rest) h = absurd h
-settled_one path (Made other ∷ rest) h = absurd h
+synced_one : (path : List ℕ) (synced : List Act) → AreSynced true (path ∷ []) synced → (holder : List ℕ) × IsHeldIn path holder × (synced ≡ Synced holder ∷ [])
+synced_one path [] h = absurd (false≢true (sym h))
+synced_one path (Synced holder ∷ rest) h = (holder, h.0, ap (λ l. Synced holder ∷ l) h.1)
+synced_one path (Wrote other bytes ∷ rest) h = absurd h
+synced_one path (Renamed from to ∷ rest) h = absurd h
+synced_one path (Removed other ∷ rest) h = absurd h
+synced_one path (Made other ∷ rest) h = absurd h
 
 made_acts : (a0 a1 a2 a3 a4 first synced : List Act) (made sync : Act) → a1 ≡ a0 → a2 ≡ a1 ++ first → a3 ≡ a2 ++ made ∷ [] → a4 ≡ a3 ++ synced → synced ≡ sync ∷ []
     → a4 ≡ a0 ++ (first ++ made ∷ (sync ∷ []))
 made_acts a0 a1 a2 a3 a4 first synced made sync e1 e2 e3 e4 e5 = rw (e4, e3, e2, e1, e5) (simp append_assoc)
 
-pub made_order : (a0 a1 a2 a3 a4 first synced : List Act) (home : List ℕ) (s : Bool) → s ≡ true → AreMade first → AreSettled s (home ∷ []) synced
+pub made_order : (a0 a1 a2 a3 a4 first synced : List Act) (home : List ℕ) (s : Bool) → s ≡ true → AreMade first → AreSynced s (home ∷ []) synced
     → a1 ≡ a0 → a2 ≡ a1 ++ first → a3 ≡ a2 ++ Made home ∷ [] → a4 ≡ a3 ++ synced → (made : List Act) × AreMade made × (a4 ≡ a0 ++ made)
-made_order a0 a1 a2 a3 a4 first synced home s sound making settled e1 e2 e3 e4 =
-    let one = settled_one home synced (subst (λ b. AreSettled b (home ∷ []) synced) sound settled) in (
+made_order a0 a1 a2 a3 a4 first synced home s sound making holders_synced e1 e2 e3 e4 =
+    let one = synced_one home synced (subst (λ b. AreSynced b (home ∷ []) synced) sound holders_synced) in (
       first ++ Made home ∷ (Synced one.0 ∷ []),
       made_more first home one.0 making one.1,
       made_acts a0 a1 a2 a3 a4 first synced (Made home) (Synced one.0) e1 e2 e3 e4 one.2,
@@ -96,31 +96,31 @@ pub put_acts : (a0 a1 a2 a3 a4 a5 made synced : List Act) (first third fourth : 
 put_acts a0 a1 a2 a3 a4 a5 made synced first third fourth e1 e2 e3 e4 e5 = rw (e5, e4, e3, e2, e1) (simp append_assoc)
 
 -- where the first one couldn't be synced, none was
-settled_less : (first second : List ℕ) (synced : List Act) (t : Bool) → t ≡ false → AreSettled false (first ∷ []) synced → AreSettled t (first ∷ (second ∷ [])) synced
-settled_less first second [] t is h = is
-settled_less first second (Synced holder ∷ rest) t is h = (h.0, subst (AreSettled t (second ∷ [])) (sym h.1) is)
-settled_less first second (Wrote other bytes ∷ rest) t is h = absurd h
-settled_less first second (Renamed from to ∷ rest) t is h = absurd h
-settled_less first second (Removed other ∷ rest) t is h = absurd h
-settled_less first second (Made other ∷ rest) t is h = absurd h
+synced_less : (first second : List ℕ) (synced : List Act) (t : Bool) → t ≡ false → AreSynced false (first ∷ []) synced → AreSynced t (first ∷ (second ∷ [])) synced
+synced_less first second [] t is h = is
+synced_less first second (Synced holder ∷ rest) t is h = (h.0, subst (AreSynced t (second ∷ [])) (sym h.1) is)
+synced_less first second (Wrote other bytes ∷ rest) t is h = absurd h
+synced_less first second (Renamed from to ∷ rest) t is h = absurd h
+synced_less first second (Removed other ∷ rest) t is h = absurd h
+synced_less first second (Made other ∷ rest) t is h = absurd h
 
 two_acts : (a b d first second : List Act) (sync : Act) → b ≡ a ++ first → first ≡ sync ∷ [] → d ≡ b ++ second → d ≡ a ++ sync ∷ second
 two_acts a b d first second sync e1 e2 e3 = rw (e3, e1, e2) (simp append_assoc)
 
 -- a folder is synced after another one, where that one could be
-pub settled_two : (a b d : List Act) (first second : List ℕ) (s t : Bool) → ((synced : List Act) × AreSettled s (first ∷ []) synced × (b ≡ a ++ synced))
-    → (s ≡ false → (d ≡ b) × (t ≡ s)) → (IsTrue s → (synced : List Act) × AreSettled t (second ∷ []) synced × (d ≡ b ++ synced))
-    → (synced : List Act) × AreSettled t (first ∷ (second ∷ [])) synced × (d ≡ a ++ synced)
-settled_two a b d first second true t one unsound next =
-    let synced = settled_one first one.0 one.1 in
+pub synced_two : (a b d : List Act) (first second : List ℕ) (s t : Bool) → ((synced : List Act) × AreSynced s (first ∷ []) synced × (b ≡ a ++ synced))
+    → (s ≡ false → (d ≡ b) × (t ≡ s)) → (IsTrue s → (synced : List Act) × AreSynced t (second ∷ []) synced × (d ≡ b ++ synced))
+    → (synced : List Act) × AreSynced t (first ∷ (second ∷ [])) synced × (d ≡ a ++ synced)
+synced_two a b d first second true t one unsound next =
+    let synced = synced_one first one.0 one.1 in
     let last = next refl in (
       Synced synced.0 ∷ last.0,
       (synced.1, last.1),
       two_acts a b d one.0 last.0 (Synced synced.0) one.2 synced.2 last.2,
     )
-settled_two a b d first second false t one unsound next = (
+synced_two a b d first second false t one unsound next = (
   one.0,
-  settled_less first second one.0 t (unsound refl).1 one.1,
+  synced_less first second one.0 t (unsound refl).1 one.1,
   (unsound refl).0 ∙ one.2,
 )
 

@@ -6,9 +6,9 @@ use Rattle.keep_files.specs.Stands.{Stands, moved, put_at}
 use Rattle.keep_files.specs.declared.tree_error.TreeError.{TreeError}
 use Rattle.keep_files.specs.declared.node.Node.TheVariants.{Folder, File}
 use Rattle.keep_keyed_folder.proofs.Left.{left_then, left_tmp, left_widened, put_ends, shift_ends, widened_above, widened_made, widened_then}
-use Rattle.keep_keyed_folder.proofs.Stopping.{keeps_done, keeps_end, keeps_failed, keeps_settled, keeps_still, keeps_then, keeps_weaker}
+use Rattle.keep_keyed_folder.proofs.Stopping.{keeps_done, keeps_end, keeps_failed, keeps_synced, keeps_still, keeps_then, keeps_weaker}
 use Rattle.keep_keyed_folder.specs.Left.{IsLeft, IsPut, IsShifted, IsTaken, IsWidened}
-use Rattle.keep_keyed_folder.specs.Order.{AreSettled}
+use Rattle.keep_keyed_folder.specs.Order.{AreSynced}
 use Rattle.keep_keyed_folder.specs.Stops.{Keeps}
 
 -- ---- folders are made
@@ -26,13 +26,13 @@ making_failed a b d path home e right h failed =
     (λ can. widened_then a.stands b.stands (put_at b.stands home (Some Folder)) path reached (widened_made b.stands (put_at b.stands home (Some Folder)) path home right can.0 refl)))
 
 pub making : (a b d f : Seen) (path home : List ℕ) (s : Bool) → LiesRightIn path home → Keeps (λ now. IsWidened a.stands now path) a b → CanDo b.stands (Made home) → d ≡ done b (Made home)
-    → f.stands ≡ d.stands → ((synced : List Act) × AreSettled s (home ∷ []) synced × (f.acts ≡ d.acts ++ synced)) → Keeps (λ now. IsWidened a.stands now path) a f
+    → f.stands ≡ d.stands → ((synced : List Act) × AreSynced s (home ∷ []) synced × (f.acts ≡ d.acts ++ synced)) → Keeps (λ now. IsWidened a.stands now path) a f
 making a b d f path home s right h can is stands synced =
     let P : Stands → Type 0 = λ now. IsWidened a.stands now path in
     let reached = keeps_end P a b h in
     let made = keeps_then P a b d h (keeps_done P b d (Made home) is reached reached
     (widened_then a.stands b.stands (put_at b.stands home (Some Folder)) path reached (widened_made b.stands (put_at b.stands home (Some Folder)) path home right can.0 refl))) in
-    keeps_then P a d f made (keeps_settled P d f home s (keeps_end P a d made) stands synced)
+    keeps_then P a d f made (keeps_synced P d f home s (keeps_end P a d made) stands synced)
 
 -- ---- a put
 
@@ -74,11 +74,11 @@ writing_failed a b d path bytes tmp e h left failed =
     (keeps_failed (InPut a.stands path bytes tmp) b d (Wrote tmp bytes) e failed (inl left) (λ part. in_writing a.stands b.stands path bytes tmp part left) (λ _. in_writing a.stands b.stands path bytes tmp bytes left))
 
 pub named : (a b d f : Seen) (path bytes tmp : List ℕ) (s : Bool) → Keeps (InPut a.stands path bytes tmp) a b → path ≢ tmp → IsLeft a.stands b.stands path tmp → b.stands tmp ≡ Some (File bytes) → d ≡ done b (Renamed tmp path)
-    → f.stands ≡ d.stands → ((synced : List Act) × AreSettled s (path ∷ []) synced × (f.acts ≡ d.acts ++ synced)) → Keeps (InPut a.stands path bytes tmp) a f
+    → f.stands ≡ d.stands → ((synced : List Act) × AreSynced s (path ∷ []) synced × (f.acts ≡ d.acts ++ synced)) → Keeps (InPut a.stands path bytes tmp) a f
 named a b d f path bytes tmp s h apart left there is stands synced =
     let P : Stands → Type 0 = InPut a.stands path bytes tmp in
     let renamed = keeps_then P a b d h (keeps_done P b d (Renamed tmp path) is (inl left) (inl left) (inr (put_ends a.stands b.stands (moved b.stands tmp path) path bytes tmp apart left there refl))) in
-    keeps_then P a d f renamed (keeps_settled P d f path s (keeps_end P a d renamed) stands synced)
+    keeps_then P a d f renamed (keeps_synced P d f path s (keeps_end P a d renamed) stands synced)
 
 pub naming_failed : (a b d : Seen) (path bytes tmp : List ℕ) (e : TreeError) → Keeps (InPut a.stands path bytes tmp) a b → path ≢ tmp → IsLeft a.stands b.stands path tmp → b.stands tmp ≡ Some (File bytes) → HasFailed b (Renamed tmp path) e d
     → Keeps (InPut a.stands path bytes tmp) a d
@@ -107,10 +107,10 @@ shifting_failed a b d from to e h apart still failed =
     let reached = keeps_end (λ now. IsWidened a.stands now to) a b h in
     keeps_then P a b d (shift_begun a b from to h) (keeps_failed P b d (Renamed from to) e failed (inl reached) (inl reached) (λ _. inr (shift_ends a.stands b.stands (moved b.stands from to) from to apart reached still refl)))
 
-pub settled : (P : Stands → Type 0) (a b d : Seen) (path : List ℕ) (was s : Bool) → Keeps P a b → d.stands ≡ b.stands → (was ≡ false → d.acts ≡ b.acts)
-    → (IsTrue was → (synced : List Act) × AreSettled s (path ∷ []) synced × (d.acts ≡ b.acts ++ synced)) → Keeps P a d
-settled P a b d path true s h stands unsound synced = keeps_then P a b d h (keeps_settled P b d path s (keeps_end P a b h) stands (synced refl))
-settled P a b d path false s h stands unsound synced = keeps_then P a b d h (keeps_still P b d (keeps_end P a b h) (unsound refl) stands)
+pub holders_synced : (P : Stands → Type 0) (a b d : Seen) (path : List ℕ) (was s : Bool) → Keeps P a b → d.stands ≡ b.stands → (was ≡ false → d.acts ≡ b.acts)
+    → (IsTrue was → (synced : List Act) × AreSynced s (path ∷ []) synced × (d.acts ≡ b.acts ++ synced)) → Keeps P a d
+holders_synced P a b d path true s h stands unsound synced = keeps_then P a b d h (keeps_synced P b d path s (keeps_end P a b h) stands (synced refl))
+holders_synced P a b d path false s h stands unsound synced = keeps_then P a b d h (keeps_still P b d (keeps_end P a b h) (unsound refl) stands)
 
 -- ---- a removal
 
@@ -118,11 +118,11 @@ settled P a b d path false s h stands unsound synced = keeps_then P a b d h (kee
 abbrev pub InRemoval : Stands → List ℕ → Stands → Type 0
 InRemoval before path now = (now ≡ before) ⊎ IsTaken before now path
 
-pub removed : (a b d : Seen) (path : List ℕ) (s : Bool) → b ≡ done a (Removed path) → d.stands ≡ b.stands → ((synced : List Act) × AreSettled s (path ∷ []) synced × (d.acts ≡ b.acts ++ synced)) → Keeps (InRemoval a.stands path) a d
+pub removed : (a b d : Seen) (path : List ℕ) (s : Bool) → b ≡ done a (Removed path) → d.stands ≡ b.stands → ((synced : List Act) × AreSynced s (path ∷ []) synced × (d.acts ≡ b.acts ++ synced)) → Keeps (InRemoval a.stands path) a d
 removed a b d path s is stands synced =
     let P : Stands → Type 0 = InRemoval a.stands path in
     let gone = keeps_done P a b (Removed path) is (inl refl) (inl refl) (inr refl) in
-    keeps_then P a b d gone (keeps_settled P b d path s (keeps_end P a b gone) stands synced)
+    keeps_then P a b d gone (keeps_synced P b d path s (keeps_end P a b gone) stands synced)
 
 pub removing_failed : (a b : Seen) (path : List ℕ) (e : TreeError) → HasFailed a (Removed path) e b → Keeps (InRemoval a.stands path) a b
 removing_failed a b path e failed = keeps_failed (InRemoval a.stands path) a b (Removed path) e failed (inl refl) (inl refl) (λ _. inr refl)

@@ -5,7 +5,7 @@ use Rattle.keep_files.specs.Act.{Act, CanDo, HasFailed, Made, Removed, Renamed, 
 use Rattle.keep_files.specs.Stands.{Stands}
 use Rattle.keep_files.specs.declared.tree_error.TreeError.{TreeError}
 use Rattle.keep_files.specs.declared.tree_error.TreeError.TheVariants.{Broken, Unknown}
-use Rattle.keep_keyed_folder.specs.Order.{AreSettled}
+use Rattle.keep_keyed_folder.specs.Order.{AreSynced}
 use Rattle.keep_keyed_folder.specs.Stops.{HoldsAtStops, HoldsWithin, Keeps, after_all}
 
 after-append : (stands : Stands) (first next : List Act) → after_all stands (first ++ next) ≡ after_all (after_all stands first) next
@@ -91,7 +91,7 @@ keeps_failed P old new (Removed path) Unknown h before within ends = keeps_maybe
 keeps_failed P old new (Made path) Unknown h before within ends = keeps_maybe P old new (Made path) h before within ends
 keeps_failed P old new (Synced path) Unknown h before within ends = keeps_maybe P old new (Synced path) h before within ends
 
-synced_after : (stands : Stands) (path : List ℕ) (s : Bool) (acts : List Act) → AreSettled s (path ∷ []) acts → after_all stands acts ≡ stands
+synced_after : (stands : Stands) (path : List ℕ) (s : Bool) (acts : List Act) → AreSynced s (path ∷ []) acts → after_all stands acts ≡ stands
 synced_after stands path s [] h = refl
 synced_after stands path s (Synced folder ∷ rest) h = ap (after_all stands) h.1
 synced_after stands path s (Wrote other bytes ∷ rest) h = absurd h
@@ -99,20 +99,20 @@ synced_after stands path s (Renamed from to ∷ rest) h = absurd h
 synced_after stands path s (Removed other ∷ rest) h = absurd h
 synced_after stands path s (Made other ∷ rest) h = absurd h
 
-synced_stops : (P : Stands → Type 0) (stands : Stands) (path : List ℕ) (s : Bool) (acts : List Act) → P stands → AreSettled s (path ∷ []) acts → HoldsAtStops P stands acts
-synced_stops P stands path s [] h settled = h
-synced_stops P stands path s (Synced folder ∷ rest) h settled = (h, h, subst (HoldsAtStops P stands) (sym settled.1) h)
-synced_stops P stands path s (Wrote other bytes ∷ rest) h settled = absurd settled
-synced_stops P stands path s (Renamed from to ∷ rest) h settled = absurd settled
-synced_stops P stands path s (Removed other ∷ rest) h settled = absurd settled
-synced_stops P stands path s (Made other ∷ rest) h settled = absurd settled
+synced_stops : (P : Stands → Type 0) (stands : Stands) (path : List ℕ) (s : Bool) (acts : List Act) → P stands → AreSynced s (path ∷ []) acts → HoldsAtStops P stands acts
+synced_stops P stands path s [] h holders_synced = h
+synced_stops P stands path s (Synced folder ∷ rest) h holders_synced = (h, h, subst (HoldsAtStops P stands) (sym holders_synced.1) h)
+synced_stops P stands path s (Wrote other bytes ∷ rest) h holders_synced = absurd holders_synced
+synced_stops P stands path s (Renamed from to ∷ rest) h holders_synced = absurd holders_synced
+synced_stops P stands path s (Removed other ∷ rest) h holders_synced = absurd holders_synced
+synced_stops P stands path s (Made other ∷ rest) h holders_synced = absurd holders_synced
 
 -- a folder was synced, or that failed
-pub keeps_settled : (P : Stands → Type 0) (old new : Seen) (path : List ℕ) (s : Bool) → P old.stands → new.stands ≡ old.stands
-    → ((synced : List Act) × AreSettled s (path ∷ []) synced × (new.acts ≡ old.acts ++ synced)) → Keeps P old new
-keeps_settled P old new path s h stands settled = record {
-  added = settled.0;
-  acts = settled.2;
-  stands = stands ∙ sym (synced_after old.stands path s settled.0 settled.1);
-  stops = synced_stops P old.stands path s settled.0 h settled.1;
+pub keeps_synced : (P : Stands → Type 0) (old new : Seen) (path : List ℕ) (s : Bool) → P old.stands → new.stands ≡ old.stands
+    → ((synced : List Act) × AreSynced s (path ∷ []) synced × (new.acts ≡ old.acts ++ synced)) → Keeps P old new
+keeps_synced P old new path s h stands holders_synced = record {
+  added = holders_synced.0;
+  acts = holders_synced.2;
+  stands = stands ∙ sym (synced_after old.stands path s holders_synced.0 holders_synced.1);
+  stops = synced_stops P old.stands path s holders_synced.0 h holders_synced.1;
 }

@@ -10,11 +10,11 @@ AreMade (Made folder ∷ (Synced holder ∷ acts)) = IsHeldIn folder holder × A
 AreMade _ = ⊥
 
 -- the folders that hold these paths were synced in turn, up to one that couldn't be
-abbrev pub AreSettled : Bool → List (List ℕ) → List Act → Type 0
-AreSettled is_sound [] acts = acts ≡ []
-AreSettled is_sound (path ∷ paths) [] = is_sound ≡ false
-AreSettled is_sound (path ∷ paths) (Synced holder ∷ acts) = IsHeldIn path holder × AreSettled is_sound paths acts
-AreSettled is_sound (path ∷ paths) (_ ∷ acts) = ⊥
+abbrev pub AreSynced : Bool → List (List ℕ) → List Act → Type 0
+AreSynced is_sound [] acts = acts ≡ []
+AreSynced is_sound (path ∷ paths) [] = is_sound ≡ false
+AreSynced is_sound (path ∷ paths) (Synced holder ∷ acts) = IsHeldIn path holder × AreSynced is_sound paths acts
+AreSynced is_sound (path ∷ paths) (_ ∷ acts) = ⊥
 
 -- The bytes come first, beside the file, and its folders; then its name in one step, and what holds the name is synced
 -- last. Where that can't be done, the folder isn't sound any more.
@@ -22,7 +22,7 @@ pub record IsPutInOrder (before after : List Act) (path bytes tmp : List ℕ) (i
   pub made : List Act
   pub synced : List Act
   pub making : AreMade made
-  pub settled : AreSettled is_sound (path ∷ []) synced
+  pub holders_synced : AreSynced is_sound (path ∷ []) synced
   pub acts : after ≡ before ++ Removed tmp ∷ (made ++ Wrote tmp bytes ∷ (Renamed tmp path ∷ synced))
 
 -- The folders come first, then the step, and last the new name is synced and that the old one is gone.
@@ -30,11 +30,11 @@ pub record IsShiftedInOrder (before after : List Act) (from to : List ℕ) (is_s
   pub made : List Act
   pub synced : List Act
   pub making : AreMade made
-  pub settled : AreSettled is_sound (to ∷ (from ∷ [])) synced
+  pub holders_synced : AreSynced is_sound (to ∷ (from ∷ [])) synced
   pub acts : after ≡ before ++ (made ++ Renamed from to ∷ synced)
 
 -- The step comes first, and then it is synced.
 pub record IsTakenInOrder (before after : List Act) (path : List ℕ) (is_sound : Bool) : Type 0 where
   pub synced : List Act
-  pub settled : AreSettled is_sound (path ∷ []) synced
+  pub holders_synced : AreSynced is_sound (path ∷ []) synced
   pub acts : after ≡ before ++ Removed path ∷ synced

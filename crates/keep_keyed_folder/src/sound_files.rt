@@ -5,7 +5,7 @@ ghost use Rattle.keep_files.specs.Path.{IsHeldIn};
 ghost use Rattle.keep_files.specs.Stands.{HasHome, IsClosed, is_file};
 ghost use Rattle.keep_keyed_folder.specs.Keyed.{HasFailure};
 ghost use Rattle.keep_keyed_folder.specs.Left.{EndsAs, IsLeft, IsPut, IsShifted, IsTaken, IsWidened};
-ghost use Rattle.keep_keyed_folder.specs.Order.{AreMade, AreSettled, IsPutInOrder, IsShiftedInOrder, IsTakenInOrder};
+ghost use Rattle.keep_keyed_folder.specs.Order.{AreMade, AreSynced, IsPutInOrder, IsShiftedInOrder, IsTakenInOrder};
 ghost use Rattle.keep_keyed_folder.specs.Stops.{Keeps};
 ghost use Rattle.keep_files.specs.declared.tree_error.TreeError.TheVariants as the_error;
 
@@ -41,7 +41,7 @@ impl<T: FileTree> SoundFiles<T> {
         self.make_home(path)?;
         self.tree.write_new(tmp, bytes)?;
         self.tree.rename(tmp, path)?;
-        self.settle(path);
+        self.sync_holder(path);
         Ok(())
     }
 
@@ -64,8 +64,8 @@ impl<T: FileTree> SoundFiles<T> {
     {
         self.make_home(to)?;
         self.tree.rename(from, to)?;
-        self.settle(to);
-        self.settle(from);
+        self.sync_holder(to);
+        self.sync_holder(from);
         Ok(())
     }
 
@@ -84,7 +84,7 @@ impl<T: FileTree> SoundFiles<T> {
         ensures unsound { self.new.is_sound ≡ false → HasFailure (T.seen self.old.tree) (T.seen self.new.tree) }
     {
         self.tree.remove(path)?;
-        self.settle(path);
+        self.sync_holder(path);
         Ok(())
     }
 
@@ -124,7 +124,7 @@ impl<T: FileTree> SoundFiles<T> {
         }
         self.make_home(home)?;
         self.tree.make_folder(home)?;
-        self.settle(home);
+        self.sync_holder(home);
         if self.is_sound {
             Ok(())
         } else {
@@ -138,10 +138,10 @@ impl<T: FileTree> SoundFiles<T> {
     /// failed would be to say that all is as it was; and it can't be taken back, since a file that was replaced or
     /// removed is gone. But where a folder can't be synced, a loss of power may undo the act, so nothing is built on
     /// it: each later act fails before it does anything. Who opens the folder anew goes on from what is there.
-    fn settle(&mut self, path: &str)
+    fn sync_holder(&mut self, path: &str)
         ensures stands { (T.seen self.new.tree).stands ≡ (T.seen self.old.tree).stands }
         ensures unsound { self.old.is_sound ≡ false → self.new ≡ self.old }
-        ensures synced { IsTrue self.old.is_sound → ((synced : List Act) × AreSettled self.new.is_sound (path.now ∷ []) synced
+        ensures synced { IsTrue self.old.is_sound → ((synced : List Act) × AreSynced self.new.is_sound (path.now ∷ []) synced
             × ((T.seen self.new.tree).acts ≡ (T.seen self.old.tree).acts ++ synced)) }
         ensures ok { IsTrue self.new.is_sound → (T.seen self.new.tree).failures ≡ (T.seen self.old.tree).failures }
         ensures err { IsTrue self.old.is_sound → self.new.is_sound ≡ false

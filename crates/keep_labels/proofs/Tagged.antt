@@ -20,7 +20,7 @@ use Rattle.keep_catalog.specs.Files.{snap_in}
 use Rattle.keep_plan.specs.Taking.{taken_in}
 use Rattle.keep_plan.specs.declared.pick.Pick.{Pick}
 use Rattle.keep_plan.specs.Refusal.{unless, unread_first}
-use Rattle.keep_plan.specs.Settling.{CanBeMade, absent_files, is_any_taken, settled}
+use Rattle.keep_plan.specs.Storing.{CanBeMade, absent_files, is_any_taken, stored_built}
 use Rattle.keep_plan.specs.declared.plan_error.PlanError.{PlanError}
 use Rattle.keep_plan.specs.declared.plan_error.PlanError.TheVariants.{Memory, NothingToDo, SnapshotThere}
 use Rattle.keep_snap.specs.Facts.{FactsData}
@@ -33,8 +33,8 @@ use Rattle.keep_labels.proofs.Swapped.{CanBeSwapped, swap_met, swap_well_formed}
 use Rattle.keep_labels.proofs.Taken.{files_rise, files_there, names_of, taken_rise}
 
 -- what becomes of files that are built, where no blob is used
-abbrev pub WhatIsSettledCanBeMade : Type 0
-WhatIsSettledCanBeMade = (r : Repository) (used : List BlobId) (built : List NamedBytes) → AreNamedByBytes built → CanBeMade r (settled r used built)
+abbrev pub WhatIsStoredCanBeMade : Type 0
+WhatIsStoredCanBeMade = (r : Repository) (used : List BlobId) (built : List NamedBytes) → AreNamedByBytes built → CanBeMade r (stored_built r used built)
 
 module _ (r : Repository) (rule : Pick) (edit : EditData) where
   -- the taken snapshots whose tags the edit changes, their files, and those that stand in their place
@@ -102,9 +102,9 @@ module _ (r : Repository) (rule : Pick) (edit : EditData) where
   names_rise : IsStrictlySortedBy id_cmp (names_of changed)
   names_rise = rise_kept id_cmp (λ (s : FactsData). s.name) (λ s. not (are_same s.tags (edited edit s.tags))) (taken_in rule r) (taken_rise rule r)
 
-  module _ (apart : TellsApart name_cmp) (settling : WhatIsSettledCanBeMade) where
-    adds_of : CanBeMade r (settled r [] new_files) → old_files ≢ [] → CanBeSwapped r old_files (absent_files r new_files)
-    unfolding settled
+  module _ (apart : TellsApart name_cmp) (settling : WhatIsStoredCanBeMade) where
+    adds_of : CanBeMade r (stored_built r [] new_files) → old_files ≢ [] → CanBeSwapped r old_files (absent_files r new_files)
+    unfolding stored_built
     adds_of can some = record {
       drops_in_order = files_rise r (names_of changed) names_rise;
       adds_in_order = can.adds_in_order;

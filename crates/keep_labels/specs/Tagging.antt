@@ -15,7 +15,7 @@ use Rattle.keep_catalog.specs.Files.{snap_in}
 use Rattle.keep_plan.specs.Taking.{taken_in}
 use Rattle.keep_plan.specs.declared.pick.Pick.{Pick}
 use Rattle.keep_plan.specs.Refusal.{unless, unread_first}
-use Rattle.keep_plan.specs.Settling.{absent_files, is_any_taken}
+use Rattle.keep_plan.specs.Storing.{absent_files, is_any_taken}
 use Rattle.keep_plan.specs.declared.plan_error.PlanError.{PlanError}
 use Rattle.keep_plan.specs.declared.plan_error.PlanError.TheVariants.{BadEdit, NothingToDo, SnapshotThere}
 use Rattle.keep_labels.specs.Edits.{EditData, Tags, are_same, edited, is_bad_edit, is_empty}

@@ -11,7 +11,7 @@ ghost use Rattle.keep_labels.specs.Tagging.{tag_change};
 
 use keep_change::{sorted_lists_are_well_formed, what_is_asked_is_met};
 use keep_names::orders_tell_apart;
-use keep_plan::what_is_settled_can_be_made;
+use keep_plan::what_is_stored_can_be_made;
 
 /// The change of a forget can be committed: it is well formed, and the repository that it was planned on meets it.
 pub fn a_planned_forget_can_be_made()
@@ -34,7 +34,7 @@ pub fn a_planned_tagging_can_be_made()
         → tag_change r rule edit ≡ Ok c → is_met (held r) c ≡ true }
 {
     orders_tell_apart();
-    what_is_settled_can_be_made();
+    what_is_stored_can_be_made();
     sorted_lists_are_well_formed();
     what_is_asked_is_met();
 }

@@ -16,7 +16,7 @@ use crate::swap::{snapshot_files, swap};
 use crate::taken_snapshots::catalog;
 use keep_catalog::Catalog;
 use keep_change::{Change, Planned, StoredFile};
-use keep_plan::{Filter, PlanError, settle_new};
+use keep_plan::{Filter, PlanError, split_new};
 use keep_repo::Repo;
 use keep_snap::SnapFacts;
 use keep_view::View;
@@ -81,7 +81,7 @@ fn put_in_place(
 ) -> Result<Change, PlanError>
     ensures { Answers the_error.Memory (λ change. change) (spec.tagging repo.now old.items new.items) result }
 {
-    let adds = settle_new(alloc, repo, new)?.ok_or(PlanError::SnapshotThere)?;
+    let adds = split_new(alloc, repo, new)?.ok_or(PlanError::SnapshotThere)?;
     if old.is_empty() {
         return Err(PlanError::NothingToDo);
     }

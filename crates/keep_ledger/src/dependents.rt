@@ -6,7 +6,7 @@ ghost use Rattle.keep_journal.specs.Opening.{AreWellFormed};
 ghost use Rattle.keep_touch.specs.Mentions.{AreNoted};
 ghost use Rattle.keep_ledger.specs.Dependents.{leaned_on, blocked_at, blocked_by};
 
-use crate::history_point::Place;
+use crate::history_point::HistoryPoint;
 use keep_change::Change;
 use keep_journal::History;
 use keep_repo::Repo;
@@ -37,7 +37,7 @@ pub(crate) fn first_blocked(
     requires noted { AreNoted touch.now history.now.journal }
     ensures { result ≡ blocked_at history.now.journal live.now n change.now }
 {
-    let place = Place {
+    let place = HistoryPoint {
         history,
         touch,
         number: n,

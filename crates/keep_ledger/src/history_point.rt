@@ -15,7 +15,7 @@ use keep_touch::Touch;
 /// force tell it. The first of them that writes a facet found there what it asked for, and what
 /// none of them writes is as it is now.
 #[derive(Clone, Copy)]
-pub(crate) struct Place<'a> {
+pub(crate) struct HistoryPoint<'a> {
     pub history: &'a History,
     pub touch: &'a Touch,
     pub number: u64,
@@ -24,7 +24,7 @@ pub(crate) struct Place<'a> {
     ghost noted: { AreNoted touch.now history.now.journal } by { AreNoted-prop touch.now history.now.journal },
 }
 
-impl Place<'_> {
+impl HistoryPoint<'_> {
     ghost use Rattle.keep_repo.specs.Repository.{held};
     ghost use Rattle.keep_change.specs.Holdings.{value_at};
     ghost use Rattle.keep_journal.specs.Kept.{later};
@@ -42,7 +42,7 @@ impl Place<'_> {
     }
 }
 
-impl Holder for Place<'_> {
+impl Holder for HistoryPoint<'_> {
     ghost use Rattle.keep_repo.specs.Repository.{held};
     ghost use Rattle.keep_change.specs.Holdings.{value_at};
     ghost use Rattle.keep_journal.specs.Kept.{later};

@@ -23,7 +23,7 @@ impl<S: Shelf> Ledger<S> {
         let mut shelf = shelf;
         match find(alloc, &mut shelf) {
             Ok(found) => {
-                let Found {
+                let ShelfReading {
                     live,
                     history,
                     touch,
@@ -46,7 +46,7 @@ impl<S: Shelf> Ledger<S> {
 
 /// What a shelf says: a ledger, but for the shelf.
 #[derive(Drop)]
-struct Found {
+struct ShelfReading {
     live: LiveRepo,
     history: History,
     touch: Touch,
@@ -55,7 +55,7 @@ struct Found {
 }
 
 /// Reads what a shelf says. Nothing is changed there.
-fn find<S: Shelf>(alloc: Global, shelf: &mut S) -> Result<Found, OpenError>
+fn find<S: Shelf>(alloc: Global, shelf: &mut S) -> Result<ShelfReading, OpenError>
     ensures read { IfOk result (λ found. IsReadOf (S.shelved shelf.old)
         (ledger_on found.history.journal found.live found.moves.items (S.shelved shelf.new))) }
     ensures kept { IfOk result (λ found.
@@ -68,7 +68,7 @@ fn find<S: Shelf>(alloc: Global, shelf: &mut S) -> Result<Found, OpenError>
     let moves = due_moves(alloc, &stock, &opened.history)?;
     let touch = notes_of(alloc, &opened.history)?;
     let Opened { history, live, .. } = opened;
-    Ok(Found {
+    Ok(ShelfReading {
         live: LiveRepo::new(alloc, live),
         history,
         touch,

@@ -5,7 +5,7 @@ use Rattle.std.specs.List.{filter_map, list_any}
 use Rattle.std.specs.Prelude.{◌&&◌, ◌||◌, if◌then◌else◌}
 use Rattle.keep_labels.specs.Edits.{has_empty_tag, is_bad_edit, is_empty}
 use Rattle.keep_lines.specs.Edits.{is_set, moves, moves_empty, said_edit, tag_by}
-use Rattle.keep_lines.specs.declared.tag_line.Deed.TheVariants as deed
+use Rattle.keep_lines.specs.declared.tag_line.TagUse.TheVariants as deed
 use Rattle.keep_lines.specs.declared.tag_line.TagWord.{TagWord}
 use Rattle.keep_lines.specs.declared.tag_line.TagWord.TheVariants.{Add, Remove, Set}
 

@@ -25,8 +25,8 @@ use Rattle.keep_lines.specs.Word.{IsTarget, hex_text, target_text}
 use Rattle.keep_lines.specs.WordList.{AreSpaceless}
 use Rattle.keep_lines.specs.declared.forget_line.Span.{Span}
 use Rattle.keep_lines.specs.declared.forget_line.Span.TheVariants.{Last, Day, Week, Month, Year}
-use Rattle.keep_lines.specs.declared.word.Target.{Target}
-use Rattle.keep_lines.specs.declared.word.Target.TheVariants.{Named, AddedBy}
+use Rattle.keep_lines.specs.declared.word.MeantFile.{MeantFile}
+use Rattle.keep_lines.specs.declared.word.MeantFile.TheVariants.{Named, AddedBy}
 
 -- whether a text begins with this one
 abbrev pub begins : List ℕ → List ℕ → Bool
@@ -36,7 +36,7 @@ begins (x ∷ front) (y ∷ text) = eqb x y && begins front text
 
 -- ---- words that stand alone
 
-pub target_told : (s t : Target) → IsTarget s → IsTarget t → target_text s ≡ target_text t → s ≡ t
+pub target_told : (s t : MeantFile) → IsTarget s → IsTarget t → target_text s ≡ target_text t → s ≡ t
 target_told (Named a) (Named b) h k e = ap Named (id_text-exact a b h k e)
 target_told (Named a) (AddedBy n) h k e = absurd (id_text-at a (decimal n) h e)
 target_told (AddedBy m) (Named b) h k e = absurd (id_text-at b (decimal m) k (sym e))

@@ -9,7 +9,7 @@ use Rattle.keep_names.specs.declared.id.Id.{Id}
 use Rattle.keep_names.specs.Parses.{NonePrints}
 use Rattle.keep_names.specs.Number.{IsNumber}
 use Rattle.keep_lines.specs.Word.{IsTarget, target_text}
-use Rattle.keep_lines.specs.declared.word.Target.TheVariants.{Named, AddedBy}
+use Rattle.keep_lines.specs.declared.word.MeantFile.TheVariants.{Named, AddedBy}
 
 -- an id that is the only one with a text has 32 bytes
 pub IsDigest-parsed : (word : List ℕ) (id : Id) → IsIdText word → ((other : Id) → IsDigest other → id_text other ≡ word → id ≡ other) → IsDigest id

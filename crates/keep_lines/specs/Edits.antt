@@ -1,14 +1,14 @@
 -- The edit of tags that words make.
 use Rattle.std.specs.Prelude.{ℕ, Bool, true, false, List, [], Option, Some, None, if◌then◌else◌, string_bytes}
 use Rattle.std.specs.List.{filter_map, list_any}
-use Rattle.keep_lines.specs.declared.tag_line.Deed.{Deed}
-use Rattle.keep_lines.specs.declared.tag_line.Deed.TheVariants as deed
+use Rattle.keep_lines.specs.declared.tag_line.TagUse.{TagUse}
+use Rattle.keep_lines.specs.declared.tag_line.TagUse.TheVariants as deed
 use Rattle.keep_lines.specs.declared.tag_line.TagWord.{TagWord}
 use Rattle.keep_lines.specs.declared.tag_line.TagWord.TheVariants.{Add, Remove, Set}
 use Rattle.keep_labels.specs.Edits.{EditData, is_bad_edit, is_empty}
 
 -- the tag of a word that does this with it: the empty text is none to set
-abbrev pub tag_by : Deed → TagWord → Option (List ℕ)
+abbrev pub tag_by : TagUse → TagWord → Option (List ℕ)
 tag_by deed.Add (Add tag) = Some (string_bytes tag)
 tag_by deed.Remove (Remove tag) = Some (string_bytes tag)
 tag_by deed.Set (Set tag) = if is_empty (string_bytes tag) then None else Some (string_bytes tag)

@@ -19,7 +19,7 @@ use Rattle.keep_lines.specs.declared.revision.Revision.{Revision}
 use Rattle.keep_lines.specs.declared.revision.Revision.TheVariants as revision
 use Rattle.keep_lines.specs.declared.tag_line.TagWord.{TagWord}
 use Rattle.keep_lines.specs.declared.tag_line.TagWord.TheVariants as tag_word
-use Rattle.keep_lines.specs.declared.word.Target.{Target}
+use Rattle.keep_lines.specs.declared.word.MeantFile.{MeantFile}
 
 -- the first words of lines
 pub data Verb : Type 0 where
@@ -67,13 +67,13 @@ Values ListFiles = Unit {0}
 Values Count = Unit {0}
 Values History = Unit {0}
 Values Same = List ℕ
-Values Restore = Target
+Values Restore = MeantFile
 Values Audit = Unit {0}
 Values Totals = Unit {0}
 Values Note = List ℕ
 Values Arm = List ℕ
 Values Add = Kind × List ℕ
-Values Drop = Kind × Target
+Values Drop = Kind × MeantFile
 Values Backup = List ℕ × List ℕ × List (List ℕ × List ℕ)
 Values Tag = List ℕ × List TagData
 Values Forget = List ℕ × List RuleData

@@ -6,8 +6,8 @@ use Rattle.std.specs.List.{AllPass}
 use Rattle.hex.specs.Hex.{IsBytes, encode_lower}
 use Rattle.keep_names.specs.Number.{IsNumber}
 use Rattle.keep_names.specs.Id.{IsDigest, id_text}
-use Rattle.keep_lines.specs.declared.word.Target.{Target}
-use Rattle.keep_lines.specs.declared.word.Target.TheVariants.{Named, AddedBy}
+use Rattle.keep_lines.specs.declared.word.MeantFile.{MeantFile}
+use Rattle.keep_lines.specs.declared.word.MeantFile.TheVariants.{Named, AddedBy}
 
 -- bytes in lower case hex, none of them as a dash
 abbrev pub hex_text : List ℕ → List ℕ
@@ -32,11 +32,11 @@ abbrev pub IsName : List ℕ → Type 0
 IsName word = (0 < length word) × (length word ≤ 64) × AllPass is_name_byte word
 
 -- an id's digits, or `@` and the number of a change
-abbrev pub target_text : Target → List ℕ
+abbrev pub target_text : MeantFile → List ℕ
 target_text (Named id) = id_text id
 target_text (AddedBy n) = codes "@" ++ decimal n
 
 -- an id of 32 bytes, or a number of 64 bits, as each target has
-abbrev pub IsTarget : Target → Type 0
+abbrev pub IsTarget : MeantFile → Type 0
 IsTarget (Named id) = IsDigest id
 IsTarget (AddedBy n) = IsNumber n

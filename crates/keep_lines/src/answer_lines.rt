@@ -152,9 +152,9 @@ impl fmt::Display for RestoredCounts {
 
 /// What an audit found, with the number of the refusal where there is one.
 #[derive(Clone, Copy)]
-pub struct Found<'a>(pub &'a Finding);
+pub struct FindingLine<'a>(pub &'a Finding);
 
-impl fmt::Display for Found<'_> {
+impl fmt::Display for FindingLine<'_> {
     ghost use Rattle.std.specs.Prelude.{Some};
     ghost use Rattle.keep_lines.specs.Telling.{found_text};
 

@@ -4,7 +4,7 @@ ghost use Rattle.keep_lines.specs.Edits.{edit_data, is_set, said_edit, tag_by};
 ghost use Rattle.keep_lines.specs.Edits as spec;
 ghost use Rattle.keep_labels.specs.Edits.{edit_view, is_bad_edit};
 
-use crate::tag_line::{Deed, TagWord};
+use crate::tag_line::{TagUse, TagWord};
 use keep_labels::Edit;
 use std::alloc::{AllocError, Global};
 
@@ -26,9 +26,9 @@ pub fn edit_of(alloc: Global, words: &[TagWord]) -> Result<Edit, AllocError>
 fn good_edit(alloc: Global, words: &[TagWord]) -> Result<Edit, AllocError>
     ensures { IfOk result (λ edit. edit_view edit ≡ said_edit words.now) }
 {
-    let add = tags_of(alloc, words, Deed::Add)?;
-    let remove = tags_of(alloc, words, Deed::Remove)?;
-    let set = tags_of(alloc, words, Deed::Set)?;
+    let add = tags_of(alloc, words, TagUse::Add)?;
+    let remove = tags_of(alloc, words, TagUse::Remove)?;
+    let set = tags_of(alloc, words, TagUse::Set)?;
     let replace = if sets(words) { Some(set) } else { None };
     Ok(Edit {
         replace,
@@ -61,7 +61,7 @@ fn are_bad(words: &[TagWord]) -> bool
 }
 
 /// The tags of the words that do this with theirs, in their order. The empty text is none to set.
-fn tags_of(alloc: Global, words: &[TagWord], deed: Deed) -> Result<Vec<String>, AllocError>
+fn tags_of(alloc: Global, words: &[TagWord], deed: TagUse) -> Result<Vec<String>, AllocError>
     ensures { IfOk result (λ tags. map string_bytes tags.items ≡ filter_map (tag_by deed) words.now) }
 {
     let mut tags = Vec::new(alloc);

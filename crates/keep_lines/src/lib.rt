@@ -21,7 +21,7 @@ mod word;
 mod word_list;
 
 pub use answer_lines::{
-    Armed, Compared, Counts, EventLine, FileLine, Found, FoundCount, Noted, RestoredCounts,
+    Armed, Compared, Counts, EventLine, FileLine, FindingLine, FoundCount, Noted, RestoredCounts,
     RestoredFile, TotalLine,
 };
 pub use backup_line::BackupLine;
@@ -38,4 +38,4 @@ pub use reply_lines::{Accepted, BadLine, Committed, Refused, Sizes, TakenNumbers
 pub use revision::Revision;
 pub use rewrite_line::RewriteLine;
 pub use tag_line::{TagLine, TagWord};
-pub use word::{Target, print_hex};
+pub use word::{MeantFile, print_hex};

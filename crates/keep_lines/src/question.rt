@@ -2,7 +2,7 @@ ghost use Rattle.std.specs.Prelude.{◌≡◌, ◌≢◌, IfNone, IfSome, codes}
 ghost use Rattle.keep_names.specs.Parses.{Parses};
 ghost use Rattle.keep_lines.specs.Question.{IsQuestion, question_text};
 
-use crate::word::{Target, is_name, parse_target};
+use crate::word::{MeantFile, is_name, parse_target};
 
 /// What a line asks to be told. Nothing changes for it.
 #[derive(Clone, Copy, PartialEq, Eq)]
@@ -12,7 +12,7 @@ pub enum Question<'a> {
     History,
     /// Whether the repository is as it was when the note of this name was taken.
     Same(&'a str),
-    Restore(Target),
+    Restore(MeantFile),
     Audit,
     Totals,
 }

@@ -2,7 +2,7 @@ ghost use Rattle.std.specs.Prelude.{IfOk};
 ghost use Rattle.keep_names.specs.Parses.{Parses};
 ghost use Rattle.keep_lines.specs.RawFile.{IsRawFile, raw_file_text};
 
-use crate::word::{Target, parse_hex, parse_target};
+use crate::word::{MeantFile, parse_hex, parse_target};
 use keep_names::{Kind, parse_kind};
 use std::alloc::{AllocError, Global};
 
@@ -10,7 +10,7 @@ use std::alloc::{AllocError, Global};
 #[derive(Drop)]
 pub enum RawFile {
     Add { kind: Kind, bytes: Vec<u8> },
-    Drop { kind: Kind, target: Target },
+    Drop { kind: Kind, target: MeantFile },
 }
 
 /// The file that the line adds or drops.

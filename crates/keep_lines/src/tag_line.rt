@@ -24,7 +24,7 @@ pub enum TagWord {
 
 /// What a word does with its tag.
 #[derive(Clone, Copy)]
-pub(crate) enum Deed {
+pub(crate) enum TagUse {
     Add,
     Remove,
     Set,
@@ -34,13 +34,13 @@ impl TagWord {
     ghost use Rattle.keep_lines.specs.Edits.{tag_by};
 
     /// The tag of the word, if it does this with it. The empty text is none to set.
-    pub(crate) fn tag_for(&self, deed: Deed) -> Option<&String>
+    pub(crate) fn tag_for(&self, deed: TagUse) -> Option<&String>
         ensures { option_map (λ tag. string_bytes tag.now) result ≡ tag_by deed self.now }
     {
         match (deed, self) {
-            (Deed::Add, TagWord::Add(tag)) => Some(tag),
-            (Deed::Remove, TagWord::Remove(tag)) => Some(tag),
-            (Deed::Set, TagWord::Set(tag)) if !tag.is_empty() => Some(tag),
+            (TagUse::Add, TagWord::Add(tag)) => Some(tag),
+            (TagUse::Remove, TagWord::Remove(tag)) => Some(tag),
+            (TagUse::Set, TagWord::Set(tag)) if !tag.is_empty() => Some(tag),
             _ => None,
         }
     }

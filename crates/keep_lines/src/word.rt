@@ -8,7 +8,7 @@ use std::alloc::{AllocError, Global};
 
 /// Which file a line means: one by its name, or the one that a change added.
 #[derive(Clone, Copy, PartialEq, Eq)]
-pub enum Target {
+pub enum MeantFile {
     Named(Id),
     AddedBy(u64),
 }
@@ -53,17 +53,17 @@ pub fn print_hex(alloc: Global, bytes: &[u8]) -> Result<String, AllocError>
 }
 
 /// A file by its 64 digits, or `@` and the number of the change that added it.
-pub(crate) fn parse_target(word: &str) -> Option<Target>
+pub(crate) fn parse_target(word: &str) -> Option<MeantFile>
     ensures { Parses IsTarget target_text word.now result }
 {
     match word.strip_prefix('@') {
         Some(number) => {
             let number = parse_number(number)?;
-            Some(Target::AddedBy(number))
+            Some(MeantFile::AddedBy(number))
         }
         None => {
             let id = parse_id(word).ok()?;
-            Some(Target::Named(id))
+            Some(MeantFile::Named(id))
         }
     }
 }

@@ -3,7 +3,7 @@ use crate::pair_words;
 use crate::state::State;
 use keep_names::Id;
 use keep_nodes::{
-    Difference, Entry, Lengths, differences, matched, node_at, nodes_below, nodes_of, piece,
+    Difference, Lengths, PathNode, differences, matched, node_at, nodes_below, nodes_of, piece,
     whole_nodes_of,
 };
 use keep_read::RestoreError;
@@ -34,7 +34,10 @@ pub(crate) fn answer(state: &State, verb: &str, rest: &str, out: &mut String) ->
 }
 
 /// Writes the nodes, or why they can't be told.
-fn show_all(nodes: Result<Vec<Entry>, RestoreError>, out: &mut String) -> Result<(), AllocError> {
+fn show_all(
+    nodes: Result<Vec<PathNode>, RestoreError>,
+    out: &mut String,
+) -> Result<(), AllocError> {
     match nodes {
         Ok(entries) => {
             for entry in &entries {
@@ -47,7 +50,7 @@ fn show_all(nodes: Result<Vec<Entry>, RestoreError>, out: &mut String) -> Result
 }
 
 /// Writes a node behind this word.
-fn show(word: &str, entry: &Entry, out: &mut String) -> Result<(), AllocError> {
+fn show(word: &str, entry: &PathNode, out: &mut String) -> Result<(), AllocError> {
     let members = entry.node.others.len();
     let path = entry.path.as_str();
     match &entry.node.kind {
@@ -71,7 +74,7 @@ fn show_piece(state: &State, id: Id, out: &mut String) -> Result<(), AllocError>
 }
 
 /// The nodes of the snapshot of this id.
-fn listed(state: &State, id: &str) -> Result<Vec<Entry>, Stop> {
+fn listed(state: &State, id: &str) -> Result<Vec<PathNode>, Stop> {
     nodes_of(state.alloc, &state.view(), pair_words::id(id)?).map_err(|_| Stop::NoLine)
 }
 

@@ -4,7 +4,7 @@ use Rattle.std.specs.List.{list_any}
 use Rattle.std.specs.Option.{option_map_or}
 use Rattle.std.specs.Str.{bytes_eq}
 use Rattle.keep_named.specs.Rows.{RowData, row_view}
-use Rattle.keep_named.specs.declared.listed_snapshot.SnapshotRow.{SnapshotRow}
+use Rattle.keep_named.specs.declared.listed_snapshot.ListedSnapshot.{ListedSnapshot}
 use Rattle.keep_words.specs.Read.{text_of}
 use Rattle.keep_words.specs.declared.command.Chosen.{Chosen}
 
@@ -22,10 +22,10 @@ is_chosen chosen row =
     is_of_host (text_of chosen.host) row && has (text_of chosen.tag) row.snap.tags && has (text_of chosen.path) row.snap.paths
 
 -- the last so many, or all
-abbrev pub last_of : Option ℕ → List SnapshotRow → List SnapshotRow
+abbrev pub last_of : Option ℕ → List ListedSnapshot → List ListedSnapshot
 last_of None rows = rows
 last_of (Some count) rows = drop (length rows - count) rows
 
 -- the rows that are asked for, in their order
-abbrev pub chosen_of : Chosen → Option ℕ → List SnapshotRow → List SnapshotRow
+abbrev pub chosen_of : Chosen → Option ℕ → List ListedSnapshot → List ListedSnapshot
 chosen_of chosen latest rows = last_of latest (filter (λ row. is_chosen chosen (row_view row)) rows)

@@ -9,7 +9,7 @@ use Rattle.keep_journal.specs.Journal.{Journal}
 use Rattle.keep_tree.specs.Parsing.{PatternData}
 use Rattle.keep_nodes.specs.Choosing.{matched}
 use Rattle.keep_nodes.specs.Entries.{EntryData}
-use Rattle.keep_named.specs.declared.listed_snapshot.SnapshotRow.{SnapshotRow}
+use Rattle.keep_named.specs.declared.listed_snapshot.ListedSnapshot.{ListedSnapshot}
 use Rattle.keep_tables.specs.declared.table.Side.{Side}
 use Rattle.keep_tables.specs.declared.table.Side.TheVariants.{Left}
 use Rattle.keep_rows.specs.Values.{short_id}
@@ -55,11 +55,11 @@ paths_in pattern snapshot entries = map (path_of snapshot) (matched (pattern ∷
 abbrev pub paths_of : Repository → PatternData → Id → List PathData
 paths_of r pattern snapshot = paths_in pattern snapshot (nodes_had r snapshot)
 
-abbrev pub AreRowsFound : Repository → PatternData → List SnapshotRow → FoundPaths → Type 0
+abbrev pub AreRowsFound : Repository → PatternData → List ListedSnapshot → FoundPaths → Type 0
 AreRowsFound r pattern rows found =
-    (map path_data found.rows.items ≡ flat_map (λ (row : SnapshotRow). paths_of r pattern row.id) rows)
-    × (found.unlisted.items ≡ flat_map (λ (row : SnapshotRow). unlisted_of r row.id) rows)
+    (map path_data found.rows.items ≡ flat_map (λ (row : ListedSnapshot). paths_of r pattern row.id) rows)
+    × (found.unlisted.items ≡ flat_map (λ (row : ListedSnapshot). unlisted_of r row.id) rows)
 
 -- What the pattern matches in each snapshot that can be read, the earlier ones first; and those that can't be listed.
 abbrev pub AreFound : Journal → Repository → PatternData → FoundPaths → Type 0
-AreFound j r pattern found = (rows : List SnapshotRow) × AreListed j r rows × AreRowsFound r pattern rows found
+AreFound j r pattern found = (rows : List ListedSnapshot) × AreListed j r rows × AreRowsFound r pattern rows found

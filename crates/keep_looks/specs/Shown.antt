@@ -15,11 +15,11 @@ use Rattle.keep_named.specs.Meaning.{named_due}
 use Rattle.keep_named.specs.Rows.{RowData, moment_cmp, row_view, rows_in}
 use Rattle.keep_named.specs.declared.named_error.NamedError.{NamedError}
 use Rattle.keep_named.specs.declared.named_error.NamedError.TheVariants.{Memory}
-use Rattle.keep_named.specs.declared.listed_snapshot.SnapshotRow as listed
+use Rattle.keep_named.specs.declared.listed_snapshot.ListedSnapshot as listed
 use Rattle.keep_rows.specs.declared.snapshot.SnapshotRow.{SnapshotRow}
 use Rattle.keep_words.specs.declared.command.Chosen.{Chosen}
 use Rattle.keep_looks.specs.Chosen.{chosen_of}
-use Rattle.keep_looks.specs.declared.shown_snapshots.Shown.{Shown}
+use Rattle.keep_looks.specs.declared.shown_snapshots.ShownSnapshots.{ShownSnapshots}
 use Rattle.keep_looks.specs.declared.unlisted.Unlisted.{Unlisted}
 
 -- what a row says of a snapshot, but for the clock of the zone
@@ -88,21 +88,21 @@ abbrev pub row_due : Repository → RowData → ShownData
 row_due r row = row_with (tally_of r (nodes_had r row.id)) row
 
 -- The snapshots that can be read, by the instants of their times, then by name.
-abbrev pub AreListed : Journal → Repository → List listed.SnapshotRow → Type 0
+abbrev pub AreListed : Journal → Repository → List listed.ListedSnapshot → Type 0
 AreListed j r rows = IsSortedByKey row_view moment_cmp rows × IsPermutation (rows_in j r) (map row_view rows)
 
 -- Of these rows those that are asked for are shown, and those of them that can't be listed are named.
-abbrev pub AreRowsShown : Repository → List listed.SnapshotRow → Shown → Type 0
+abbrev pub AreRowsShown : Repository → List listed.ListedSnapshot → ShownSnapshots → Type 0
 AreRowsShown r rows shown =
     (map row_data shown.rows.items ≡ map (row_due r) (map row_view rows))
-    × (shown.unlisted.items ≡ flat_map (λ (row : listed.SnapshotRow). unlisted_of r row.id) rows)
+    × (shown.unlisted.items ≡ flat_map (λ (row : listed.ListedSnapshot). unlisted_of r row.id) rows)
 
 -- Of the snapshots that can be read those that are asked for are shown.
-abbrev pub AreShown : Journal → Repository → Chosen → Option ℕ → Shown → Type 0
+abbrev pub AreShown : Journal → Repository → Chosen → Option ℕ → ShownSnapshots → Type 0
 AreShown j r chosen latest shown =
-    (rows : List listed.SnapshotRow) × AreListed j r rows × AreRowsShown r (chosen_of chosen latest rows) shown
+    (rows : List listed.ListedSnapshot) × AreListed j r rows × AreRowsShown r (chosen_of chosen latest rows) shown
 
 -- What a text names, of the snapshots that can be read; want of memory may come in its place.
 abbrev pub IsNamed : Journal → Repository → List ℕ → Result Id NamedError → Type 0
 IsNamed j r text result =
-    (result ≡ Err Memory) ⊎ ((rows : List listed.SnapshotRow) × AreListed j r rows × (named_due r j rows text ≡ result))
+    (result ≡ Err Memory) ⊎ ((rows : List listed.ListedSnapshot) × AreListed j r rows × (named_due r j rows text ≡ result))

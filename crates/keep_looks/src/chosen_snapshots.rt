@@ -5,7 +5,7 @@ ghost use Rattle.keep_named.specs.Rows.{row_view};
 ghost use Rattle.keep_words.specs.Read.{text_of};
 ghost use Rattle.keep_looks.specs.Chosen as spec;
 
-use keep_named::SnapshotRow;
+use keep_named::ListedSnapshot;
 use keep_words::Chosen;
 use std::alloc::{AllocError, Global};
 
@@ -13,10 +13,10 @@ use std::alloc::{AllocError, Global};
 /// A snapshot without a host has the empty one.
 pub fn chosen_of<'a>(
     alloc: Global,
-    rows: &[SnapshotRow<'a>],
+    rows: &[ListedSnapshot<'a>],
     chosen: &Chosen<'_>,
     latest: Option<u32>,
-) -> Result<Vec<SnapshotRow<'a>>, AllocError>
+) -> Result<Vec<ListedSnapshot<'a>>, AllocError>
     ensures { IfOk result (λ found. found.items ≡ spec.chosen_of chosen.now latest rows.now) }
 {
     let mut found = Vec::new(alloc);
@@ -32,9 +32,9 @@ pub fn chosen_of<'a>(
 /// The last so many, or all.
 fn last_of<'a>(
     alloc: Global,
-    rows: &[SnapshotRow<'a>],
+    rows: &[ListedSnapshot<'a>],
     latest: Option<u32>,
-) -> Result<Vec<SnapshotRow<'a>>, AllocError>
+) -> Result<Vec<ListedSnapshot<'a>>, AllocError>
     ensures { IfOk result (λ found. found.items ≡ spec.last_of latest rows.now) }
 {
     match latest {
@@ -46,7 +46,7 @@ fn last_of<'a>(
     }
 }
 
-fn is_chosen(chosen: &Chosen<'_>, row: &SnapshotRow<'_>) -> bool
+fn is_chosen(chosen: &Chosen<'_>, row: &ListedSnapshot<'_>) -> bool
     ensures { result ≡ spec.is_chosen chosen.now (row_view row.now) }
 {
     is_of_host(chosen.host, row)
@@ -54,7 +54,7 @@ fn is_chosen(chosen: &Chosen<'_>, row: &SnapshotRow<'_>) -> bool
         && has(chosen.path, &row.snap.paths)
 }
 
-fn is_of_host(host: Option<&str>, row: &SnapshotRow<'_>) -> bool
+fn is_of_host(host: Option<&str>, row: &ListedSnapshot<'_>) -> bool
     ensures { result ≡ spec.is_of_host (text_of host.entry) (row_view row.now) }
 {
     match host {

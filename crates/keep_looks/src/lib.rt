@@ -21,6 +21,6 @@ pub use found_row::FoundRow;
 pub use nodes::node_rows;
 pub use one_snapshot::snapshot_named;
 pub use path_rows::{FoundPaths, found_rows};
-pub use shown_snapshots::{Shown, snapshot_rows};
+pub use shown_snapshots::{ShownSnapshots, snapshot_rows};
 pub use unlisted::Unlisted;
 pub use zone::MachineZone;

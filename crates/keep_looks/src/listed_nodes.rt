@@ -7,7 +7,7 @@ ghost use Rattle.keep_looks.specs.Shown.{nodes_had, unlisted_of};
 use crate::unlisted::Unlisted;
 use keep_catalog::ReachError;
 use keep_names::Id;
-use keep_nodes::{Entry, nodes_of};
+use keep_nodes::{PathNode, nodes_of};
 use keep_read::RestoreError;
 use keep_view::View;
 use std::alloc::{AllocError, Global};
@@ -18,7 +18,7 @@ pub(crate) fn nodes_or_none(
     view: &View,
     snapshot: Id,
     unlisted: &mut Vec<Unlisted>,
-) -> Result<Vec<Entry>, AllocError>
+) -> Result<Vec<PathNode>, AllocError>
     ensures nodes { IfOk result (λ entries. map entry_view entries.items ≡ nodes_had view.now.repo snapshot) }
     ensures unlisted { OnOk result (unlisted.new.items ≡ unlisted.old.items ++ unlisted_of view.now.repo snapshot) }
 {

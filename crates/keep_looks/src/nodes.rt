@@ -10,9 +10,9 @@ ghost use Rattle.keep_words.specs.Read.{text_of};
 ghost use Rattle.keep_looks.specs.Nodes.{mode_due, moment_at, node_due, node_rows_due, node_shown, nodes_shown, owner_due, second_of, size_due};
 
 use crate::MachineZone;
-use keep_members::{Found, Stamp, members_in};
+use keep_members::{FoundMembers, Stamp, members_in};
 use keep_names::Id;
-use keep_nodes::{Entry, Lengths, nodes_below, nodes_of};
+use keep_nodes::{Lengths, PathNode, nodes_below, nodes_of};
 use keep_read::RestoreError;
 use keep_rows::{NodeRow, When};
 use keep_tree::NodeKind;
@@ -43,7 +43,7 @@ pub fn node_rows(
 
 fn rows_below(
     alloc: Global,
-    entries: &[Entry],
+    entries: &[PathNode],
     path: &str,
     lengths: &mut Lengths<'_>,
     zone: &MachineZone,
@@ -62,7 +62,7 @@ fn rows_below(
 
 fn row_of(
     alloc: Global,
-    entry: &Entry,
+    entry: &PathNode,
     lengths: &mut Lengths<'_>,
     zone: &MachineZone,
 ) -> Result<NodeRow, AllocError>
@@ -99,7 +99,7 @@ fn bare_mode(kind: &NodeKind) -> u32
     }
 }
 
-fn owner_of(alloc: Global, found: &Found) -> Result<String, AllocError>
+fn owner_of(alloc: Global, found: &FoundMembers) -> Result<String, AllocError>
     ensures { IfOk result (λ owner. string_bytes owner ≡ owner_due (text_view found.now.user) found.now.uid) }
 {
     match (&found.user, found.uid) {
@@ -111,7 +111,7 @@ fn owner_of(alloc: Global, found: &Found) -> Result<String, AllocError>
 
 /// How many bytes a file says that it has, or else its pieces have.
 fn size_of(
-    entry: &Entry,
+    entry: &PathNode,
     said: Option<u64>,
     lengths: &mut Lengths<'_>,
 ) -> Result<Option<u64>, AllocError>

@@ -8,9 +8,9 @@ use crate::found_row::FoundRow;
 use crate::listed_nodes::nodes_or_none;
 use crate::unlisted::Unlisted;
 use keep_journal::History;
-use keep_named::{SnapshotRow, snapshots_of};
+use keep_named::{ListedSnapshot, snapshots_of};
 use keep_names::Id;
-use keep_nodes::{Entry, matched};
+use keep_nodes::{PathNode, matched};
 use keep_tree::Pattern;
 use keep_view::View;
 use std::alloc::{AllocError, Global};
@@ -41,7 +41,7 @@ pub fn found_rows(
 fn found_in(
     alloc: Global,
     view: &View,
-    snapshots: &[SnapshotRow<'_>],
+    snapshots: &[ListedSnapshot<'_>],
     pattern: &Pattern,
 ) -> Result<FoundPaths, AllocError>
     ensures { IfOk result (λ found. AreRowsFound view.now.repo (pattern_view pattern.now) snapshots.now found) }
@@ -60,7 +60,7 @@ fn found_in(
 fn add_matched(
     alloc: Global,
     snapshot: Id,
-    entries: &[Entry],
+    entries: &[PathNode],
     pattern: &Pattern,
     rows: &mut Vec<FoundRow>,
 ) -> Result<(), AllocError>
@@ -71,7 +71,7 @@ fn add_matched(
     add_paths(snapshot, &found, rows)
 }
 
-fn add_paths(snapshot: Id, found: &[&Entry], rows: &mut Vec<FoundRow>) -> Result<(), AllocError>
+fn add_paths(snapshot: Id, found: &[&PathNode], rows: &mut Vec<FoundRow>) -> Result<(), AllocError>
     ensures { OnOk result (map path_data rows.new.items ≡ map path_data rows.old.items
         ++ map (path_of snapshot) (map lent_view found.now)) }
 {

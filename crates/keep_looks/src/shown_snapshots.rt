@@ -17,7 +17,7 @@ use std::alloc::{AllocError, Global};
 
 /// The snapshots that are shown, and those of them that can't be listed: their rows have no files and no bytes.
 #[derive(Drop)]
-pub struct Shown {
+pub struct ShownSnapshots {
     pub rows: Vec<SnapshotRow>,
     pub unlisted: Vec<Unlisted>,
 }
@@ -31,7 +31,7 @@ pub fn snapshot_rows(
     chosen: &Chosen<'_>,
     latest: Option<u32>,
     zone: &MachineZone,
-) -> Result<Shown, AllocError>
+) -> Result<ShownSnapshots, AllocError>
     ensures { IfOk result (λ shown. AreShown history.now.journal view.now.repo chosen.now latest shown) }
 {
     let catalog = view.read_past(alloc)?;
@@ -44,10 +44,10 @@ pub fn snapshot_rows(
 fn shown_of(
     alloc: Global,
     view: &View,
-    rows: &[keep_named::SnapshotRow<'_>],
+    rows: &[keep_named::ListedSnapshot<'_>],
     lengths: &mut Lengths<'_>,
     zone: &MachineZone,
-) -> Result<Shown, AllocError>
+) -> Result<ShownSnapshots, AllocError>
     requires { lengths.old ≡ view.now.repo }
     ensures { IfOk result (λ shown. AreRowsShown view.now.repo rows.now shown) }
 {
@@ -59,7 +59,7 @@ fn shown_of(
         let made = row_of(alloc, row, tally, zone)?;
         shown.push(made)?;
     }
-    Ok(Shown {
+    Ok(ShownSnapshots {
         rows: shown,
         unlisted,
     })
@@ -68,7 +68,7 @@ fn shown_of(
 /// The row of a snapshot that has this.
 fn row_of(
     alloc: Global,
-    row: &keep_named::SnapshotRow<'_>,
+    row: &keep_named::ListedSnapshot<'_>,
     tally: Tally,
     zone: &MachineZone,
 ) -> Result<SnapshotRow, AllocError>

@@ -5,7 +5,7 @@ ghost use Rattle.keep_operators.specs.Crewed.{IsCrewed};
 
 use keep_book::Book;
 use keep_chronicle::Opened;
-use keep_operators::{NoCrew, Order, Tally, crew_of};
+use keep_operators::{CrewTally, NoCrew, Order, crew_of};
 use keep_shelf::Shelf;
 use keep_threads::crew_at_desk;
 use std::marker::Brand;
@@ -18,7 +18,7 @@ pub(crate) fn crewed<R, S>(
     rt: &R,
     book: Book<S>,
     order: Order<'_>,
-) -> (Book<S>, Result<Tally, NoCrew>)
+) -> (Book<S>, Result<CrewTally, NoCrew>)
 where
     R: Wait + Threads + Copy + Send + Sync,
     S: Shelf + Send,

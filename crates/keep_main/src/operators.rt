@@ -1,6 +1,6 @@
 use crate::crew_run::crewed;
 use keep_book::Book;
-use keep_command::{Crew, NamedShelf, NoCrew, Order, Tally};
+use keep_command::{Crew, CrewTally, NamedShelf, NoCrew, Order};
 use std::alloc::AllocError;
 use std::marker::PhantomData;
 use std::sync::Wait;
@@ -40,7 +40,7 @@ impl<R: Wait + Threads + Send + Sync> Crew for Operators<R> {
         &self,
         book: Book<NamedShelf<'s>>,
         order: Order<'_>,
-    ) -> (Book<NamedShelf<'s>>, Result<Tally, NoCrew>) {
+    ) -> (Book<NamedShelf<'s>>, Result<CrewTally, NoCrew>) {
         crewed(self, book, order)
     }
 }

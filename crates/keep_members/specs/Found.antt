@@ -5,7 +5,7 @@ use Rattle.serde_json.specs.Find.{as_str}
 use Rattle.keep_docs.specs.Fields.{as_below, as_whole, field}
 use Rattle.keep_members.specs.Members.{MembersData, stamp_view, text_view}
 use Rattle.keep_members.specs.Stamp.{StampData, stamp_in}
-use Rattle.keep_members.specs.declared.found_members.Found.{Found}
+use Rattle.keep_members.specs.declared.found_members.FoundMembers.{FoundMembers}
 
 -- what was found of each: nothing where it is missing or of another shape
 pub record FoundData : Type 0 where
@@ -24,7 +24,7 @@ pub record FoundData : Type 0 where
   pub link_target : Option (List ℕ)
   pub device : Option ℕ
 
-abbrev pub found_view : Found → FoundData
+abbrev pub found_view : FoundMembers → FoundData
 found_view found = record {
   mode = found.mode;
   mtime = option_map stamp_view found.mtime;

@@ -14,7 +14,7 @@ use std::alloc::{AllocError, Global};
 
 /// What the members of a node say, as far as they say it: `None` is a member that is missing or of another shape.
 #[derive(Drop)]
-pub struct Found {
+pub struct FoundMembers {
     /// The bits of Go's os.FileMode.
     pub mode: Option<u32>,
     pub mtime: Option<Stamp>,
@@ -33,13 +33,13 @@ pub struct Found {
 }
 
 /// What the members say that a node carries. A time may be written in any zone; one that no [`Stamp`] can be is `None`.
-pub fn members_in(alloc: Global, carried: &Map<String, Value>) -> Result<Found, AllocError>
+pub fn members_in(alloc: Global, carried: &Map<String, Value>) -> Result<FoundMembers, AllocError>
     ensures { IfOk result (λ found. found_view found ≡ found_in (members_view carried.now.entries)) }
 {
     let user = text_at(alloc, carried, "user")?;
     let group = text_at(alloc, carried, "group")?;
     let link_target = text_at(alloc, carried, "linktarget")?;
-    Ok(Found {
+    Ok(FoundMembers {
         mode: short_at(carried, "mode"),
         mtime: stamp_at(carried, "mtime"),
         atime: stamp_at(carried, "atime"),

@@ -6,12 +6,12 @@ use Rattle.std.specs.declared.string.String.{String}
 use Rattle.keep_files.specs.Act.{Act, Seen, Wrote, Renamed, Removed, Made, Synced}
 use Rattle.keep_files.specs.Stands.{Stands}
 use Rattle.keep_files.specs.declared.node.Node.{Node}
-use Rattle.keep_memory_files.specs.declared.done_act.Deed.{Deed}
-use Rattle.keep_memory_files.specs.declared.done_act.Deed.TheVariants.{Write, Rename, Remove, Make, Sync}
+use Rattle.keep_memory_files.specs.declared.done_act.DoneAct.{DoneAct}
+use Rattle.keep_memory_files.specs.declared.done_act.DoneAct.TheVariants.{Write, Rename, Remove, Make, Sync}
 use Rattle.keep_memory_files.specs.declared.memory.MemoryTree.{MemoryTree}
 
 -- what was done, by the bytes of the paths
-abbrev pub act_of : Deed → Act
+abbrev pub act_of : DoneAct → Act
 act_of (Write path bytes) = Wrote (string_bytes path) bytes
 act_of (Rename from to) = Renamed (string_bytes from) (string_bytes to)
 act_of (Remove path) = Removed (string_bytes path)

@@ -5,7 +5,7 @@ mod acts;
 mod beside;
 mod nodes;
 
-use crate::done_act::Deed;
+use crate::done_act::DoneAct;
 use keep_files::{FileTree, Node, TreeError};
 use keep_log::Log;
 use keep_repo::Bytes;
@@ -19,7 +19,7 @@ use std::collections::BTreeMap;
 pub struct MemoryTree {
     alloc: Global,
     nodes: BTreeMap<String, Node>,
-    deeds: Log<Deed>,
+    deeds: Log<DoneAct>,
     failures: u64,
 }
 
@@ -56,7 +56,7 @@ impl MemoryTree {
     }
 
     /// Notes that this was done.
-    fn note(&mut self, deed: &Deed)
+    fn note(&mut self, deed: &DoneAct)
         ensures { seen_in self.new ≡ noted (seen_in self.old) (act_of deed.now) }
     {
         self.deeds = self.deeds.and(deed);

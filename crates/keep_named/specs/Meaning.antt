@@ -17,7 +17,7 @@ use Rattle.keep_journal.specs.Journal.{Journal}
 use Rattle.keep_catalog.specs.Files.{ids_in}
 use Rattle.keep_named.specs.declared.named_error.NamedError.{NamedError}
 use Rattle.keep_named.specs.declared.named_error.NamedError.TheVariants.{NoneAdded, NoneBegins, NoneLatest, SeveralAdded, SeveralBegin}
-use Rattle.keep_named.specs.declared.listed_snapshot.SnapshotRow.{SnapshotRow}
+use Rattle.keep_named.specs.declared.listed_snapshot.ListedSnapshot.{ListedSnapshot}
 
 -- the one of these, if there is just one
 abbrev pub only : NamedError → NamedError → List Id → Result Id NamedError
@@ -60,8 +60,8 @@ begun_due r text =
     if length text == 0 then Err NoneBegins else only NoneBegins SeveralBegin (begun_by text (ids_in r Snapshot))
 
 -- the last of the rows
-abbrev pub latest_due : List SnapshotRow → Result Id NamedError
-latest_due rows = ok_or (option_map (λ (row : SnapshotRow). row.id) (slice_get rows (length rows - 1))) NoneLatest
+abbrev pub latest_due : List ListedSnapshot → Result Id NamedError
+latest_due rows = ok_or (option_map (λ (row : ListedSnapshot). row.id) (slice_get rows (length rows - 1))) NoneLatest
 
 -- the snapshot that a text means where it isn't `latest`
 abbrev pub other_due : Repository → Journal → List ℕ → Option (List ℕ) → Result Id NamedError
@@ -69,6 +69,6 @@ other_due r j text None = begun_due r text
 other_due r j text (Some digits) = added_due j (number_in digits)
 
 -- `latest` is the last of the rows, `@N` the snapshot that change N added, and else the text begins an id
-abbrev pub named_due : Repository → Journal → List SnapshotRow → List ℕ → Result Id NamedError
+abbrev pub named_due : Repository → Journal → List ListedSnapshot → List ℕ → Result Id NamedError
 named_due r j rows text =
     if bytes_eq text (codes "latest") then latest_due rows else other_due r j text (behind_at text)

@@ -14,7 +14,7 @@ use Rattle.keep_snap.specs.declared.time.Time.{Time}
 use Rattle.keep_journal.specs.Journal.{Journal}
 use Rattle.keep_catalog.specs.Files.{snaps_in}
 use Rattle.keep_named.specs.Adding.{adding}
-use Rattle.keep_named.specs.declared.listed_snapshot.SnapshotRow.{SnapshotRow}
+use Rattle.keep_named.specs.declared.listed_snapshot.ListedSnapshot.{ListedSnapshot}
 
 -- a snapshot's name, the instant of its time, what it says, and the last kept change that adds it
 pub record RowData : Type 0 where
@@ -23,8 +23,8 @@ pub record RowData : Type 0 where
   pub snap : SnapData
   pub change : Option ℕ
 
--- what a `SnapshotRow` says
-abbrev pub row_view : SnapshotRow → RowData
+-- what a `ListedSnapshot` says
+abbrev pub row_view : ListedSnapshot → RowData
 row_view row = record { id = row.id; instant = row.instant; snap = snap_view row.snap.now; change = row.change }
 
 -- a snapshot with its name, without where it lies in memory

@@ -8,7 +8,7 @@ mod named_error;
 mod rows;
 mod snapshot_names;
 
-pub use listed_snapshot::SnapshotRow;
+pub use listed_snapshot::ListedSnapshot;
 pub use named_error::NamedError;
 pub use rows::snapshots_of;
 pub use snapshot_names::named;

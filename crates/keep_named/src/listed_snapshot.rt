@@ -3,7 +3,7 @@ use keep_snap::Snap;
 
 /// A snapshot of a repository, as it is listed.
 #[derive(Clone, Copy)]
-pub struct SnapshotRow<'a> {
+pub struct ListedSnapshot<'a> {
     pub id: Id,
     /// Nanoseconds since 1970-01-01T00:00:00Z.
     pub instant: i128,

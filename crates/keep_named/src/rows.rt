@@ -4,7 +4,7 @@ ghost use Rattle.keep_snap.specs.Snap.{snap_view};
 ghost use Rattle.keep_named.specs.Rows.{moment_cmp, named_view, row_view, rows_in, rows_of};
 
 use crate::adding::adding;
-use crate::listed_snapshot::SnapshotRow;
+use crate::listed_snapshot::ListedSnapshot;
 use keep_catalog::Catalog;
 use keep_journal::History;
 use keep_names::Id;
@@ -19,7 +19,7 @@ pub fn snapshots_of<'a>(
     alloc: Global,
     catalog: &'a Catalog,
     history: &History,
-) -> Result<Vec<SnapshotRow<'a>>, AllocError>
+) -> Result<Vec<ListedSnapshot<'a>>, AllocError>
     ensures sorted { IfOk result (λ rows. IsSortedByKey row_view moment_cmp rows.items) }
     ensures same { IfOk result (λ rows. IsPermutation (rows_in history.now.journal catalog.entry.now)
         (map row_view rows.items)) }
@@ -34,7 +34,7 @@ fn rows_by_name<'a>(
     alloc: Global,
     snaps: &'a BTreeMap<Id, Snap>,
     history: &History,
-) -> Result<Vec<SnapshotRow<'a>>, AllocError>
+) -> Result<Vec<ListedSnapshot<'a>>, AllocError>
     ensures { IfOk result (λ rows. map row_view rows.items
         ≡ rows_of history.now.journal (map named_view snaps.entry.now.entries)) }
 {
@@ -50,13 +50,13 @@ fn add_row<'a>(
     id: Id,
     snap: &'a Snap,
     history: &History,
-    rows: &mut Vec<SnapshotRow<'a>>,
+    rows: &mut Vec<ListedSnapshot<'a>>,
 ) -> Result<(), AllocError>
     ensures { OnOk result (map row_view rows.new.items ≡ map row_view rows.old.items
         ++ rows_of history.now.journal ((id, snap_view snap.entry.now) ∷ [])) }
 {
     if let Some(time) = parse_time(snap.time.as_str()) {
-        rows.push(SnapshotRow {
+        rows.push(ListedSnapshot {
             id,
             instant: time.instant,
             snap,
@@ -67,7 +67,7 @@ fn add_row<'a>(
 }
 
 /// The earlier first, and of those of one instant the lesser name.
-fn compare(left: &SnapshotRow, right: &SnapshotRow) -> Ordering
+fn compare(left: &ListedSnapshot, right: &ListedSnapshot) -> Ordering
     ensures { result ≡ moment_cmp (row_view left.now) (row_view right.now) }
 {
     left.instant

@@ -8,7 +8,7 @@ ghost use Rattle.keep_named.specs.Meaning as spec;
 ghost use Rattle.keep_named.specs.Meaning.{added_due, begun_by, begun_due, latest_due, named_due};
 ghost use Rattle.keep_named.specs.declared.named_error.NamedError.TheVariants.{Memory};
 
-use crate::listed_snapshot::SnapshotRow;
+use crate::listed_snapshot::ListedSnapshot;
 use crate::named_error::NamedError;
 use keep_journal::History;
 use keep_names::{FileName, Id, Kind, print_id};
@@ -21,7 +21,7 @@ pub fn named(
     alloc: Global,
     repo: &Repo,
     history: &History,
-    rows: &[SnapshotRow],
+    rows: &[ListedSnapshot],
     text: &str,
 ) -> Result<Id, NamedError>
     ensures { Answers Memory (λ id. id) (named_due repo.now history.now.journal rows.now text.now) result }
@@ -36,7 +36,7 @@ pub fn named(
 }
 
 /// The last of the rows.
-fn latest(rows: &[SnapshotRow]) -> Result<Id, NamedError>
+fn latest(rows: &[ListedSnapshot]) -> Result<Id, NamedError>
     ensures { result ≡ latest_due rows.now }
 {
     match rows.last() {

@@ -20,19 +20,19 @@ use Rattle.keep_repo.proofs.Maps.{get_made, keys_made, one_put}
 use Rattle.keep_read.specs.Restored.{path_cmp}
 use Rattle.keep_nodes.specs.Choosing.{lent_view}
 use Rattle.keep_nodes.specs.Entries.{EntryData}
-use Rattle.keep_nodes.specs.declared.path_node.Entry.{Entry}
+use Rattle.keep_nodes.specs.declared.path_node.PathNode.{PathNode}
 use Rattle.keep_nodes.specs.Differences.{by_path, difference_at, differences, put_all}
 use Rattle.keep_nodes.specs.Lent.{Lent, key_view, paths_of}
 
-lookup_view : (es : List (String Global × Bor Entry)) (q : List ℕ) → lookup (is_at (path_cmp q)) (map key_view es) ≡ option_map lent_view (lookup (is_at (λ k. slice_cmp nat_cmp q (string_bytes k))) es)
+lookup_view : (es : List (String Global × Bor PathNode)) (q : List ℕ) → lookup (is_at (path_cmp q)) (map key_view es) ≡ option_map lent_view (lookup (is_at (λ k. slice_cmp nat_cmp q (string_bytes k))) es)
 lookup_view [] q = refl
 lookup_view (e ∷ es) q = one (is_eq (slice_cmp nat_cmp q (string_bytes e.0))) _ (lookup (is_at (λ k. slice_cmp nat_cmp q (string_bytes k))) es) (lookup_view es q) where
-  one : (b : Bool) (a : Option EntryData) (c : Option (Bor Entry)) → a ≡ option_map lent_view c → cond b (Some (lent_view e.1)) a ≡ option_map lent_view (cond b (Some e.1) c)
+  one : (b : Bool) (a : Option EntryData) (c : Option (Bor PathNode)) → a ≡ option_map lent_view c → cond b (Some (lent_view e.1)) a ≡ option_map lent_view (cond b (Some e.1) c)
   one true a c h = refl
   one false a c h = h
 
 -- one more entry
-pub one_more : (m n : Lent) (path : String Global) (entry : Bor Entry) → Updates string_cmp m n path (Some entry) → paths_of n ≡ finite.insert (paths_of m) (string_bytes path) (lent_view entry)
+pub one_more : (m n : Lent) (path : String Global) (entry : Bor PathNode) → Updates string_cmp m n path (Some entry) → paths_of n ≡ finite.insert (paths_of m) (string_bytes path) (lent_view entry)
 one_more m n path entry put =
     one_put nat_list_cmp_total (slice_cmp-IsAntisymmetric nat_cmp-IsAntisymmetric) (map key_view m.entries) (map key_view n.entries) (string_bytes path) (lent_view entry) (λ q.
     lookup_view n.entries q ∙ ap (option_map lent_view) (btree_map_updates_text (string_bytes path) m n (Some entry) put q)
@@ -49,18 +49,18 @@ looked_up m q = get_made nat_list_cmp_total (map key_view m.entries) q ∙ looku
 -- ---- the paths in order
 
 -- the path of a key
-abbrev pub path_in : String Global × Bor Entry → List ℕ
+abbrev pub path_in : String Global × Bor PathNode → List ℕ
 path_in e = string_bytes e.0
 
-keys_viewed : (es : List (String Global × Bor Entry)) → keys_of (map key_view es) ≡ map path_in es
+keys_viewed : (es : List (String Global × Bor PathNode)) → keys_of (map key_view es) ≡ map path_in es
 keys_viewed [] = refl
 keys_viewed (e ∷ es) = ap (λ ks. string_bytes e.0 ∷ ks) (keys_viewed es)
 
-above : (k : String Global) (es : List (String Global × Bor Entry)) → AllByRecursion (λ y. string_cmp k y ≡ Less) (keys_of es) → AllByRecursion (λ y. path_cmp (string_bytes k) y ≡ Less) (keys_of (map key_view es))
+above : (k : String Global) (es : List (String Global × Bor PathNode)) → AllByRecursion (λ y. string_cmp k y ≡ Less) (keys_of es) → AllByRecursion (λ y. path_cmp (string_bytes k) y ≡ Less) (keys_of (map key_view es))
 above k [] h = tt
 above k (e ∷ es) h = (h.0, above k es h.1)
 
-sorted : (es : List (String Global × Bor Entry)) → IsStrictlySortedBy string_cmp (keys_of es) → IsStrictlySortedBy path_cmp (keys_of (map key_view es))
+sorted : (es : List (String Global × Bor PathNode)) → IsStrictlySortedBy string_cmp (keys_of es) → IsStrictlySortedBy path_cmp (keys_of (map key_view es))
 unfolding IsStrictlySortedBy
 sorted [] h = tt
 sorted (e ∷ es) h = (above e.0 es h.0, sorted es h.1)

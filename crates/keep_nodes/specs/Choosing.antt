@@ -5,11 +5,11 @@ use Rattle.std.specs.Str.{bytes_eq, chars}
 use Rattle.keep_tree.specs.Parsing.{PatternData, after_slash, before_slash, is_slash}
 use Rattle.keep_tree.specs.Without.{is_matched}
 use Rattle.keep_nodes.specs.Entries.{EntryData, entry_view}
-use Rattle.keep_nodes.specs.declared.path_node.Entry.{Entry}
+use Rattle.keep_nodes.specs.declared.path_node.PathNode.{PathNode}
 use denote.Ref.{Bor}
 
--- what a lent `Entry` says
-abbrev pub lent_view : Bor Entry → EntryData
+-- what a lent `PathNode` says
+abbrev pub lent_view : Bor PathNode → EntryData
 lent_view entry = entry_view entry.now
 
 -- the first node at this path

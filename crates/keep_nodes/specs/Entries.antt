@@ -5,7 +5,7 @@ use Rattle.keep_names.specs.declared.id.Id.{Id}
 use Rattle.keep_repo.specs.Repository.{Repository}
 use Rattle.keep_tree.specs.Tree.{KindData, dir, file, other, NodeData, node_view}
 use Rattle.keep_read.specs.Contents.{nodes_in}
-use Rattle.keep_nodes.specs.declared.path_node.Entry.{Entry}
+use Rattle.keep_nodes.specs.declared.path_node.PathNode.{PathNode}
 
 -- a node at its path: `/` and the names from the root on, joined by `/`
 pub record EntryData : Type 0 where
@@ -16,8 +16,8 @@ pub record EntryData : Type 0 where
 abbrev pub at : List ℕ → NodeData → EntryData
 at path node = record { path = path; node = node }
 
--- what an `Entry` says
-abbrev pub entry_view : Entry → EntryData
+-- what an `PathNode` says
+abbrev pub entry_view : PathNode → EntryData
 entry_view entry = at (string_bytes entry.path) (node_view entry.node)
 
 -- with a path in front

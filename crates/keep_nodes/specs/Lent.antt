@@ -7,7 +7,7 @@ use Rattle.std.specs.declared.alloc.Global.{Global}
 use Rattle.keep_read.specs.Restored.{path_cmp}
 use Rattle.keep_nodes.specs.Choosing.{lent_view}
 use Rattle.keep_nodes.specs.Entries.{EntryData}
-use Rattle.keep_nodes.specs.declared.path_node.Entry.{Entry}
+use Rattle.keep_nodes.specs.declared.path_node.PathNode.{PathNode}
 use Rattle.keep_nodes.specs.Differences.{DifferenceData, added, changed, removed}
 use Rattle.keep_nodes.specs.declared.difference.Difference.{Difference}
 use Rattle.keep_nodes.specs.declared.difference.Difference.TheVariants as the_difference
@@ -20,10 +20,10 @@ difference_view (the_difference.Changed old new) = changed (lent_view old) (lent
 
 -- lent entries by path
 abbrev pub Lent : Type 0
-Lent = BTreeMap (String Global) (Bor Entry)
+Lent = BTreeMap (String Global) (Bor PathNode)
 
 -- a key of the map and what stands at it
-abbrev pub key_view : String Global × Bor Entry → List ℕ × EntryData
+abbrev pub key_view : String Global × Bor PathNode → List ℕ × EntryData
 key_view e = (string_bytes e.0, lent_view e.1)
 
 -- what such a map says

@@ -5,15 +5,15 @@ ghost use Rattle.keep_nodes.specs.Entries.{entry_view};
 ghost use Rattle.keep_nodes.specs.Differences as spec;
 ghost use Rattle.keep_nodes.specs.Lent.{paths_of};
 
-use crate::Entry;
+use crate::PathNode;
 use std::alloc::{AllocError, Global};
 use std::collections::BTreeMap;
 
 /// Nodes by path.
-pub(crate) type ByPath<'a> = BTreeMap<String, &'a Entry>;
+pub(crate) type ByPath<'a> = BTreeMap<String, &'a PathNode>;
 
 /// The nodes by path; of two at one path the later.
-pub(crate) fn by_path<'a>(alloc: Global, entries: &'a [Entry]) -> Result<ByPath<'a>, AllocError>
+pub(crate) fn by_path<'a>(alloc: Global, entries: &'a [PathNode]) -> Result<ByPath<'a>, AllocError>
     ensures { IfOk result (λ nodes. paths_of nodes ≡ spec.by_path (map entry_view entries.entry.now)) }
 {
     let mut nodes = BTreeMap::new(alloc);
@@ -22,7 +22,7 @@ pub(crate) fn by_path<'a>(alloc: Global, entries: &'a [Entry]) -> Result<ByPath<
 }
 
 /// Puts these nodes there, one after the other.
-pub(crate) fn put_all<'a>(nodes: &mut ByPath<'a>, entries: &'a [Entry]) -> Result<(), AllocError>
+pub(crate) fn put_all<'a>(nodes: &mut ByPath<'a>, entries: &'a [PathNode]) -> Result<(), AllocError>
     ensures { OnOk result (paths_of nodes.new
         ≡ spec.put_all (paths_of nodes.old) (map entry_view entries.entry.now)) }
 {
@@ -33,7 +33,7 @@ pub(crate) fn put_all<'a>(nodes: &mut ByPath<'a>, entries: &'a [Entry]) -> Resul
 }
 
 /// Puts the node there.
-fn put<'a>(nodes: &mut ByPath<'a>, entry: &'a Entry) -> Result<(), AllocError>
+fn put<'a>(nodes: &mut ByPath<'a>, entry: &'a PathNode) -> Result<(), AllocError>
     ensures { OnOk result (paths_of nodes.new
         ≡ finite.insert (paths_of nodes.old) (lent_view entry.entry).path (lent_view entry.entry)) }
 {
@@ -43,7 +43,7 @@ fn put<'a>(nodes: &mut ByPath<'a>, entry: &'a Entry) -> Result<(), AllocError>
 }
 
 /// The node at this path.
-pub(crate) fn node_at<'a>(nodes: &ByPath<'a>, path: &str) -> Option<&'a Entry>
+pub(crate) fn node_at<'a>(nodes: &ByPath<'a>, path: &str) -> Option<&'a PathNode>
     ensures { option_map lent_view result ≡ finite.get (paths_of nodes.now) path.now }
 {
     nodes.get(path).copied()

@@ -8,12 +8,12 @@ ghost use Rattle.keep_nodes.specs.Choosing as spec;
 ghost use Rattle.keep_nodes.specs.Choosing.{lent_view, names_in};
 ghost use Rattle.keep_nodes.specs.Entries.{entry_view};
 
-use crate::path_node::Entry;
+use crate::path_node::PathNode;
 use keep_tree::{Letters, Pattern, letters_of, matches_path};
 use std::alloc::{AllocError, Global};
 
 /// The node at just this path. Two nodes of a snapshot have two paths.
-pub fn node_at<'a>(entries: &'a [Entry], path: &str) -> Option<&'a Entry>
+pub fn node_at<'a>(entries: &'a [PathNode], path: &str) -> Option<&'a PathNode>
     ensures { option_map lent_view result ≡ spec.node_at path.now (map entry_view entries.entry.now) }
 {
     for entry in entries {
@@ -28,9 +28,9 @@ pub fn node_at<'a>(entries: &'a [Entry], path: &str) -> Option<&'a Entry>
 /// `/` or the empty text: it has no node of its own, and all are below it.
 pub fn nodes_below<'a>(
     alloc: Global,
-    entries: &'a [Entry],
+    entries: &'a [PathNode],
     path: &str,
-) -> Result<Vec<&'a Entry>, AllocError>
+) -> Result<Vec<&'a PathNode>, AllocError>
     ensures { IfOk result (λ found. map lent_view found.items
         ≡ spec.nodes_below path.now (map entry_view entries.entry.now)) }
 {
@@ -50,9 +50,9 @@ pub fn nodes_below<'a>(
 /// along, unless that is matched too.
 pub fn matched<'a>(
     alloc: Global,
-    entries: &'a [Entry],
+    entries: &'a [PathNode],
     patterns: &[Pattern],
-) -> Result<Vec<&'a Entry>, AllocError>
+) -> Result<Vec<&'a PathNode>, AllocError>
     ensures { IfOk result (λ found. map lent_view found.items
         ≡ spec.matched (map pattern_view patterns.now) (map entry_view entries.entry.now)) }
 {

@@ -9,7 +9,7 @@ ghost use Rattle.keep_reach.specs.Reach.{first_of, refusal_at};
 ghost use Rattle.keep_nodes.specs.Entries.{at, entry_view, entries_at, entries_of, under};
 ghost use Rattle.keep_nodes.specs.Listed.{listed_from, tree_of, tree_refusal, trees_by};
 
-use crate::path_node::Entry;
+use crate::path_node::PathNode;
 use keep_catalog::{Catalog, ReachError};
 use keep_names::Id;
 use keep_reach::levels;
@@ -28,7 +28,7 @@ pub(crate) fn entries_below(
     alloc: Global,
     catalog: &Catalog,
     tree: Id,
-) -> Result<Vec<Entry>, ReachError>
+) -> Result<Vec<PathNode>, ReachError>
     ensures { Answers the_error.Memory (λ entries. map entry_view entries.items)
         (listed_from catalog.now tree (tree_refusal catalog.now tree)) result }
 {
@@ -46,7 +46,7 @@ impl Walk<'_> {
         levels: u16,
         path: &str,
         tree: Id,
-        entries: &mut Vec<Entry>,
+        entries: &mut Vec<PathNode>,
     ) -> Result<(), ReachError>
         ensures added { OnOk result (map entry_view entries.new.items
             ≡ map entry_view entries.old.items
@@ -72,7 +72,7 @@ impl Walk<'_> {
         levels: u16,
         path: &str,
         node: Node,
-        entries: &mut Vec<Entry>,
+        entries: &mut Vec<PathNode>,
     ) -> Result<(), ReachError>
         requires { has_float (tree_data (node_view node ∷ [])) ≡ false }
         ensures added { OnOk result (map entry_view entries.new.items
@@ -104,11 +104,11 @@ fn path_below(alloc: Global, path: &str, name: &str) -> Result<String, AllocErro
 }
 
 /// Adds a node at its path.
-fn add(entries: &mut Vec<Entry>, path: String, node: Node) -> Result<(), AllocError>
+fn add(entries: &mut Vec<PathNode>, path: String, node: Node) -> Result<(), AllocError>
     requires { has_float (tree_data (node_view node ∷ [])) ≡ false }
     ensures { OnOk result (map entry_view entries.new.items
         ≡ map entry_view entries.old.items ++ at (string_bytes path) (node_view node) ∷ []) }
 {
-    entries.push(Entry { path, node })?;
+    entries.push(PathNode { path, node })?;
     Ok(())
 }

@@ -3,7 +3,7 @@ ghost use Rattle.keep_names.specs.declared.id.Id as the_id;
 ghost use Rattle.keep_nodes.specs.Entries.{entry_view};
 ghost use Rattle.keep_nodes.specs.Tallies.{tally_of};
 
-use crate::Entry;
+use crate::PathNode;
 use crate::tally::{Tally, tally_with};
 use keep_catalog::Catalog;
 use keep_names::Id;
@@ -44,7 +44,7 @@ impl<'a> Lengths<'a> {
 
     /// How many nodes there are of each kind, and how many bytes the files have. A piece that wasn't looked up before is
     /// hashed, unless the repository hashed it.
-    pub fn tally(&mut self, entries: &[Entry]) -> Result<Tally, AllocError>
+    pub fn tally(&mut self, entries: &[PathNode]) -> Result<Tally, AllocError>
         ensures same { self.new ≡ self.old }
         ensures tally { IfOk result (λ tally. tally ≡ tally_of self.old (map entry_view entries.now)) }
     {

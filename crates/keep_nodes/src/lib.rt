@@ -23,6 +23,6 @@ pub use lengths::Lengths;
 pub use listing::{nodes_of, whole_nodes_of};
 pub use node_differences::differences;
 pub use node_law::nodes_that_are_written_alike_are_one;
-pub use path_node::Entry;
+pub use path_node::PathNode;
 pub use pieces::piece;
 pub use tally::Tally;

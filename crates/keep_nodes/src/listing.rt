@@ -8,7 +8,7 @@ ghost use Rattle.keep_nodes.specs.Entries.{entry_view};
 ghost use Rattle.keep_nodes.specs.Listed.{nodes_due, whole_nodes_due};
 
 use crate::entry_walk::entries_below;
-use crate::path_node::Entry;
+use crate::path_node::PathNode;
 use crate::root::root;
 use keep_names::{FileName, Id};
 use keep_reach::reach;
@@ -21,7 +21,7 @@ use std::alloc::Global;
 /// trees. Other files that can't be read have and list nothing.
 ///
 /// Trees alone are read and hashed. So a snapshot that lacks pieces of files has its nodes all the same.
-pub fn nodes_of(alloc: Global, view: &View, snapshot: Id) -> Result<Vec<Entry>, RestoreError>
+pub fn nodes_of(alloc: Global, view: &View, snapshot: Id) -> Result<Vec<PathNode>, RestoreError>
     ensures none { is_filled view.now.repo (snapshot_facet snapshot) ≡ false → result ≡ Err NoSnapshot }
     ensures nodes { Answers (Reach Memory) (λ entries. map entry_view entries.items)
         (nodes_due view.now.repo snapshot) result }
@@ -38,7 +38,11 @@ pub fn nodes_of(alloc: Global, view: &View, snapshot: Id) -> Result<Vec<Entry>, 
 
 /// The nodes that `nodes_of` gives, if the snapshot can be restored whole: each piece of its files is looked for and
 /// hashed too, and what is missing refuses it, as it refuses a restore.
-pub fn whole_nodes_of(alloc: Global, view: &View, snapshot: Id) -> Result<Vec<Entry>, RestoreError>
+pub fn whole_nodes_of(
+    alloc: Global,
+    view: &View,
+    snapshot: Id,
+) -> Result<Vec<PathNode>, RestoreError>
     ensures none { is_filled view.now.repo (snapshot_facet snapshot) ≡ false → result ≡ Err NoSnapshot }
     ensures nodes { Answers (Reach Memory) (λ entries. map entry_view entries.items)
         (whole_nodes_due view.now.repo snapshot) result }

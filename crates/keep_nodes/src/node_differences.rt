@@ -8,7 +8,7 @@ ghost use Rattle.keep_nodes.specs.Differences as spec;
 ghost use Rattle.keep_nodes.specs.Differences.{difference_at, node_text};
 ghost use Rattle.keep_nodes.specs.Lent.{difference_view, paths_of};
 
-use crate::Entry;
+use crate::PathNode;
 use crate::by_path::{ByPath, by_path, node_at, put_all};
 use crate::difference::Difference;
 use keep_tree::{Tree, without, write_tree};
@@ -19,8 +19,8 @@ use std::slice;
 /// Two nodes at one path differ where a tree writes them otherwise.
 pub fn differences<'a>(
     alloc: Global,
-    old: &'a [Entry],
-    new: &'a [Entry],
+    old: &'a [PathNode],
+    new: &'a [PathNode],
 ) -> Result<Vec<Difference<'a>>, AllocError>
     ensures { IfOk result (λ found. map difference_view found.items
         ≡ spec.differences (map entry_view old.entry.now) (map entry_view new.entry.now)) }
@@ -70,8 +70,8 @@ fn add_difference<'a>(
 /// How what stood at a path differs from what stands there.
 fn difference<'a>(
     alloc: Global,
-    old: Option<&'a Entry>,
-    new: Option<&'a Entry>,
+    old: Option<&'a PathNode>,
+    new: Option<&'a PathNode>,
 ) -> Result<Option<Difference<'a>>, AllocError>
     ensures { IfOk result (λ found. option_map difference_view found
         ≡ spec.difference (option_map lent_view old.entry) (option_map lent_view new.entry)) }
@@ -93,7 +93,7 @@ fn difference<'a>(
 }
 
 /// Whether a tree writes the two nodes alike.
-fn is_same(alloc: Global, old: &Entry, new: &Entry) -> Result<bool, AllocError>
+fn is_same(alloc: Global, old: &PathNode, new: &PathNode) -> Result<bool, AllocError>
     ensures { IfOk result (λ same. same ≡ spec.is_same (node_view old.now.node) (node_view new.now.node)) }
 {
     let old = text_of(alloc, old)?;
@@ -102,7 +102,7 @@ fn is_same(alloc: Global, old: &Entry, new: &Entry) -> Result<bool, AllocError>
 }
 
 /// The node as a tree of it alone is written.
-fn text_of(alloc: Global, entry: &Entry) -> Result<Vec<u8>, AllocError>
+fn text_of(alloc: Global, entry: &PathNode) -> Result<Vec<u8>, AllocError>
     ensures { IfOk result (λ text. text.items ≡ node_text (node_view entry.now.node)) }
 {
     let nodes = without(alloc, slice::from_ref(&entry.node), &[], &[])?;

@@ -7,7 +7,7 @@ use keep_tree::Node;
 
 /// A node of a snapshot at its path. Entries are made of trees that were read.
 #[derive(Drop)]
-pub struct Entry {
+pub struct PathNode {
     /// `/` and the names from the root on, joined by `/`.
     pub path: String,
     pub node: Node,

@@ -5,7 +5,7 @@ ghost use Rattle.keep_nodes.specs.Lengths.{AreLengths, piece_length};
 ghost use Rattle.keep_nodes.specs.Tallies as spec;
 ghost use Rattle.keep_nodes.specs.Tallies.{at_most, bytes_of, content_length, kind_length, tally_of};
 
-use crate::Entry;
+use crate::PathNode;
 use keep_catalog::Catalog;
 use keep_names::{BlobId, Id};
 use keep_tree::NodeKind;
@@ -26,7 +26,7 @@ pub struct Tally {
 /// The tally of these nodes, by the lengths that are known and those that become so.
 pub(crate) fn tally_with(
     catalog: &Catalog,
-    entries: &[Entry],
+    entries: &[PathNode],
     known: &mut BTreeMap<Id, u32>,
 ) -> Result<Tally, AllocError>
     requires { AreLengths catalog.now known.old }
@@ -42,21 +42,21 @@ pub(crate) fn tally_with(
     })
 }
 
-fn files_among(entries: &[Entry]) -> u64
+fn files_among(entries: &[PathNode]) -> u64
     ensures { result ≡ count_by (λ entry. spec.is_file (kind_view entry.node.kind)) entries.now }
 {
     let files = entries.iter().filter(|entry| is_file(&entry.node.kind));
     files.count() as u64
 }
 
-fn folders_among(entries: &[Entry]) -> u64
+fn folders_among(entries: &[PathNode]) -> u64
     ensures { result ≡ count_by (λ entry. spec.is_folder (kind_view entry.node.kind)) entries.now }
 {
     let folders = entries.iter().filter(|entry| is_folder(&entry.node.kind));
     folders.count() as u64
 }
 
-fn others_among(entries: &[Entry]) -> u64
+fn others_among(entries: &[PathNode]) -> u64
     ensures { result ≡ count_by (λ entry. spec.is_other (kind_view entry.node.kind)) entries.now }
 {
     let others = entries.iter().filter(|entry| is_other(&entry.node.kind));
@@ -84,7 +84,7 @@ fn is_other(kind: &NodeKind) -> bool
 /// How many bytes the files have.
 fn bytes_among(
     catalog: &Catalog,
-    entries: &[Entry],
+    entries: &[PathNode],
     known: &mut BTreeMap<Id, u32>,
 ) -> Result<u64, AllocError>
     requires { AreLengths catalog.now known.old }

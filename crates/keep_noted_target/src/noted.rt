@@ -4,7 +4,7 @@ ghost use Rattle.keep_targets.specs.Deeds.{call_of};
 
 use crate::store::Store;
 use keep_log::Log;
-use keep_targets::{Deed, Owner, Refusal, Short, Target, Times};
+use keep_targets::{NotedCall, Owner, Short, Target, TargetError, Times};
 use std::alloc::{AllocError, Global};
 
 /// A target over the calls of a store. The record of what was asked is for contracts alone: nothing of it is kept.
@@ -13,7 +13,7 @@ pub struct NotedTarget<S> {
     alloc: Global,
     store: S,
     is_new: bool,
-    calls: Log<Deed>,
+    calls: Log<NotedCall>,
 }
 
 impl<S: Store> NotedTarget<S> {
@@ -37,16 +37,16 @@ impl<S: Store> NotedTarget<S> {
         self.store
     }
 
-    fn text(&self, text: &str) -> Result<String, Refusal>
+    fn text(&self, text: &str) -> Result<String, TargetError>
         ensures { IfOk result (λ copy. string_bytes copy ≡ text.now) }
     {
         match String::from_str(self.alloc, text) {
             Ok(copy) => Ok(copy),
-            Err(AllocError) => Err(Refusal::Memory),
+            Err(AllocError) => Err(TargetError::Memory),
         }
     }
 
-    fn texts(&self, text: &str, other: &str) -> Result<(String, String), Refusal>
+    fn texts(&self, text: &str, other: &str) -> Result<(String, String), TargetError>
         ensures { IfOk result (λ copies. (string_bytes copies.0 ≡ text.now) × (string_bytes copies.1 ≡ other.now)) }
     {
         let first = self.text(text)?;
@@ -55,13 +55,13 @@ impl<S: Store> NotedTarget<S> {
     }
 
     /// What is noted where bytes are appended.
-    fn appending(&self, path: &str, bytes: &[u8]) -> Result<(String, Vec<u8>), Refusal>
+    fn appending(&self, path: &str, bytes: &[u8]) -> Result<(String, Vec<u8>), TargetError>
         ensures { IfOk result (λ copies. (string_bytes copies.0 ≡ path.now) × (copies.1.items ≡ bytes.now)) }
     {
         let text = self.text(path)?;
         match Vec::from_slice(self.alloc, bytes) {
             Ok(copy) => Ok((text, copy)),
-            Err(AllocError) => Err(Refusal::Memory),
+            Err(AllocError) => Err(TargetError::Memory),
         }
     }
 
@@ -78,22 +78,22 @@ impl<S: Store> NotedTarget<S> {
     {
         match done {
             Ok(()) => {
-                self.calls = self.calls.and(&Deed::Append(path, bytes));
+                self.calls = self.calls.and(&NotedCall::Append(path, bytes));
                 Ok(())
             }
             Err(short) if short.written == 0 => {
-                self.calls = self.calls.and(&Deed::Refuse(short.refusal));
+                self.calls = self.calls.and(&NotedCall::Refuse(short.refusal));
                 Err(short)
             }
             Err(short) => {
-                self.calls = self.calls.and(&Deed::Stop(path, bytes, short));
+                self.calls = self.calls.and(&NotedCall::Stop(path, bytes, short));
                 Err(short)
             }
         }
     }
 
     /// Notes how a call ended that was to do this.
-    fn note(&mut self, deed: &Deed, done: Result<(), Refusal>) -> Result<(), Refusal>
+    fn note(&mut self, deed: &NotedCall, done: Result<(), TargetError>) -> Result<(), TargetError>
         ensures same { result ≡ done }
         ensures noted { calls_in self.new ≡ calls_in self.old
             ++ as_noted done (call_of deed.now) ∷ [] }
@@ -108,11 +108,11 @@ impl<S: Store> NotedTarget<S> {
     }
 
     /// Notes that a call was refused.
-    fn refuse(&mut self, refusal: Refusal) -> Refusal
+    fn refuse(&mut self, refusal: TargetError) -> TargetError
         ensures same { result ≡ refusal }
         ensures noted { calls_in self.new ≡ calls_in self.old ++ Refused refusal ∷ [] }
     {
-        self.calls = self.calls.and(&Deed::Refuse(refusal));
+        self.calls = self.calls.and(&NotedCall::Refuse(refusal));
         refusal
     }
 }
@@ -128,21 +128,21 @@ impl<S: Store> Target for NotedTarget<S> {
         self.is_new
     }
 
-    fn make_folder(&mut self, path: &str) -> Result<(), Refusal> {
+    fn make_folder(&mut self, path: &str) -> Result<(), TargetError> {
         match self.text(path) {
             Ok(text) => {
                 let done = self.store.make_folder(path);
-                self.note(&Deed::MakeFolder(text), done)
+                self.note(&NotedCall::MakeFolder(text), done)
             }
             Err(refusal) => Err(self.refuse(refusal)),
         }
     }
 
-    fn make_file(&mut self, path: &str) -> Result<(), Refusal> {
+    fn make_file(&mut self, path: &str) -> Result<(), TargetError> {
         match self.text(path) {
             Ok(text) => {
                 let done = self.store.make_file(path);
-                self.note(&Deed::MakeFile(text), done)
+                self.note(&NotedCall::MakeFile(text), done)
             }
             Err(refusal) => Err(self.refuse(refusal)),
         }
@@ -161,51 +161,51 @@ impl<S: Store> Target for NotedTarget<S> {
         }
     }
 
-    fn make_link(&mut self, path: &str, to: &str) -> Result<(), Refusal> {
+    fn make_link(&mut self, path: &str, to: &str) -> Result<(), TargetError> {
         match self.texts(path, to) {
             Ok((text, target)) => {
                 let done = self.store.make_link(path, to);
-                self.note(&Deed::MakeLink(text, target), done)
+                self.note(&NotedCall::MakeLink(text, target), done)
             }
             Err(refusal) => Err(self.refuse(refusal)),
         }
     }
 
-    fn set_owner(&mut self, path: &str, owner: Owner) -> Result<(), Refusal> {
+    fn set_owner(&mut self, path: &str, owner: Owner) -> Result<(), TargetError> {
         match self.text(path) {
             Ok(text) => {
                 let done = self.store.set_owner(path, owner);
-                self.note(&Deed::SetOwner(text, owner), done)
+                self.note(&NotedCall::SetOwner(text, owner), done)
             }
             Err(refusal) => Err(self.refuse(refusal)),
         }
     }
 
-    fn set_link_owner(&mut self, path: &str, owner: Owner) -> Result<(), Refusal> {
+    fn set_link_owner(&mut self, path: &str, owner: Owner) -> Result<(), TargetError> {
         match self.text(path) {
             Ok(text) => {
                 let done = self.store.set_link_owner(path, owner);
-                self.note(&Deed::SetLinkOwner(text, owner), done)
+                self.note(&NotedCall::SetLinkOwner(text, owner), done)
             }
             Err(refusal) => Err(self.refuse(refusal)),
         }
     }
 
-    fn set_mode(&mut self, path: &str, mode: u32) -> Result<(), Refusal> {
+    fn set_mode(&mut self, path: &str, mode: u32) -> Result<(), TargetError> {
         match self.text(path) {
             Ok(text) => {
                 let done = self.store.set_mode(path, mode);
-                self.note(&Deed::SetMode(text, mode), done)
+                self.note(&NotedCall::SetMode(text, mode), done)
             }
             Err(refusal) => Err(self.refuse(refusal)),
         }
     }
 
-    fn set_times(&mut self, path: &str, times: Times) -> Result<(), Refusal> {
+    fn set_times(&mut self, path: &str, times: Times) -> Result<(), TargetError> {
         match self.text(path) {
             Ok(text) => {
                 let done = self.store.set_times(path, times);
-                self.note(&Deed::SetTimes(text, times), done)
+                self.note(&NotedCall::SetTimes(text, times), done)
             }
             Err(refusal) => Err(self.refuse(refusal)),
         }

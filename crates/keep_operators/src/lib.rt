@@ -9,5 +9,5 @@ mod planner;
 
 pub use backups::crew_of;
 pub use each_snapshot::EachSnapshot;
-pub use order::{NoCrew, Order, Tally};
+pub use order::{CrewTally, NoCrew, Order};
 pub use planner::Planner;

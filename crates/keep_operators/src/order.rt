@@ -15,7 +15,7 @@ pub struct Order<'a> {
 
 /// What a crew did.
 #[derive(Clone, Copy)]
-pub struct Tally {
+pub struct CrewTally {
     /// How many of its backups are in the journal.
     pub accepted: u64,
     /// The number of the journal's last event.

@@ -5,7 +5,7 @@ use keep_shelf::Shelf;
 
 /// `keep show`: what the change added and dropped, and what would have to be undone with it.
 pub fn show<S: Shelf>(run: &Run<'_>, book: &Book<S>, number: u64) -> Result<(), Failure> {
-    let numbers = match book.taken(number) {
+    let numbers = match book.taken_with(number) {
         Ok(numbers) => numbers,
         Err(refusal) => return Err(refused(run, number, &refusal)),
     };

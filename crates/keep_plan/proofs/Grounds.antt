@@ -15,7 +15,7 @@ use Rattle.keep_names.specs.declared.id.Id.{Id}
 use Rattle.keep_repo.specs.Repository.{Repository}
 use Rattle.keep_plan.specs.Reuse.{reused_files, reused_packs, uses_of}
 use Rattle.keep_plan.specs.Files.{files_used}
-use Rattle.keep_plan.specs.Settling.{is_there}
+use Rattle.keep_plan.specs.Storing.{is_there}
 
 module _ (r : Repository) where
   -- ---- an index that lists a place is there

@@ -5,6 +5,6 @@ pub mod Outcomes
 pub mod Recorded
 pub mod Rising
 pub mod Sets
-pub mod Settled
+pub mod StoredFiles
 pub mod Taken
 pub mod Used

@@ -26,7 +26,7 @@ use Rattle.keep_repo.specs.Repository.{Repository}
 use Rattle.keep_repo.specs.declared.facet.Mark.{Mark}
 use Rattle.keep_plan.specs.Reuse.{reused_files, reused_packs}
 use Rattle.keep_change.specs.Marks.{pack_mark}
-use Rattle.keep_plan.specs.Settling.{CanBeMade, Settles, absent_files, absent_of, is_there, marks_on, names_there, packs_among, settled, under_name, unmarked_of}
+use Rattle.keep_plan.specs.Storing.{CanBeMade, StoresBuilt, absent_files, absent_of, is_there, marks_on, names_there, packs_among, stored_built, under_name, unmarked_of}
 use Rattle.keep_plan.proofs.Grounds.{reused_free, reused_there}
 use Rattle.keep_plan.proofs.Ordered.{All-entries, All-of_map, each_so, filter_passes, retained_there}
 use Rattle.keep_plan.proofs.Recorded.{among_second}
@@ -147,8 +147,8 @@ module _ (r : Repository) where
       All-of_map P (λ (e : FileName × NamedBytes). e.1) (entries (from_entries {R = name_cmp} (absent_of r built)))
       (All-entries name_total name_exact (λ (e : FileName × NamedBytes). P e.1) (absent_of r built) (each_so_absent P built h))
 
-  pub settled_made : (used : List BlobId) (built : List NamedBytes) → AreNamedByBytes built → CanBeMade r (settled r used built)
-  unfolding settled
+  pub settled_made : (used : List BlobId) (built : List NamedBytes) → AreNamedByBytes built → CanBeMade r (stored_built r used built)
+  unfolding stored_built
   settled_made used built h = record {
     adds_in_order = adds_rise built h;
     clears_in_order = clears_rise (packs_among built);
@@ -220,8 +220,8 @@ module _ (r : Repository) where
       among_second id_total pack (reused_packs r used) (unmarked_of r packs)
       (any-filter_same (eq_by_cmp id_cmp pack) (is_unmarked r) true (λ k same. ap (is_unmarked r) (sym (tells_apart id_exact pack k same)) ∙ free) packs ∙ among)
 
-  pub each_settled : (used : List BlobId) (built : List NamedBytes) → Settles built (settled r used built)
-  unfolding settled
+  pub each_settled : (used : List BlobId) (built : List NamedBytes) → StoresBuilt built (stored_built r used built)
+  unfolding stored_built
   each_settled used built = record {
     files = λ name among. file_cases name among (is_there r name) refl;
     packs = λ pack among. pack_cases pack among (is_unmarked r pack) refl;

@@ -23,7 +23,7 @@ use Rattle.keep_names.specs.declared.id.Id.{Id}
 use Rattle.keep_repo.specs.Repository.{Repository}
 use Rattle.keep_plan.specs.Files.{files_used}
 use Rattle.keep_plan.specs.Reuse.{reused_files, reused_packs, uses_of}
-use Rattle.keep_plan.specs.Settling.{RecordsUse, names_there, packs_among, settled, unmarked_of}
+use Rattle.keep_plan.specs.Storing.{RecordsUse, names_there, packs_among, stored_built, unmarked_of}
 
 -- what is among keys is among them and others, in order
 module _ {K : Type 0} {R : K → K → Ordering} (total : IsTotalOrder R) where
@@ -83,8 +83,8 @@ module _ (r : Repository) (blob : BlobId) (pair : Id × Id) (is : reuse_of r blo
     cases rest false other found = behind (reuse_of r b) (rest found)
 
 pub use_recorded : (r : Repository) (used : List BlobId) (built : List NamedBytes) (blob : BlobId) (place : Spot × Id) → list_any (blob_eq blob) used ≡ true
-    → chosen_listing r blob ≡ Some place → RecordsUse (settled r used built) place
-unfolding settled
+    → chosen_listing r blob ≡ Some place → RecordsUse (stored_built r used built) place
+unfolding stored_built
 use_recorded r used built blob place among chosen =
     let pair : Id × Id = (place.0.pack, place.1) in
     let is : reuse_of r blob ≡ Some pair = ap (option_map (λ (e : Spot × Id). (e.0.pack, e.1))) chosen in

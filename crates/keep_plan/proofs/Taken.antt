@@ -15,7 +15,7 @@ use Rattle.keep_repo.specs.Repository.{Repository}
 use Rattle.keep_change.specs.Filling.{has_name}
 use Rattle.keep_change.specs.Lists.{file_names}
 use Rattle.keep_change.specs.NamedBytes.{NamedBytes}
-use Rattle.keep_plan.specs.Settling.{absent_files, absent_of, is_any_taken, is_any_twice, is_there, under_name}
+use Rattle.keep_plan.specs.Storing.{absent_files, absent_of, is_any_taken, is_any_twice, is_there, under_name}
 
 or_true : (b : Bool) → (b || true) ≡ true
 or_true true = refl

@@ -4,5 +4,5 @@ pub mod Needs
 pub mod Picks
 pub mod Refusal
 pub mod Reuse
-pub mod Settling
+pub mod Storing
 pub mod Taking

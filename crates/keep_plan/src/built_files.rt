@@ -11,7 +11,7 @@ ghost use Rattle.keep_names.specs.Orders.{id_cmp, name_cmp};
 ghost use Rattle.keep_names.specs.declared.file_name.FileName as the_name;
 ghost use Rattle.keep_names.specs.declared.id.Id as the_id;
 ghost use Rattle.keep_change.specs.Marks.{pack_mark};
-ghost use Rattle.keep_plan.specs.Settling.{absent_files, absent_of, is_any_taken, marks_on, names_there, packs_among, unmarked_of};
+ghost use Rattle.keep_plan.specs.Storing.{absent_files, absent_of, is_any_taken, marks_on, names_there, packs_among, unmarked_of};
 ghost use Rattle.keep_plan.specs.Marks.{AreMarks};
 
 use keep_change::{PackMark, StoredFile};
@@ -22,7 +22,7 @@ use std::collections::{BTreeMap, BTreeSet};
 
 /// Those of the files that the repository hasn't, by name, and of files of one name the first. The names of the
 /// others are put among those that have to be present.
-pub fn settle_files(
+pub fn split_files(
     alloc: Global,
     repo: &Repo,
     files: Vec<StoredFile>,
@@ -35,13 +35,13 @@ pub fn settle_files(
 {
     let mut adds = BTreeMap::new(alloc);
     for file in files {
-        settle_file(repo, &mut adds, present, file)?;
+        split_file(repo, &mut adds, present, file)?;
     }
     files_in(alloc, adds)
 }
 
 /// The files by name, where all are to be new: none, if the repository has one of them, or two have one name.
-pub fn settle_new(
+pub fn split_new(
     alloc: Global,
     repo: &Repo,
     files: Vec<StoredFile>,
@@ -51,7 +51,7 @@ pub fn settle_new(
 {
     let count = files.len();
     let mut there = BTreeSet::new(alloc);
-    let adds = settle_files(alloc, repo, files, &mut there)?;
+    let adds = split_files(alloc, repo, files, &mut there)?;
     if adds.len() < count {
         return Ok(None);
     }
@@ -69,7 +69,7 @@ fn files_in(
 }
 
 /// Adds a file that the repository hasn't, and no second one of its name. Else its name has to be present.
-fn settle_file(
+fn split_file(
     repo: &Repo,
     adds: &mut BTreeMap<FileName, StoredFile>,
     present: &mut BTreeSet<FileName>,
@@ -95,7 +95,7 @@ fn settle_file(
 
 /// The marks on the packs among the files, by pack. The other packs are put among those that must not be
 /// marked.
-pub(crate) fn settle_marks(
+pub(crate) fn split_marks(
     alloc: Global,
     repo: &Repo,
     files: &[StoredFile],
@@ -109,7 +109,7 @@ pub(crate) fn settle_marks(
     let packs = packs_in(alloc, files)?;
     let mut clears = BTreeMap::new(alloc);
     for pack in &packs {
-        settle_mark(repo, &mut clears, unmarked, *pack)?;
+        split_mark(repo, &mut clears, unmarked, *pack)?;
     }
     marks_in(alloc, clears)
 }
@@ -137,7 +137,7 @@ fn packs_in(alloc: Global, files: &[StoredFile]) -> Result<Vec<Id>, AllocError>
 }
 
 /// Puts the pack's mark among those to clear, or the pack among those that must not be marked.
-fn settle_mark(
+fn split_mark(
     repo: &Repo,
     clears: &mut BTreeMap<Id, Mark>,
     unmarked: &mut BTreeSet<Id>,

@@ -11,14 +11,14 @@ mod reuses;
 mod stored;
 mod unreached;
 
-pub use built_files::{settle_files, settle_new};
+pub use built_files::{split_files, split_new};
 pub use filter::{AskFacts, Filter};
 pub use pick::{Needs, Pick, has_path, has_tag, meets};
 pub use plan_error::PlanError;
 pub use plan_laws::{
-    each_built_file_is_settled, each_use_is_recorded, refusals_keep_their_words,
-    what_is_settled_can_be_made,
+    each_built_file_is_stored, each_use_is_recorded, refusals_keep_their_words,
+    what_is_stored_can_be_made,
 };
 pub use reuses::Reuses;
-pub use stored::{Stored, settle};
+pub use stored::{Stored, store_built};
 pub use unreached::Unreached;

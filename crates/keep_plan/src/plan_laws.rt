@@ -11,7 +11,7 @@ ghost use Rattle.keep_catalog.specs.Words.{reach_number, reach_text};
 ghost use Rattle.keep_catalog.specs.declared.reach_error.ReachError as the_reach;
 ghost use Rattle.keep_catalog.specs.declared.spot.Spot as the_spot;
 ghost use Rattle.keep_plan.specs.Refusal.{of_reach, plan_number, plan_text};
-ghost use Rattle.keep_plan.specs.Settling.{CanBeMade, RecordsUse, Settles, settled};
+ghost use Rattle.keep_plan.specs.Storing.{CanBeMade, RecordsUse, StoresBuilt, stored_built};
 
 /// What a reach refuses, a planner refuses by the same words and number.
 pub fn refusals_keep_their_words()
@@ -21,9 +21,9 @@ pub fn refusals_keep_their_words()
 
 /// What becomes of built files that are named by their bytes, and what the uses of blobs where they are rest on,
 /// can be made of the repository as part of a change.
-pub fn what_is_settled_can_be_made()
+pub fn what_is_stored_can_be_made()
     ensures { (r : Repository) (used : List the_blob.BlobId) (built : List NamedBytes)
-        → AreNamedByBytes built → CanBeMade r (settled r used built) }
+        → AreNamedByBytes built → CanBeMade r (stored_built r used built) }
 {}
 
 /// Of each blob that is used where it is, the chosen place's pack and the index that lists it are to be present,
@@ -31,12 +31,12 @@ pub fn what_is_settled_can_be_made()
 pub fn each_use_is_recorded()
     ensures { (r : Repository) (used : List the_blob.BlobId) (built : List NamedBytes) (blob : the_blob.BlobId)
         (place : the_spot.Spot × the_id.Id) → list_any (blob_eq blob) used ≡ true
-        → chosen_listing r blob ≡ Some place → RecordsUse (settled r used built) place }
+        → chosen_listing r blob ≡ Some place → RecordsUse (stored_built r used built) place }
 {}
 
 /// Each built file is added, or was there and is to be present; and of each pack among them the mark is cleared, or
 /// it had none and is to be unmarked.
-pub fn each_built_file_is_settled()
+pub fn each_built_file_is_stored()
     ensures { (r : Repository) (used : List the_blob.BlobId) (built : List NamedBytes)
-        → Settles built (settled r used built) }
+        → StoresBuilt built (stored_built r used built) }
 {}

@@ -1,9 +1,9 @@
 ghost use Rattle.std.specs.Prelude.{◌≡◌, IfOk, List};
 ghost use Rattle.keep_names.specs.declared.blob.BlobId as the_blob;
 ghost use Rattle.keep_plan.specs.Reuse.{RestOn};
-ghost use Rattle.keep_plan.specs.Settling.{settled};
+ghost use Rattle.keep_plan.specs.Storing.{stored_built};
 
-use crate::built_files::{ids_in, names_in, settle_files, settle_marks};
+use crate::built_files::{ids_in, names_in, split_files, split_marks};
 use crate::reuses::Reuses;
 use keep_change::{Listed, PackMark, StoredFile};
 use keep_names::{FileName, Id};
@@ -24,21 +24,21 @@ pub struct Stored {
 }
 
 /// What becomes of files that were built, beside the uses of blobs where they are.
-pub fn settle(
+pub fn store_built(
     alloc: Global,
     repo: &Repo,
     built: Vec<StoredFile>,
     reuses: Reuses,
 ) -> Result<Stored, AllocError>
     ensures { IfOk result (λ stored. (used : List the_blob.BlobId) → RestOn repo.now used reuses
-        → stored ≡ settled repo.now used built.items) }
+        → stored ≡ stored_built repo.now used built.items) }
 {
     let Reuses {
         mut present,
         mut unmarked,
     } = reuses;
-    let clears = settle_marks(alloc, repo, &built, &mut unmarked)?;
-    let adds = settle_files(alloc, repo, built, &mut present)?;
+    let clears = split_marks(alloc, repo, &built, &mut unmarked)?;
+    let adds = split_files(alloc, repo, built, &mut present)?;
     let present = names_in(alloc, present)?;
     let unmarked = ids_in(alloc, unmarked)?;
     Ok(Stored {

@@ -9,7 +9,7 @@ use Rattle.keep_journal.proofs.Filters.{filter-filter}
 use Rattle.keep_journal.proofs.KeptTold.{final_is, kept_is}
 use Rattle.keep_journal.proofs.Telling.{committed_told}
 use Rattle.keep_journal.specs.Laws.{ToldIsOpen}
-use Rattle.keep_journal.specs.Told.{told_of}
+use Rattle.keep_journal.specs.Told.{still_told}
 use Rattle.keep_shelf.specs.Shelved.{Shelved}
 use Rattle.keep_reading.specs.Reads.{OneReading}
 use Rattle.keep_sound.specs.Selection.{IsSoundHistory}
@@ -24,10 +24,10 @@ and_same : (b : Bool) → (b && b) ≡ b
 and_same true = refl
 and_same false = refl
 
-unfinal_told : (j : Journal) → unfinal (told_of j) ≡ unfinal j
+unfinal_told : (j : Journal) → unfinal (still_told j) ≡ unfinal j
 unfinal_told j =
     let f : ℕ = final_number j in
-    ap (λ (n : ℕ). filter (λ (c : Numbered). nat_lt n c.number) (committed (told_of j))) (final_is j)
+    ap (λ (n : ℕ). filter (λ (c : Numbered). nat_lt n c.number) (committed (still_told j))) (final_is j)
     ∙ ap (filter (λ (c : Numbered). nat_lt f c.number)) (committed_told f j.entries)
     ∙ filter-filter (λ (c : Numbered). nat_lt f c.number) (λ c. nat_lt f c.number) (committed j)
     ∙ (λ i. filter (λ (c : Numbered). and_same (nat_lt f c.number) i) (committed j))

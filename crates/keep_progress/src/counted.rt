@@ -1,6 +1,6 @@
 use crate::meter::Meter;
-use keep_sources::{Listing, Sight, Source, Why};
-use keep_targets::{Owner, Refusal, Short, Target, Times};
+use keep_sources::{FolderListing, Source, Stat, Why};
+use keep_targets::{Owner, Short, Target, TargetError, Times};
 
 /// A source whose files and bytes are counted as they are read.
 #[derive(Drop)]
@@ -19,15 +19,15 @@ impl<'a, S: Source> CountedSource<'a, S> {
 impl<S: Source> Source for CountedSource<'_, S> {
     ghost told = { S.told };
 
-    fn look(&mut self, path: &str) -> Result<Sight, Why> {
+    fn look(&mut self, path: &str) -> Result<Stat, Why> {
         self.source.look(path)
     }
 
-    fn list(&mut self, folder: &str, seen: &Sight) -> Result<Listing, Why> {
+    fn list(&mut self, folder: &str, seen: &Stat) -> Result<FolderListing, Why> {
         self.source.list(folder, seen)
     }
 
-    fn open(&mut self, path: &str, seen: &Sight) -> Result<(), Why> {
+    fn open(&mut self, path: &str, seen: &Stat) -> Result<(), Why> {
         self.source.open(path, seen)?;
         self.meter.count_file();
         Ok(())
@@ -67,11 +67,11 @@ impl<T: Target> Target for CountedTarget<'_, T> {
         self.target.is_new()
     }
 
-    fn make_folder(&mut self, path: &str) -> Result<(), Refusal> {
+    fn make_folder(&mut self, path: &str) -> Result<(), TargetError> {
         self.target.make_folder(path)
     }
 
-    fn make_file(&mut self, path: &str) -> Result<(), Refusal> {
+    fn make_file(&mut self, path: &str) -> Result<(), TargetError> {
         let made = self.target.make_file(path);
         if made.is_ok() {
             self.meter.count_file();
@@ -85,23 +85,23 @@ impl<T: Target> Target for CountedTarget<'_, T> {
         written
     }
 
-    fn make_link(&mut self, path: &str, to: &str) -> Result<(), Refusal> {
+    fn make_link(&mut self, path: &str, to: &str) -> Result<(), TargetError> {
         self.target.make_link(path, to)
     }
 
-    fn set_owner(&mut self, path: &str, owner: Owner) -> Result<(), Refusal> {
+    fn set_owner(&mut self, path: &str, owner: Owner) -> Result<(), TargetError> {
         self.target.set_owner(path, owner)
     }
 
-    fn set_link_owner(&mut self, path: &str, owner: Owner) -> Result<(), Refusal> {
+    fn set_link_owner(&mut self, path: &str, owner: Owner) -> Result<(), TargetError> {
         self.target.set_link_owner(path, owner)
     }
 
-    fn set_mode(&mut self, path: &str, mode: u32) -> Result<(), Refusal> {
+    fn set_mode(&mut self, path: &str, mode: u32) -> Result<(), TargetError> {
         self.target.set_mode(path, mode)
     }
 
-    fn set_times(&mut self, path: &str, times: Times) -> Result<(), Refusal> {
+    fn set_times(&mut self, path: &str, times: Times) -> Result<(), TargetError> {
         self.target.set_times(path, times)
     }
 }

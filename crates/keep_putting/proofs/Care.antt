@@ -5,7 +5,7 @@ use Rattle.std.specs.List.{Contains}
 use Rattle.std.proofs.lemmas.List.Elements.{Contains-append_left}
 use Rattle.keep_targets.specs.Call.{Act, Append, Call, Cut, Did, MakeFile, MakeFolder, Refused, appended}
 use Rattle.keep_names.specs.declared.id.Id.{Id}
-use Rattle.keep_targets.specs.declared.target_error.Refusal.{Refusal}
+use Rattle.keep_targets.specs.declared.target_error.TargetError.{TargetError}
 use Rattle.keep_targets.specs.declared.target_error.Short.{Short}
 use Rattle.keep_putting.specs.Filling.{Source, bytes_in, writing}
 use Rattle.keep_putting.specs.Careful.{AreAllowed, IsAllowed, IsBeingWritten, IsCarefulFrom, IsOwn, IsOwnFolder, IsOwnPlace}
@@ -37,7 +37,7 @@ pub did : (before after : List Call) (act : Act) → after ≡ before ++ Did act
 did before after act same allowed = record { more = Did act ∷ []; calls = same; allowed = (allowed, tt) }
 
 -- one that was refused
-pub refused : (before after : List Call) (refusal : Refusal) → after ≡ before ++ Refused refusal ∷ [] → IsCarefulFrom before after
+pub refused : (before after : List Call) (refusal : TargetError) → after ≡ before ++ Refused refusal ∷ [] → IsCarefulFrom before after
 refused before after refusal same = record { more = Refused refusal ∷ []; calls = same; allowed = tt }
 
 -- what was done before stays done

@@ -3,7 +3,7 @@ use Rattle.std.specs.Prelude.{◌≡◌, ℕ, ◌<◌, ◌+◌, ◌-◌, ◌^◌
 use Rattle.std.specs.List.{AllPass, HoldsAt}
 use Rattle.keep_names.specs.declared.id.Id.{Id}
 use Rattle.keep_targets.specs.Call.{Append, Call, Did, MakeFile, Refused, appended}
-use Rattle.keep_targets.specs.declared.target_error.Refusal.{Refusal}
+use Rattle.keep_targets.specs.declared.target_error.TargetError.{TargetError}
 use Rattle.keep_targets.specs.declared.target_error.Short.{Short}
 use Rattle.keep_putting.specs.declared.hurt.Hurt.{Hurt}
 use Rattle.keep_putting.specs.declared.hurt.Hurt.TheVariants as hurt
@@ -34,7 +34,7 @@ abbrev pub pieces_size : Source → List Id → ℕ
 pieces_size pieces ids = min (sum_by (λ id. length (bytes_in (pieces id))) ids) (2 ^ 64 - 1)
 
 -- a piece couldn't be written whole
-pub record IsCut (pieces : Source) (place : List ℕ) (ids : List Id) (before after : List Call) (written : ℕ) (refusal : Refusal) : Type 0 where
+pub record IsCut (pieces : Source) (place : List ℕ) (ids : List Id) (before after : List Call) (written : ℕ) (refusal : TargetError) : Type 0 where
   -- so many were
   pub done : ℕ
   pub below : done < length ids

@@ -1,3 +1,4 @@
+pub mod Attributes
 pub mod Careful
 pub mod Filling
 pub mod Folders
@@ -6,4 +7,3 @@ pub mod Leaving
 pub mod Made
 pub mod Places
 pub mod Putting
-pub mod Settling

@@ -4,14 +4,14 @@ use Rattle.keep_names.specs.declared.id.Id.{Id}
 use Rattle.keep_files.specs.Path.{LiesRightIn}
 use Rattle.keep_targets.specs.Call.{Call, Did, MakeFolder, MakeLink, Refused}
 use Rattle.keep_targets.specs.declared.attributes.Owner.{Owner}
-use Rattle.keep_targets.specs.declared.target_error.Refusal.{Refusal}
+use Rattle.keep_targets.specs.declared.target_error.TargetError.{TargetError}
 use Rattle.keep_putting.specs.Filling.{AreHad, IsHurt, Source, filling, pieces_size}
 use Rattle.keep_putting.specs.Folders.{Folders}
 use Rattle.keep_putting.specs.Hurts.{why_of}
 use Rattle.keep_putting.specs.Leaving.{IsNamedNext}
 use Rattle.keep_putting.specs.Places.{HasName, IsPlaceOf, placed, root_alone}
 use Rattle.keep_putting.specs.Made.{folders_in}
-use Rattle.keep_putting.specs.Settling.{IsSettled, IsTriedIf, link_owner_act}
+use Rattle.keep_putting.specs.Attributes.{AreApplied, IsTriedIf, link_owner_act}
 use Rattle.keep_putting.specs.declared.course.Course.{Course}
 use Rattle.keep_putting.specs.declared.hurt.Hurt.{Hurt}
 use Rattle.keep_putting.specs.declared.left_out.LeftOut.{LeftOut}
@@ -66,7 +66,7 @@ IsFolderPut wanted place old new =
     ((new.calls ≡ old.calls ++ Did (MakeFolder place) ∷ []) × (new.left ≡ old.left)
     × (new.folders ≡ placed old.folders (string_bytes wanted.path) place)
     × (new.counts ≡ (let c = old.counts in record c { folders = plus old.counts.folders 1 })))
-    ⊎ ((refusal : Refusal) × (new.calls ≡ old.calls ++ Refused refusal ∷ [])
+    ⊎ ((refusal : TargetError) × (new.calls ≡ old.calls ++ Refused refusal ∷ [])
     × IsNamedNext old.left new.left wanted (why.NotMade refusal)
     × (new.folders ≡ old.folders) × (new.counts ≡ old.counts))
 
@@ -74,7 +74,7 @@ IsFolderPut wanted place old new =
 abbrev pub IsFilePut : Source → Owner → Wanted → List Id → List ℕ → Stage → Stage → Type 0
 IsFilePut pieces caller wanted content place old new =
     ((between : List Call) × (between ≡ old.calls ++ filling pieces place content) × AreHad pieces content
-    × IsSettled between new.calls old.left new.left wanted place (owner_asked caller wanted.owner)
+    × AreApplied between new.calls old.left new.left wanted place (owner_asked caller wanted.owner)
     × (new.folders ≡ old.folders)
     × (new.counts ≡ (let c = old.counts in record c {
       files = plus old.counts.files 1;
@@ -96,7 +96,7 @@ IsLinkPut caller wanted to place old new =
       owners = missed caller wanted.owner old.counts.owners;
       link_times = if is_some wanted.times then plus old.counts.link_times 1 else old.counts.link_times;
     })))
-    ⊎ ((refusal : Refusal) × (new.calls ≡ old.calls ++ Refused refusal ∷ [])
+    ⊎ ((refusal : TargetError) × (new.calls ≡ old.calls ++ Refused refusal ∷ [])
     × IsNamedNext old.left new.left wanted (why.NotMade refusal)
     × (new.folders ≡ old.folders) × (new.counts ≡ old.counts))
 
@@ -135,7 +135,7 @@ AreDone pieces caller (wanted ∷ more) old new =
 abbrev pub IsFinishedAt : Owner → Wanted → Option (List ℕ) → Stage → Stage → Type 0
 IsFinishedAt caller wanted None old new = old ≡ new
 IsFinishedAt caller wanted (Some place) old new =
-    IsSettled old.calls new.calls old.left new.left wanted place (owner_asked caller wanted.owner)
+    AreApplied old.calls new.calls old.left new.left wanted place (owner_asked caller wanted.owner)
     × (new.folders ≡ old.folders)
     × (new.counts ≡ (let c = old.counts in record c { owners = missed caller wanted.owner old.counts.owners }))
 

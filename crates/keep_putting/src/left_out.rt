@@ -3,7 +3,7 @@ ghost use Rattle.keep_putting.specs.Leaving.{IsNamedNext};
 
 use crate::hurt::Hurt;
 use crate::wanted::Wanted;
-use keep_targets::Refusal;
+use keep_targets::TargetError;
 use std::alloc::AllocError;
 
 /// What isn't as the snapshot says, and why.
@@ -16,17 +16,17 @@ pub enum Why {
     /// It is neither a file nor a folder nor a link. It isn't there.
     OtherType,
     /// It couldn't be made, and isn't there.
-    NotMade(Refusal),
+    NotMade(TargetError),
     /// The file has so many first bytes, and no more could be written.
-    Cut { written: u64, refusal: Refusal },
+    Cut { written: u64, refusal: TargetError },
     /// The file has so many first bytes, and the piece behind them can't be had.
     Lost { written: u64 },
     /// It has another owner.
-    NoOwner(Refusal),
+    NoOwner(TargetError),
     /// It has another mode.
-    NoMode(Refusal),
+    NoMode(TargetError),
     /// It has other times.
-    NoTimes(Refusal),
+    NoTimes(TargetError),
 }
 
 /// What isn't as the snapshot says.

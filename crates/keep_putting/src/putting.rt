@@ -8,7 +8,7 @@ use crate::course::Course;
 use crate::file_filling::fill;
 use crate::left_out::{Why, leave_out};
 use crate::places::Unplaced;
-use crate::set_attributes::{settle, settle_link};
+use crate::set_attributes::{set_attributes, set_link_attributes};
 use crate::wanted::{Wanted, What};
 use keep_names::Id;
 use keep_targets::{Owner, Pieces, Target};
@@ -87,7 +87,7 @@ fn put_file<T: Target, P: Pieces>(
     course.restored.files = course.restored.files.saturating_add(1);
     course.restored.bytes = course.restored.bytes.saturating_add(size);
     let owner = owner_to_set(course.caller, wanted, &mut course.restored.owners);
-    settle(target, &mut course.restored.left_out, wanted, place, owner)
+    set_attributes(target, &mut course.restored.left_out, wanted, place, owner)
 }
 
 fn put_link<T: Target>(
@@ -112,7 +112,7 @@ fn put_link<T: Target>(
         course.restored.link_times = course.restored.link_times.saturating_add(1);
     }
     let owner = owner_to_set(course.caller, wanted, &mut course.restored.owners);
-    settle_link(target, &mut course.restored.left_out, wanted, place, owner)
+    set_link_attributes(target, &mut course.restored.left_out, wanted, place, owner)
 }
 
 /// Sets owner, mode and times of a folder that was made, once all that is in it is put.
@@ -136,7 +136,7 @@ pub(crate) fn finish<T: Target>(
         return Ok(());
     };
     let owner = owner_to_set(course.caller, wanted, &mut course.restored.owners);
-    settle(target, &mut course.restored.left_out, wanted, place, owner)
+    set_attributes(target, &mut course.restored.left_out, wanted, place, owner)
 }
 
 /// The owner that is to be set: only the superuser can. Others are counted, unless what is made is theirs already.

@@ -1,6 +1,6 @@
 ghost use Rattle.std.specs.Prelude.{◌≡◌, OnOk, string_bytes};
 ghost use Rattle.keep_putting.specs.Careful.{IsCarefulFrom, IsOwn, IsOwnLink};
-ghost use Rattle.keep_putting.specs.Settling.{IsSettled, IsTriedIf, link_owner_act, mode_act, owner_act, times_act};
+ghost use Rattle.keep_putting.specs.Attributes.{AreApplied, IsTriedIf, link_owner_act, mode_act, owner_act, times_act};
 ghost use Rattle.keep_putting.specs.declared.left_out.Why.TheVariants as the_why;
 
 use crate::left_out::{LeftOut, Why, leave_out};
@@ -10,7 +10,7 @@ use std::alloc::AllocError;
 
 /// Sets the owner, if one is given, then the mode and then the times of the file or folder at this place: a change of
 /// owner clears bits of the mode. What can't be set is named.
-pub(crate) fn settle<T: Target>(
+pub(crate) fn set_attributes<T: Target>(
     target: &mut T,
     left: &mut Vec<LeftOut>,
     wanted: &Wanted,
@@ -19,7 +19,7 @@ pub(crate) fn settle<T: Target>(
 ) -> Result<(), AllocError>
     ensures careful { IsOwn (T.calls target.old) place.now
         → IsCarefulFrom (T.calls target.old) (T.calls target.new) }
-    ensures settled { OnOk result (IsSettled (T.calls target.old) (T.calls target.new) left.old.items left.new.items
+    ensures applied { OnOk result (AreApplied (T.calls target.old) (T.calls target.new) left.old.items left.new.items
         wanted.now place.now owner) }
 {
     set_owner(target, left, wanted, place, owner)?;
@@ -89,7 +89,7 @@ fn set_times<T: Target>(
 }
 
 /// Sets the owner of the link at this place, if one is given. Where it can't be set, that is named.
-pub(crate) fn settle_link<T: Target>(
+pub(crate) fn set_link_attributes<T: Target>(
     target: &mut T,
     left: &mut Vec<LeftOut>,
     wanted: &Wanted,

@@ -26,7 +26,7 @@ use Rattle.keep_reach.specs.Reach.{HasBlob, Naming, Names, Reaches, has_type_tre
 use Rattle.keep_reach.specs.Snapshots.{IsUsed, Owes, root_of}
 use Rattle.keep_reach.specs.Used.{names_or_none, reached_by, reached_from, reached_in, used_in}
 use Rattle.keep_reach.specs.Walk.{Knows, Walked}
-use Rattle.keep_reach.specs.declared.reached_blobs.Found.{Found}
+use Rattle.keep_reach.specs.declared.reached_blobs.ReachedBlob.{ReachedBlob}
 use Rattle.keep_catalog.specs.declared.reach_error.ReachError.{ReachError}
 use Rattle.keep_repo.proofs.Rising.{keys_in_order}
 use Rattle.keep_catalog.proofs.Ordered.{in_order-same, is_some-keyed, same_test}
@@ -161,7 +161,7 @@ pub keys_are_used : (r : Repository) (reached : Walked) → IsOrdered blob_cmp r
 unfolding used_in
 keys_are_used r reached ordered just =
     sym (keys_of-map_values nothing reached.entries) ∙ sym (keys_made blob_total es sorted) ∙ ap (λ m. finite.keys m) same where
-      nothing : Found → Unit {0}
+      nothing : ReachedBlob → Unit {0}
       nothing found = tt
 
       es : List (BlobId × Unit {0})
@@ -170,7 +170,7 @@ keys_are_used r reached ordered just =
       sorted : IsStrictlySortedBy blob_cmp (keys_of es)
       sorted = subst (λ (ks : List BlobId). IsStrictlySortedBy blob_cmp ks) (sym (keys_of-map_values nothing reached.entries)) ordered
 
-      some_unit : (o : Option Found) → is_some (option_map nothing o) ≡ is_some o
+      some_unit : (o : Option ReachedBlob) → is_some (option_map nothing o) ≡ is_some o
       some_unit None = refl
       some_unit (Some x) = refl
 

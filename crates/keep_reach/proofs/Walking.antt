@@ -10,7 +10,7 @@ use Rattle.keep_names.specs.declared.blob.BlobType.TheVariants.{Content}
 use Rattle.keep_catalog.specs.Orders.{blob_eq}
 use Rattle.keep_reach.specs.Reach.{HasBlob, Naming, Names, Reaches}
 use Rattle.keep_reach.specs.Walk.{Choosing, Grew, GrewAll, HasHeight, HaveHeight, IsWalked, Knows, KnowsAll, ReachedFrom, Walked}
-use Rattle.keep_reach.specs.declared.reached_blobs.Found.{Found}
+use Rattle.keep_reach.specs.declared.reached_blobs.ReachedBlob.{ReachedBlob}
 use Rattle.keep_catalog.proofs.Growing.{taken_more}
 use Rattle.keep_reach.proofs.Heights.{one_higher}
 use Rattle.keep_catalog.proofs.SpotOrders.{blob_eq_same, blob_eq_refl}
@@ -30,7 +30,7 @@ pub in_last : (xs : List BlobId) (b : BlobId) → HasBlob (xs ++ b ∷ []) b
 in_last [] b = inl refl
 in_last (x ∷ xs) b = inr (in_last xs b)
 
-module _ (old new : Walked) (blob : BlobId) (found : Found) (put : (q : BlobId) → tree.get blob_cmp new q ≡ cond (is_at (blob_cmp blob) q) (Some found) (tree.get blob_cmp old q)) where
+module _ (old new : Walked) (blob : BlobId) (found : ReachedBlob) (put : (q : BlobId) → tree.get blob_cmp new q ≡ cond (is_at (blob_cmp blob) q) (Some found) (tree.get blob_cmp old q)) where
   put_here : tree.get blob_cmp new blob ≡ Some found
   put_here = put blob ∙ ap (λ b. cond b (Some found) (tree.get blob_cmp old blob)) (blob_eq_refl blob)
 
@@ -54,7 +54,7 @@ module _ (old new : Walked) (blob : BlobId) (found : Found) (put : (q : BlobId) 
     cases false other = inr (record { known = sym (ap is_some (put_there q other)) ∙ knows.known })
 
   -- what holds of each remembered blob, and of this one
-  put_holds : (P : BlobId → Found → Type 0) → ((q : BlobId) (f : Found) → tree.get blob_cmp old q ≡ Some f → P q f) → P blob found → (q : BlobId) (f : Found) → tree.get blob_cmp new q ≡ Some f → P q f
+  put_holds : (P : BlobId → ReachedBlob → Type 0) → ((q : BlobId) (f : ReachedBlob) → tree.get blob_cmp old q ≡ Some f → P q f) → P blob found → (q : BlobId) (f : ReachedBlob) → tree.get blob_cmp new q ≡ Some f → P q f
   put_holds P before here q f is = cases (blob_eq blob q) refl where
     cases : (b : Bool) → blob_eq blob q ≡ b → P q f
     cases true same =
@@ -105,7 +105,7 @@ module _ (old new : Walked) (blob : BlobId) (found : Found) (put : (q : BlobId) 
         let R : ℕ → Type 0 = λ n. Reaches named n from.top b in
         (from.top, rw is from.among, subst R same from.reached)
 
-abbrev in_order : List (BlobId × Found) → Type 0
+abbrev in_order : List (BlobId × ReachedBlob) → Type 0
 in_order es = IsStrictlySortedBy blob_cmp (keys_of es)
 
 module _ (named : Naming) (chosen : Choosing) where

@@ -7,13 +7,13 @@ use Rattle.keep_names.specs.Orders.{blob_cmp}
 use Rattle.keep_names.specs.declared.blob.BlobId.{BlobId}
 use Rattle.keep_names.specs.declared.id.Id.{Id}
 use Rattle.keep_reach.specs.Reach.{HasBlob, Naming, Names, Reaches, first_of, refusal_at}
-use Rattle.keep_reach.specs.declared.reached_blobs.Found.{Found}
+use Rattle.keep_reach.specs.declared.reached_blobs.ReachedBlob.{ReachedBlob}
 use Rattle.keep_catalog.specs.declared.reach_error.ReachError.{ReachError}
 use Rattle.keep_catalog.specs.declared.reach_error.ReachError.TheVariants.{TooDeep}
 use Rattle.keep_catalog.specs.declared.spot.Spot.{Spot}
 
 abbrev pub Walked : Type 0
-Walked = BTreeMap BlobId Found
+Walked = BTreeMap BlobId ReachedBlob
 
 -- a height that doesn't fit the levels
 abbrev pub too_deep : ℕ → ℕ → Option ReachError
@@ -42,12 +42,12 @@ Choosing = BlobId → Option (Spot × Id)
 -- each remembered blob has this height, and is chosen there
 abbrev pub HaveHeights : Naming → Walked → Type 0
 HaveHeights named walked =
-    (blob : BlobId) (found : Found)
+    (blob : BlobId) (found : ReachedBlob)
     → tree.get blob_cmp walked blob ≡ Some found → HasHeight named blob found.height
 
 abbrev pub AreChosen : Choosing → Walked → Type 0
 AreChosen chosen walked =
-    (blob : BlobId) (found : Found)
+    (blob : BlobId) (found : ReachedBlob)
     → tree.get blob_cmp walked blob ≡ Some found → chosen blob ≡ Some (found.spot, found.index)
 
 -- what is remembered is right and in order, and what a remembered blob names is remembered

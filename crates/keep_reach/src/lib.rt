@@ -10,5 +10,5 @@ pub use reach_laws::{
     the_sound_is_broken_by_trees_alone, the_unbroken_is_sound, used_blobs_are_listed_once,
 };
 pub use reach_walk::levels;
-pub use reached_blobs::{Found, Reached};
+pub use reached_blobs::{Reached, ReachedBlob};
 pub use snapshots::{broken, reach, reach_all, used};

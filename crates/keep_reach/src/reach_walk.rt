@@ -5,7 +5,7 @@ ghost use Rattle.keep_reach.specs.Reach.{first_of, most_levels, refusal_at};
 ghost use Rattle.keep_reach.specs.Walk.{Grew, GrewAll, HasHeight, HaveHeight, IsWalked, Knows, KnowsAll};
 ghost use Rattle.keep_catalog.specs.declared.reach_error.ReachError.TheVariants.{Memory};
 
-use crate::reached_blobs::{Found, Reached};
+use crate::reached_blobs::{Reached, ReachedBlob};
 use keep_catalog::{Catalog, ReachError};
 use keep_names::{BlobId, BlobType};
 use std::alloc::Global;
@@ -46,7 +46,7 @@ pub(crate) fn walk(
     match blob.blob_type {
         BlobType::Content => {
             let named = catalog.named(alloc, blob)?;
-            let found = Found {
+            let found = ReachedBlob {
                 height: 0,
                 spot: named.spot,
                 index: named.index,
@@ -60,7 +60,7 @@ pub(crate) fn walk(
             }
             let named = catalog.named(alloc, blob)?;
             let below = walk_all(alloc, catalog, &named.names, levels - 1, walked)?;
-            let found = Found {
+            let found = ReachedBlob {
                 height: below + 1,
                 spot: named.spot,
                 index: named.index,

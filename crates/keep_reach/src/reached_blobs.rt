@@ -4,7 +4,7 @@ use std::collections::BTreeMap;
 
 /// Where a walk found a blob.
 #[derive(Clone, Copy, PartialEq, Eq)]
-pub struct Found {
+pub struct ReachedBlob {
     /// How many levels of trees it has: none for a piece of a file.
     pub height: u16,
     /// Its chosen spot.
@@ -14,4 +14,4 @@ pub struct Found {
 }
 
 /// Each reached blob, with where it was found.
-pub type Reached = BTreeMap<BlobId, Found>;
+pub type Reached = BTreeMap<BlobId, ReachedBlob>;

@@ -20,7 +20,7 @@ use Rattle.keep_catalog.specs.Places.{chosen_listing}
 use Rattle.keep_reach.specs.Reach.{Reaches, most_levels}
 use Rattle.keep_reach.specs.Snapshots.{Owes, refusal_from, refusal_of, root_of}
 use Rattle.keep_reach.specs.Walk.{AreChosen, Knows, Walked}
-use Rattle.keep_reach.specs.declared.reached_blobs.Found.{Found}
+use Rattle.keep_reach.specs.declared.reached_blobs.ReachedBlob.{ReachedBlob}
 use Rattle.keep_catalog.specs.declared.reach_error.ReachError.{ReachError}
 use Rattle.keep_catalog.specs.declared.spot.Spot.{Spot}
 use Rattle.keep_catalog.specs.declared.unread.FileError.TheVariants.{Snap}
@@ -54,7 +54,7 @@ not_there r snapshot h = no_file r snapshot (none_there (finite.get r.files (rec
 
 -- ---- what is reached from its tree
 
-placed_by : (r : Repository) (reached : Walked) (blob : BlobId) (o : Option Found) → tree.get blob_cmp reached blob ≡ o → is_some o ≡ true → ((found : Found) → o ≡ Some found → chosen_listing r blob ≡ Some (found.spot, found.index)) → option_map (λ f. f.spot) o ≡ option_map (λ e. e.0) (chosen_listing r blob)
+placed_by : (r : Repository) (reached : Walked) (blob : BlobId) (o : Option ReachedBlob) → tree.get blob_cmp reached blob ≡ o → is_some o ≡ true → ((found : ReachedBlob) → o ≡ Some found → chosen_listing r blob ≡ Some (found.spot, found.index)) → option_map (λ f. f.spot) o ≡ option_map (λ e. e.0) (chosen_listing r blob)
 placed_by r reached blob None is known chosen = cc
 placed_by r reached blob (Some found) is known chosen = sym (ap (option_map (λ (e : Spot × Id). e.0)) (chosen found refl))
 

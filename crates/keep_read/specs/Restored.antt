@@ -21,7 +21,7 @@ use Rattle.keep_catalog.specs.declared.unread.FileError.TheVariants.{Snap}
 use Rattle.keep_read.specs.Contents.{ContentData, contents_at}
 use Rattle.keep_read.specs.declared.restore_error.RestoreError.{RestoreError}
 use Rattle.keep_read.specs.declared.restore_error.RestoreError.TheVariants.{NoSnapshot, Reach, Unread}
-use Rattle.keep_read.specs.declared.restored.Restored.{Restored}
+use Rattle.keep_read.specs.declared.restored.RestoredFiles.{RestoredFiles}
 
 -- paths in byte order
 abbrev pub path_cmp : List ℕ → List ℕ → Ordering
@@ -32,8 +32,8 @@ pub record RestoredData : Type 0 where
   pub files : finite.FinMap path_cmp (List ℕ)
   pub skipped : ℕ
 
--- what a `Restored` says
-abbrev pub restored_view : Restored → RestoredData
+-- what a `RestoredFiles` says
+abbrev pub restored_view : RestoredFiles → RestoredData
 restored_view restored = record {
   files = finite.from_entries (map (λ e. (string_bytes e.0, e.1.items)) restored.files.entries);
   skipped = restored.skipped;

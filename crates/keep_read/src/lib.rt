@@ -16,4 +16,4 @@ pub use findings::audit;
 pub use restoration::restore;
 pub use restore_error::RestoreError;
 pub use restore_laws::{paths_are_apart, sound_repositories_lose_no_blob};
-pub use restored::Restored;
+pub use restored::RestoredFiles;

@@ -10,7 +10,7 @@ ghost use Rattle.keep_read.specs.declared.restore_error.RestoreError.TheVariants
 
 use crate::content_walk::contents_of;
 use crate::restore_error::RestoreError;
-use crate::restored::{Restored, restored_of};
+use crate::restored::{RestoredFiles, restored_of};
 use keep_catalog::{Catalog, FileError, ReachError, Unread};
 use keep_docs::DocError;
 use keep_names::{FileName, Id};
@@ -25,7 +25,7 @@ use std::alloc::Global;
 ///
 /// The snapshot is read once, and each blob that is reached is hashed once. A tree is read once for each path
 /// that leads to it, as long as a file or a skipped node is below it.
-pub fn restore(alloc: Global, view: &View, snapshot: Id) -> Result<Restored, RestoreError>
+pub fn restore(alloc: Global, view: &View, snapshot: Id) -> Result<RestoredFiles, RestoreError>
     ensures none { is_filled view.now.repo (snapshot_facet snapshot) ≡ false → result ≡ Err NoSnapshot }
     ensures restored { Answers (Reach Memory) restored_view (restored view.now.repo snapshot) result }
 {

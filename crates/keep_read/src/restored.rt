@@ -8,7 +8,7 @@ use std::collections::BTreeMap;
 
 /// The files of a snapshot.
 #[derive(Drop)]
-pub struct Restored {
+pub struct RestoredFiles {
     /// The bytes of each, by its path: `/` and the names from the root on, joined by `/`.
     pub files: BTreeMap<String, Vec<u8>>,
     /// How many nodes were neither a folder nor a file, each counted by path.
@@ -16,7 +16,10 @@ pub struct Restored {
 }
 
 /// The files among the contents of a tree, and how many of them are none.
-pub(crate) fn restored_of(alloc: Global, mut contents: Vec<Content>) -> Result<Restored, AllocError>
+pub(crate) fn restored_of(
+    alloc: Global,
+    mut contents: Vec<Content>,
+) -> Result<RestoredFiles, AllocError>
     ensures { IfOk result (λ restored.
         restored_view restored ≡ restored_of (map content_view contents.items)) }
 {
@@ -27,7 +30,7 @@ pub(crate) fn restored_of(alloc: Global, mut contents: Vec<Content>) -> Result<R
             files.insert(path, bytes)?;
         }
     }
-    Ok(Restored { files, skipped })
+    Ok(RestoredFiles { files, skipped })
 }
 
 /// How many of these are no files.

@@ -22,7 +22,7 @@ use Rattle.keep_journal.specs.Opening.{AreWellFormed, IsOpen}
 use Rattle.keep_journal.specs.declared.event.Entry as the_entry
 use Rattle.keep_journal.specs.declared.event.Event.{Event}
 use Rattle.keep_journal.proofs.Commits.{committed-Empty, final_number-push, is_in_force-push, last_marks-push}
-use Rattle.keep_journal.specs.Told.{entry_at, told_at, told_of}
+use Rattle.keep_journal.specs.Told.{entry_at, told_at, still_told}
 use Rattle.keep_journal.proofs.KeptTold.{is_open, told_shrinks}
 use Rattle.keep_journal.proofs.Legal.{legal_numbered}
 use Rattle.keep_journal.proofs.Within.{IsWithin, follow_within, told_deep, turns_within}
@@ -66,12 +66,12 @@ the_second false b off e = e
 
 module _ (opening next live : Repository) (j : Journal) (k n : ℕ) (marks : List PackMark) (stand : Stand) (legal : IsLegal j)
     (comes : ComesNext j (record { at = k; event = emptying n marks })) (below : final_number j < n) (fits : Fits (emptying n marks))
-    (opens : IsOpen next (posted j k (emptying n marks)) live) (is : IsSettled j live stand) (reads : Reads stand opening (told_of j)) where
+    (opens : IsOpen next (posted j k (emptying n marks)) live) (is : IsSettled j live stand) (reads : Reads stand opening (still_told j)) where
   abbrev e : Event
   e = emptying n marks
 
   abbrev after : Journal
-  after = told_of (posted j k (emptying n marks))
+  after = still_told (posted j k (emptying n marks))
 
   abbrev f : ℕ
   f = final_number j

@@ -41,7 +41,7 @@ pub trait Keeper: Drop + Send {
         ensures { result.now ≡ (ledger self.now).live };
 
     /// The numbers of the changes that have to be taken back with change n, from the greatest down.
-    fn taken(&self, n: u64) -> Result<Vec<u64>, Refusal>
+    fn taken_with(&self, n: u64) -> Result<Vec<u64>, Refusal>
         ensures { let events = (ledger self.now).events in
             RefusesOrGives (taken_refusal events n) (λ numbers. AreTaken events n numbers.items) result };
 
@@ -78,8 +78,8 @@ impl<S: Shelf + Send> Keeper for Book<S> {
         self.ledger().live()
     }
 
-    fn taken(&self, n: u64) -> Result<Vec<u64>, Refusal> {
-        Book::taken(self, n)
+    fn taken_with(&self, n: u64) -> Result<Vec<u64>, Refusal> {
+        Book::taken_with(self, n)
     }
 
     fn ask(&mut self, request: Request) -> Result<Told, Refusal> {

@@ -95,12 +95,12 @@ impl<B: Naming, K: Keeper> Register<B, K> {
     }
 
     /// The numbers of the changes that have to be taken back with change n after the list, from the greatest down.
-    pub fn taken(&self, n: u64) -> Result<Vec<u64>, Refusal>
+    pub fn taken_with(&self, n: u64) -> Result<Vec<u64>, Refusal>
         ensures taken { let events = (state_of B.opening self.now.events).events in
             RefusesOrGives (taken_refusal events n) (λ numbers. AreTaken events n numbers.items) result }
         ensures history { IsHistory B.hooks.vetoes B.opening self.now.events }
     {
-        self.keeper.taken(n)
+        self.keeper.taken_with(n)
     }
 
     /// Asks the keeper. An event that is in, settled or not, is written and counted.

@@ -1,7 +1,7 @@
 use crate::loss::Lost;
 use keep_names::FileName;
 use keep_sources::Skipped;
-use keep_targets::Refusal;
+use keep_targets::TargetError;
 use std::alloc::{AllocError, AllocFailed};
 
 /// What a rescue came to.
@@ -27,7 +27,7 @@ pub enum NotRescued {
     /// Nothing of the old folder is whole.
     NothingWhole,
     /// The new folder took no more.
-    Refused(Refusal),
+    Refused(TargetError),
     /// Memory ran out.
     Memory,
 }

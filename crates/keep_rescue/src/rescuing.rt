@@ -8,8 +8,8 @@ ghost use Rattle.keep_sources.specs.Walked.{archive_of, skipped_of};
 
 use crate::rescued::{NotRescued, Rescued};
 use crate::salvage::{Salvage, put_file};
-use keep_sources::{Job, Skipped, Source, Stop, Taking};
-use keep_targets::{Refusal, Target};
+use keep_sources::{Scope, Skipped, Source, Stop, Taking};
+use keep_targets::{Target, TargetError};
 use std::alloc::{AllocError, Global};
 use std::collections::BTreeMap;
 
@@ -57,7 +57,7 @@ fn walked<S: Source, T: Target>(
 fn take<S: Source, T: Target>(
     alloc: Global,
     taking: &mut Taking<S, Salvage<T>>,
-    job: &Job,
+    job: &Scope,
 ) -> Result<Vec<Skipped>, Stop>
     ensures { IfOk result (λ skipped. IsTaken S.told job.now (seen_by T.calls (archive_of taking.old))
         (seen_by T.calls (archive_of taking.new)) (skipped_of taking.old) skipped.items) }
@@ -67,7 +67,7 @@ fn take<S: Source, T: Target>(
 }
 
 /// Why nothing is rescued, where the walk stopped so.
-fn refused(stop: Stop, refusal: Option<Refusal>) -> NotRescued {
+fn refused(stop: Stop, refusal: Option<TargetError>) -> NotRescued {
     match (stop, refusal) {
         (Stop::Refused, Some(refusal)) => NotRescued::Refused(refusal),
         _ => NotRescued::Memory,
@@ -75,7 +75,7 @@ fn refused(stop: Stop, refusal: Option<Refusal>) -> NotRescued {
 }
 
 /// What of the old folder is read.
-fn wanted(alloc: Global) -> Result<Job, AllocError>
+fn wanted(alloc: Global) -> Result<Scope, AllocError>
     ensures { IfOk result IsWanted }
 {
     let mut paths = Vec::new(alloc);
@@ -83,7 +83,7 @@ fn wanted(alloc: Global) -> Result<Job, AllocError>
     paths.push(String::from_str(alloc, "data")?)?;
     paths.push(String::from_str(alloc, "index")?)?;
     paths.push(String::from_str(alloc, "snapshots")?)?;
-    Ok(Job {
+    Ok(Scope {
         paths,
         excludes: Vec::new(alloc),
         known: BTreeMap::new(alloc),

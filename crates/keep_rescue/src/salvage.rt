@@ -5,8 +5,8 @@ use crate::loss::{Loss, Lost};
 use crate::names::{name_at, path_below};
 use keep_docs::{ConfigError, DocError, read_config};
 use keep_names::{FileName, Id};
-use keep_sources::{Receives, Sight, Stop};
-use keep_targets::{Refusal, Target};
+use keep_sources::{Receives, Stat, Stop};
+use keep_targets::{Target, TargetError};
 use std::alloc::{AllocError, Global};
 
 /// A rescue under way: the walk over the old folder gives it what it meets.
@@ -22,7 +22,7 @@ pub(crate) struct Salvage<T> {
     pub(crate) saved: Vec<FileName>,
     pub(crate) lost: Vec<Lost>,
     /// Why the target refused, if it did.
-    pub(crate) refusal: Option<Refusal>,
+    pub(crate) refusal: Option<TargetError>,
 }
 
 impl<T: Target> Salvage<T> {
@@ -46,7 +46,7 @@ impl<T: Target> Salvage<T> {
     }
 
     /// Notes why the target refused: no more is taken then.
-    fn refused(&mut self, refusal: Refusal) -> Stop {
+    fn refused(&mut self, refusal: TargetError) -> Stop {
         self.refusal = Some(refusal);
         Stop::Refused
     }
@@ -129,7 +129,7 @@ impl<T: Target> Receives for Salvage<T> {
         self.make_folder(path)
     }
 
-    fn close_folder(&mut self, _sight: &Sight) -> Result<(), Stop> {
+    fn close_folder(&mut self, _sight: &Stat) -> Result<(), Stop> {
         let _closed = self.folders.pop();
         Ok(())
     }
@@ -139,7 +139,7 @@ impl<T: Target> Receives for Salvage<T> {
         Ok(())
     }
 
-    fn end_file(&mut self, name: &str, _sight: &Sight) -> Result<(), Stop> {
+    fn end_file(&mut self, name: &str, _sight: &Stat) -> Result<(), Stop> {
         let path = path_below(self.alloc, &self.folders, name)?;
         self.settle(path)?;
         self.bytes.clear();
@@ -151,11 +151,11 @@ impl<T: Target> Receives for Salvage<T> {
         Ok(())
     }
 
-    fn same_file(&mut self, _name: &str, _content: &[Id], _sight: &Sight) -> Result<(), Stop> {
+    fn same_file(&mut self, _name: &str, _content: &[Id], _sight: &Stat) -> Result<(), Stop> {
         Ok(())
     }
 
-    fn add_other(&mut self, name: &str, _sight: &Sight) -> Result<(), Stop> {
+    fn add_other(&mut self, name: &str, _sight: &Stat) -> Result<(), Stop> {
         let path = path_below(self.alloc, &self.folders, name)?;
         self.lose(path, Loss::NoFile)
     }
@@ -177,7 +177,11 @@ fn push<X: Drop>(list: &mut Vec<X>, item: X) -> Result<(), AllocError>
 }
 
 /// Makes a file of these bytes.
-pub(crate) fn put_file<T: Target>(target: &mut T, place: &str, bytes: &[u8]) -> Result<(), Refusal>
+pub(crate) fn put_file<T: Target>(
+    target: &mut T,
+    place: &str,
+    bytes: &[u8],
+) -> Result<(), TargetError>
     ensures { OnOk result (T.calls target.new ≡ putting (T.calls target.old) place.now bytes.now) }
 {
     target.make_file(place)?;

@@ -4,33 +4,33 @@ use Rattle.std.proofs.lemmas.List.{map-append, take_more}
 use Rattle.std.specs.List.{AllZip}
 use Rattle.keep_nodes.specs.Choosing.{lent_view}
 use Rattle.keep_nodes.specs.Entries.{EntryData, entry_view}
-use Rattle.keep_nodes.specs.declared.path_node.Entry.{Entry}
+use Rattle.keep_nodes.specs.declared.path_node.PathNode.{PathNode}
 use Rattle.keep_putting.specs.declared.wanted.Wanted.{Wanted}
 use Rattle.keep_restores.specs.Wanted.{IsWantedOf}
 
 -- what is lent
-abbrev pub lent : List (Bor Entry) → List Entry
-lent entries = map (λ (entry : Bor Entry). entry.now) entries
+abbrev pub lent : List (Bor PathNode) → List PathNode
+lent entries = map (λ (entry : Bor PathNode). entry.now) entries
 
-pub lent_views : (entries : List (Bor Entry)) → map entry_view (lent entries) ≡ map lent_view entries
+pub lent_views : (entries : List (Bor PathNode)) → map entry_view (lent entries) ≡ map lent_view entries
 lent_views [] = refl
 lent_views (entry ∷ entries) = ap (λ (l : List EntryData). entry_view entry.now ∷ l) (lent_views entries)
 
-zip_push : (entries : List Entry) (wanted : List Wanted) (entry : Entry) (one : Wanted) → AllZip IsWantedOf entries wanted → IsWantedOf entry one
+zip_push : (entries : List PathNode) (wanted : List Wanted) (entry : PathNode) (one : Wanted) → AllZip IsWantedOf entries wanted → IsWantedOf entry one
     → AllZip IsWantedOf (entries ++ entry ∷ []) (wanted ++ one ∷ [])
 zip_push [] [] entry one h is = (is, tt)
 zip_push [] (w ∷ wanted) entry one h is = absurd h
 zip_push (e ∷ entries) [] entry one h is = absurd h
 zip_push (e ∷ entries) (w ∷ wanted) entry one h is = (h.0, zip_push entries wanted entry one h.1 is)
 
-pub wanted_more : (entries : List (Bor Entry)) (k : ℕ) (entry : Bor Entry) (before after : List Wanted) (one : Wanted) → k < length entries
+pub wanted_more : (entries : List (Bor PathNode)) (k : ℕ) (entry : Bor PathNode) (before after : List Wanted) (one : Wanted) → k < length entries
     → entry ≡ get_or entries k entry → AllZip IsWantedOf (lent (take k entries)) before → IsWantedOf entry.now one
     → after ≡ before ++ one ∷ [] → AllZip IsWantedOf (lent (take (k + 1) entries)) after
 wanted_more entries k entry before after one inside here same is more =
     let next : take (k + 1) entries ≡ take k entries ++ entry ∷ [] =
-    take_more entries k entry inside ∙ ap (λ (x : Bor Entry). take k entries ++ x ∷ []) (sym here) in
+    take_more entries k entry inside ∙ ap (λ (x : Bor PathNode). take k entries ++ x ∷ []) (sym here) in
     let lent_next : lent (take (k + 1) entries) ≡ lent (take k entries) ++ entry.now ∷ [] =
-    ap lent next ∙ map-append (λ (e : Bor Entry). e.now) (take k entries) (entry ∷ []) in
-    subst (λ (l : List Entry). AllZip IsWantedOf l after) (sym lent_next)
+    ap lent next ∙ map-append (λ (e : Bor PathNode). e.now) (take k entries) (entry ∷ []) in
+    subst (λ (l : List PathNode). AllZip IsWantedOf l after) (sym lent_next)
     (subst (AllZip IsWantedOf (lent (take k entries) ++ entry.now ∷ [])) (sym more)
     (zip_push (lent (take k entries)) before entry.now one same is))

@@ -4,7 +4,7 @@ use Rattle.std.proofs.lemmas.List.{map-append}
 use Rattle.std.specs.Str.{chars}
 use Rattle.keep_nodes.specs.Choosing.{names_in}
 use Rattle.keep_nodes.specs.Entries.{EntryData, entry_view}
-use Rattle.keep_nodes.specs.declared.path_node.Entry.{Entry}
+use Rattle.keep_nodes.specs.declared.path_node.PathNode.{PathNode}
 use Rattle.keep_restores.specs.Choosing.{chosen_before, chosen_onto, first, is_within, leads_to}
 use Rattle.keep_tree.specs.Parsing.{PatternData}
 
@@ -13,7 +13,7 @@ onto_last : (patterns : List PatternData) (entries : List EntryData) (last : Ent
 onto_last patterns [] last behind = refl
 onto_last patterns (entry ∷ entries) last behind = ap (chosen_before patterns entry) (onto_last patterns entries last behind)
 
-pub one_more : (patterns : List PatternData) (rest front : List Entry) (last : Entry) (behind whole : List EntryData) (next : Option EntryData) (chosen : Bool)
+pub one_more : (patterns : List PatternData) (rest front : List PathNode) (last : PathNode) (behind whole : List EntryData) (next : Option EntryData) (chosen : Bool)
     → rest ≡ front ++ last ∷ []
     → chosen ≡ (is_within patterns (map chars (names_in (string_bytes last.path))) || leads_to (string_bytes last.path) next)
     → next ≡ first behind
@@ -27,5 +27,5 @@ one_more patterns rest front last behind whole next chosen split is is_next so_f
     ap (chosen_onto patterns (map entry_view front)) same
     ∙ sym (onto_last patterns (map entry_view front) (entry_view last) behind)
     ∙ ap (λ (l : List EntryData). chosen_onto patterns l behind) (sym (map-append entry_view front (last ∷ [])))
-    ∙ ap (λ (r : List Entry). chosen_onto patterns (map entry_view r) behind) (sym split)
+    ∙ ap (λ (r : List PathNode). chosen_onto patterns (map entry_view r) behind) (sym split)
     ∙ so_far

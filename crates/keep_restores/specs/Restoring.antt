@@ -5,7 +5,7 @@ use Rattle.keep_names.specs.BlobId.{piece_of}
 use Rattle.keep_names.specs.declared.id.Id.{Id}
 use Rattle.keep_nodes.specs.Entries.{EntryData, entry_view}
 use Rattle.keep_nodes.specs.Listed.{whole_nodes_due}
-use Rattle.keep_nodes.specs.declared.path_node.Entry.{Entry}
+use Rattle.keep_nodes.specs.declared.path_node.PathNode.{PathNode}
 use Rattle.keep_putting.specs.Filling.{Source}
 use Rattle.keep_putting.specs.Putting.{IsRestored}
 use Rattle.keep_putting.specs.declared.restored.Restored.{Restored}
@@ -25,7 +25,7 @@ pieces_in r id = bytes_of r (piece_of id)
 -- the snapshot can be had whole, and of its nodes those that are asked for were put back, from the repository's pieces
 pub record IsPutBack (r : Repository) (snapshot : Id) (include : List PatternData) (caller : Owner) (calls : List Call) (told : Restored) : Type 0 where
   pub nodes : List EntryData
-  pub entries : List Entry
+  pub entries : List PathNode
   pub wanted : List Wanted
   pub had : whole_nodes_due r snapshot ≡ Ok nodes
   pub chosen : map entry_view entries ≡ included include nodes

@@ -6,8 +6,8 @@ use Rattle.std.specs.declared.string.String.{String}
 use Rattle.serde_json.specs.View.{members_view}
 use Rattle.keep_members.specs.Found.{found_in, found_view}
 use Rattle.keep_members.specs.Mode.{unix_mode}
-use Rattle.keep_members.specs.declared.found_members.Found.{Found}
-use Rattle.keep_nodes.specs.declared.path_node.Entry.{Entry}
+use Rattle.keep_members.specs.declared.found_members.FoundMembers.{FoundMembers}
+use Rattle.keep_nodes.specs.declared.path_node.PathNode.{PathNode}
 use Rattle.keep_putting.specs.declared.wanted.Wanted.{Wanted}
 use Rattle.keep_putting.specs.declared.wanted.What.{What}
 use Rattle.keep_putting.specs.declared.wanted.What.TheVariants.{File, Folder, Link, Other}
@@ -40,8 +40,8 @@ IsName quoted (Some name) = unquoted quoted ≡ Some (string_bytes name)
 IsName quoted None = (name : String Global) → unquoted quoted ≡ Some (string_bytes name) → ⊥
 
 -- at its path, under its name, what it is, and what its members say of owner, mode and times
-pub record IsWantedOf (entry : Entry) (wanted : Wanted) : Type 0 where
-  pub found : Found
+pub record IsWantedOf (entry : PathNode) (wanted : Wanted) : Type 0 where
+  pub found : FoundMembers
   pub said : found_view found ≡ found_in (members_view entry.node.others.entries)
   pub same_path : string_bytes wanted.path ≡ string_bytes entry.path
   pub named : IsName (string_bytes entry.node.name) wanted.name

@@ -8,7 +8,7 @@ ghost use Rattle.keep_nodes.specs.Entries.{entry_view};
 ghost use Rattle.keep_restores.specs.Choosing as spec;
 ghost use Rattle.keep_restores.specs.Choosing.{chosen_onto, included};
 
-use keep_nodes::Entry;
+use keep_nodes::PathNode;
 use keep_tree::{Letters, Pattern, letters_of, matches_path};
 use std::alloc::{AllocError, Global};
 
@@ -16,9 +16,9 @@ use std::alloc::{AllocError, Global};
 /// one of them matches, all that is below these, and the folders on the way to them.
 pub(crate) fn chosen<'a>(
     alloc: Global,
-    entries: &'a [Entry],
+    entries: &'a [PathNode],
     include: &[Pattern],
-) -> Result<Vec<&'a Entry>, AllocError>
+) -> Result<Vec<&'a PathNode>, AllocError>
     ensures { IfOk result (λ found. map lent_view found.items
         ≡ included (map pattern_view include.now) (map entry_view entries.entry.now)) }
 {
@@ -30,9 +30,9 @@ pub(crate) fn chosen<'a>(
 /// Those that are chosen, the last one first.
 fn chosen_backward<'a>(
     alloc: Global,
-    entries: &'a [Entry],
+    entries: &'a [PathNode],
     include: &[Pattern],
-) -> Result<Vec<&'a Entry>, AllocError>
+) -> Result<Vec<&'a PathNode>, AllocError>
     ensures { IfOk result (λ found. map lent_view (reverse found.items)
         ≡ chosen_onto (map pattern_view include.now) (map entry_view entries.entry.now) []) }
 {
@@ -54,8 +54,8 @@ fn chosen_backward<'a>(
 fn is_asked_for(
     alloc: Global,
     include: &[Pattern],
-    entry: &Entry,
-    next: Option<&Entry>,
+    entry: &PathNode,
+    next: Option<&PathNode>,
 ) -> Result<bool, AllocError>
     ensures { IfOk result (λ asked. asked ≡ (spec.is_within (map pattern_view include.now) (map chars (names_in (string_bytes entry.now.path)))
         || spec.leads_to (string_bytes entry.now.path) (option_map lent_view next.entry))) }
@@ -89,7 +89,7 @@ fn matches_first(patterns: &[Pattern], names: &[Letters]) -> bool
 }
 
 /// Whether a folder of this path is on the way to this node.
-fn leads_to(alloc: Global, path: &str, next: Option<&Entry>) -> Result<bool, AllocError>
+fn leads_to(alloc: Global, path: &str, next: Option<&PathNode>) -> Result<bool, AllocError>
     ensures { IfOk result (λ leads. leads ≡ spec.leads_to path.now (option_map lent_view next.entry)) }
 {
     let Some(next) = next else {

@@ -13,7 +13,7 @@ ghost use Rattle.keep_catalog.specs.declared.reach_error.ReachError.TheVariants 
 use crate::not_dumped::NotDumped;
 use keep_catalog::{Catalog, ReachError};
 use keep_names::Id;
-use keep_nodes::{Entry, node_at, nodes_of, piece};
+use keep_nodes::{PathNode, node_at, nodes_of, piece};
 use keep_tree::NodeKind;
 use keep_view::View;
 use std::alloc::Global;
@@ -47,7 +47,7 @@ pub fn dump<W: Write>(
 }
 
 /// The pieces of the file at this path.
-fn content_at<'a>(entries: &'a [Entry], path: &str) -> Result<&'a [Id], NotDumped>
+fn content_at<'a>(entries: &'a [PathNode], path: &str) -> Result<&'a [Id], NotDumped>
     ensures { result_map_both (λ ids. ids.now) (λ why. why) result
         ≡ spec.content_in (choosing.node_at path.now (map entry_view entries.entry.now)) }
 {

@@ -4,14 +4,14 @@ ghost use Rattle.keep_restores.specs.Wanted.{IsLink, IsName, IsOther, IsWantedOf
 
 use crate::attributes::{mode_of, owner_of, times_of};
 use keep_members::members_in;
-use keep_nodes::Entry;
+use keep_nodes::PathNode;
 use keep_putting::{Wanted, What};
 use keep_quoted::unquote;
 use keep_tree::NodeKind;
 use std::alloc::{AllocError, Global};
 
 /// What is to be put back of a node.
-pub fn wanted_of(alloc: Global, entry: &Entry) -> Result<Wanted, AllocError>
+pub fn wanted_of(alloc: Global, entry: &PathNode) -> Result<Wanted, AllocError>
     ensures { IfOk result (λ wanted. IsWantedOf entry.now wanted) }
 {
     let found = members_in(alloc, &entry.node.others)?;

@@ -20,7 +20,7 @@ use Rattle.keep_catalog.specs.Ordered.{in_order, keyed}
 use Rattle.keep_plan.proofs.Ordered.{All-entries, All-of_map}
 use Rattle.keep_plan.specs.Files.{files_used}
 use Rattle.keep_plan.specs.Reuse.{reused_files, uses_of}
-use Rattle.keep_plan.specs.Settling.{is_there, names_there, settled}
+use Rattle.keep_plan.specs.Storing.{is_there, names_there, stored_built}
 use Rattle.keep_build.proofs.Built.{adds_so, built_so}
 use Rattle.keep_build.specs.Blobs.{BlobData, names_once}
 use Rattle.keep_build.specs.Stored.{built, index_file, pack_file, packs_built, stored_of}
@@ -128,7 +128,7 @@ there_before : (r : Repository) (files : List NamedBytes) → AllByRecursion Fil
 there_before r files h = passed (is_there r) IsBefore (file_names files) (All-of_map IsBefore (λ (f : NamedBytes). f.name) files h)
 
 pub present_before : (r : Repository) (blobs : List BlobData) → AllByRecursion IsBefore (stored_of r blobs).present
-unfolding stored_of settled
+unfolding stored_of stored_built
 present_before r blobs =
     all_in_order name_total name_exact IsBefore (reused_files r (names_once blobs) ++ names_there r (built r blobs))
     (all_append IsBefore (reused_files r (names_once blobs)) (names_there r (built r blobs)) (reused_before r (names_once blobs)) (there_before r (built r blobs) (built_before r blobs)))

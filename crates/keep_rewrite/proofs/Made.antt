@@ -23,7 +23,7 @@ use Rattle.keep_change.specs.declared.change.PackMark.{PackMark}
 use Rattle.keep_catalog.specs.Files.{file_in, snap_in, snap_read}
 use Rattle.keep_plan.proofs.Made.{added_so, settled_made}
 use Rattle.keep_plan.proofs.Ordered.{All-of_map, each_so}
-use Rattle.keep_plan.specs.Settling.{CanBeMade, absent_files, settled}
+use Rattle.keep_plan.specs.Storing.{CanBeMade, absent_files, stored_built}
 use Rattle.keep_plan.specs.declared.stored.Stored.{Stored}
 use Rattle.keep_build.proofs.Built.{built_so}
 use Rattle.keep_build.specs.Blobs.{BlobData, names_once}
@@ -139,8 +139,8 @@ record CanBeAdded (r : Repository) (adds : List NamedBytes) : Type 0 where
   pub named : AreNamedByBytes adds
   pub absent : All (λ (f : NamedBytes). get r.files f.name ≡ None) adds
 
-from_settled : (r : Repository) (files : List NamedBytes) → CanBeMade r (settled r [] files) → CanBeAdded r (absent_files r files)
-unfolding settled
+from_settled : (r : Repository) (files : List NamedBytes) → CanBeMade r (stored_built r [] files) → CanBeAdded r (absent_files r files)
+unfolding stored_built
 from_settled r files can = record { in_order = can.adds_in_order; named = can.named; absent = can.adds }
 
 can_be_added : (r : Repository) (files : List NamedBytes) → AreNamedByBytes files → CanBeAdded r (absent_files r files)

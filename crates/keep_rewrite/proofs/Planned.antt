@@ -24,12 +24,12 @@ use Rattle.keep_plan.specs.Taking.{taken_in}
 use Rattle.keep_plan.specs.declared.pick.Pick.{Pick}
 use Rattle.keep_plan.specs.Refusal.{of_reach, unless, unread_first}
 use Rattle.keep_plan.proofs.Taken.{fewer_so}
-use Rattle.keep_plan.specs.Settling.{absent_files, is_any_taken}
+use Rattle.keep_plan.specs.Storing.{absent_files, is_any_taken}
 use Rattle.keep_plan.specs.declared.plan_error.PlanError.{PlanError}
 use Rattle.keep_plan.specs.declared.plan_error.PlanError.TheVariants.{Full, Memory, NothingToDo, SnapshotThere}
 use Rattle.keep_plan.specs.declared.stored.Stored.{Stored}
 use Rattle.keep_names.specs.declared.blob.BlobType.TheVariants.{Content, Tree}
-use Rattle.keep_plan.specs.Settling.{settled}
+use Rattle.keep_plan.specs.Storing.{stored_built}
 use Rattle.keep_build.specs.Blobs.{BlobData, blob_id_of, is_full, is_new, is_of, new_of}
 use Rattle.keep_build.specs.Packs.{packs_of}
 use Rattle.keep_build.specs.Stored.{packs_and_index, store_of, stored_of}
@@ -51,7 +51,7 @@ firsts_stored r all once stands =
     ap (λ (bs : List BlobData). settled_by bs) stands.firsts
   where
     settled_by : List BlobData → Stored
-    settled_by bs = settled r (map blob_id_of bs) (packs_and_index (packs_of (filter (is_of Content) (filter (is_new r) bs)) ++ packs_of (filter (is_of Tree) (filter (is_new r) bs))))
+    settled_by bs = stored_built r (map blob_id_of bs) (packs_and_index (packs_of (filter (is_of Content) (filter (is_new r) bs)) ++ packs_of (filter (is_of Tree) (filter (is_new r) bs))))
 
 pub store_same : (r : Repository) (all once : List BlobData) → StandsFor all once → store_of r all ≡ store_of r once
 unfolding store_of

@@ -22,7 +22,7 @@ use Rattle.keep_reach.specs.Snapshots.{refusals_of}
 use Rattle.keep_plan.specs.Taking.{taken_in}
 use Rattle.keep_plan.specs.declared.pick.Pick.{Pick}
 use Rattle.keep_plan.specs.Refusal.{of_reach, unless, unread_first}
-use Rattle.keep_plan.specs.Settling.{absent_files, is_any_taken}
+use Rattle.keep_plan.specs.Storing.{absent_files, is_any_taken}
 use Rattle.keep_plan.specs.declared.plan_error.PlanError.{PlanError}
 use Rattle.keep_plan.specs.declared.plan_error.PlanError.TheVariants.{NothingToDo, SnapshotThere}
 use Rattle.keep_plan.specs.declared.stored.Stored.{Stored}

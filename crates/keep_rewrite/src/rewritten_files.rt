@@ -3,7 +3,7 @@ ghost use Rattle.keep_docs.specs.Doc.{Answers};
 ghost use Rattle.keep_tree.specs.Matching.{is_nil};
 ghost use Rattle.keep_snap.specs.Snap.{snap_view};
 ghost use Rattle.keep_snap.specs.Written.{IsCarried};
-ghost use Rattle.keep_plan.specs.Settling.{absent_files, is_any_taken};
+ghost use Rattle.keep_plan.specs.Storing.{absent_files, is_any_taken};
 ghost use Rattle.keep_plan.specs.declared.plan_error.PlanError.TheVariants as the_error;
 ghost use Rattle.keep_rewrite.specs.Rewriting.{rewriting};
 ghost use Rattle.keep_rewrite.specs.Rewriting as spec;
@@ -11,7 +11,7 @@ ghost use Rattle.keep_rewrite.specs.Rewriting as spec;
 use keep_catalog::Catalog;
 use keep_change::{Change, Listed, StoredFile};
 use keep_names::{FileName, Id, Kind};
-use keep_plan::{PlanError, Stored, settle_new};
+use keep_plan::{PlanError, Stored, split_new};
 use keep_repo::Repo;
 use keep_snap::{Snap, retree, snapshots_read_back, write_snap};
 use std::alloc::{AllocError, Global};
@@ -58,7 +58,7 @@ impl Rewritten {
             else Ok (absent_files repo.now new))) result }
     {
         let new = self.new_files(alloc, catalog)?;
-        let adds = settle_new(alloc, repo, new)?.ok_or(PlanError::SnapshotThere)?;
+        let adds = split_new(alloc, repo, new)?.ok_or(PlanError::SnapshotThere)?;
         if self.retreed.is_empty() {
             return Err(PlanError::NothingToDo);
         }

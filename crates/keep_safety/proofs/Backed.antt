@@ -26,7 +26,7 @@ use Rattle.keep_snap.specs.Written.{snap_data}
 use Rattle.keep_snap.specs.declared.time.Time.{Time}
 use Rattle.keep_catalog.specs.Files.{snap_of}
 use Rattle.keep_plan.specs.Refusal.{unless, unread_first}
-use Rattle.keep_plan.specs.Settling.{is_there}
+use Rattle.keep_plan.specs.Storing.{is_there}
 use Rattle.keep_plan.specs.declared.plan_error.PlanError.{PlanError}
 use Rattle.keep_plan.specs.declared.plan_error.PlanError.TheVariants.{BadTime, Full, SnapshotThere, TooDeep}
 use Rattle.keep_plan.specs.declared.stored.Stored.{Stored}

@@ -24,7 +24,7 @@ use Rattle.keep_index.specs.Reading as index_reading
 use Rattle.keep_catalog.specs.Orders.{blob_eq}
 use Rattle.keep_catalog.specs.Places.{chosen_listing}
 use Rattle.keep_catalog.specs.declared.spot.Spot.{Spot}
-use Rattle.keep_plan.specs.Settling.{RecordsUse, Settles, packs_among}
+use Rattle.keep_plan.specs.Storing.{RecordsUse, StoresBuilt, packs_among}
 use Rattle.keep_sound.specs.Careful.{GivesPlace}
 use Rattle.keep_sound.specs.Met.{IsIn, IsPartOf}
 use Rattle.keep_sound.specs.Plans.{Records, RecordsReuse}
@@ -100,7 +100,7 @@ either_of true b x y f g h = or_left x y (f refl)
 either_of false b x y f g h = or_right x y (g h)
 
 -- what is stored settles the built files
-stored_settles : Known → (r : Repository) (blobs : List BlobData) → Settles (built r blobs) (stored_of r blobs)
+stored_settles : Known → (r : Repository) (blobs : List BlobData) → StoresBuilt (built r blobs) (stored_of r blobs)
 unfolding stored_of
 stored_settles known r blobs = known.settles r (names_once blobs) (built r blobs)
 

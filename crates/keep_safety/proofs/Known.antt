@@ -24,7 +24,7 @@ use Rattle.keep_snap.specs.Shape.{IsSnap}
 use Rattle.keep_snap.specs.Snap.{SnapData}
 use Rattle.keep_snap.specs.Snap as snap_reading
 use Rattle.keep_snap.specs.Written.{snap_data}
-use Rattle.keep_plan.specs.Settling.{Settles, settled}
+use Rattle.keep_plan.specs.Storing.{StoresBuilt, stored_built}
 use Rattle.keep_sound.specs.Plans.{BuiltSupports, ReusedIsGiven, BackingUpIsSafe}
 use Rattle.keep_backup.specs.Backup.{FactsData, backup_change}
 use Rattle.keep_build.specs.Blobs.{BlobData}
@@ -43,7 +43,7 @@ pub record Known : Type 0 where
   pub within : (pack : List ℕ) (entries : List Blob) → HasHeader pack entries → All (LiesIn pack) entries
   -- an index is read as it was built
   pub index : (packs : List PackData) → Fits packs → index_reading.index_of (index_text packs) ≡ Ok packs
-  pub settles : (r : Repository) (used : List BlobId) (built : List NamedBytes) → Settles built (settled r used built)
+  pub settles : (r : Repository) (used : List BlobId) (built : List NamedBytes) → StoresBuilt built (stored_built r used built)
   pub reused : ReusedIsGiven
   pub supports : BuiltSupports
 

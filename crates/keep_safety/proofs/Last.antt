@@ -37,7 +37,7 @@ use Rattle.keep_catalog.specs.Places.{chosen_listing}
 use Rattle.keep_catalog.specs.declared.spot.Spot.{Spot}
 use Rattle.keep_plan.specs.Reuse.{reused_files, reused_packs, uses_of}
 use Rattle.keep_plan.specs.Files.{files_used}
-use Rattle.keep_plan.specs.Settling.{RecordsUse, names_there, packs_among, settled, unmarked_of}
+use Rattle.keep_plan.specs.Storing.{RecordsUse, names_there, packs_among, stored_built, unmarked_of}
 use Rattle.keep_plan.specs.declared.plan_error.PlanError.TheVariants.{BadTime, Full, Reach}
 use Rattle.keep_plan.specs.declared.unreached.Unreached.TheVariants.{MissingBlob}
 use Rattle.keep_plan.proofs.Recorded.{use_recorded}
@@ -105,7 +105,7 @@ module _ (r : Repository) (named_blobs : List BlobId) (blobs : List BlobData) (s
   made = change_of (stored_with r named_blobs blobs) snapshot
 
   takes_more : Takes made (stored_of r blobs)
-  unfolding stored_of stored_with settled
+  unfolding stored_of stored_with stored_built
   takes_more = record {
     adds = λ name has.
         ap (λ (names : List FileName). has_name names name) (map-append (λ (f : NamedBytes). f.name) (stored_with r named_blobs blobs).adds (snapshot ∷ []))
@@ -210,7 +210,7 @@ some_time facts good = cases (time_in facts.time) refl good where
 -- ---- the change
 
 adds_alike : (r : Repository) (P : NamedBytes → Type 0) (named_blobs : List BlobId) (blobs : List BlobData) → AllByRecursion P (built r blobs) → AllByRecursion P (stored_with r named_blobs blobs).adds
-unfolding stored_with stored_of settled
+unfolding stored_with stored_of stored_built
 adds_alike r P named_blobs blobs all = adds_so r P blobs all
 
 module _ (known : Known) (r all : Repository) (facts : FactsData) (tags : List (List ℕ)) (a : ArchiveData) (texts : Texts) (c : Change)

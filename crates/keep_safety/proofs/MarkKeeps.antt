@@ -26,8 +26,8 @@ use Rattle.keep_reach.specs.Reach.{HasBlob}
 use Rattle.keep_reach.specs.Snapshots.{IsUsed, Owes}
 use Rattle.keep_reach.specs.Used.{used_in}
 use Rattle.keep_catalog.specs.declared.spot.Spot.{Spot}
-use Rattle.keep_plan.proofs.Settled.{filled_there}
-use Rattle.keep_plan.specs.Settling.{RecordsUse, is_there, settled}
+use Rattle.keep_plan.proofs.StoredFiles.{filled_there}
+use Rattle.keep_plan.specs.Storing.{RecordsUse, is_there, stored_built}
 use Rattle.keep_sound.specs.Careful.{IsSafe}
 use Rattle.keep_sound.specs.Met.{HasOneText, IsPartOf}
 use Rattle.keep_sound.specs.Plans.{MarkingIsSafe, MarksIn, Records, RecordsReuse}
@@ -65,7 +65,7 @@ UsedAreListed = (r : Repository) (blob : BlobId) → HasBlob (used_in r) blob �
 abbrev pub UsesAreRecorded : Type 0
 UsesAreRecorded =
     (r : Repository) (used : List BlobId) (built : List NamedBytes) (blob : BlobId) (place : Spot × Id)
-    → list_any (blob_eq blob) used ≡ true → chosen_listing r blob ≡ Some place → RecordsUse (settled r used built) place
+    → list_any (blob_eq blob) used ≡ true → chosen_listing r blob ≡ Some place → RecordsUse (stored_built r used built) place
 
 module _ (apart : TellsApart blob_cmp) (listed : UsedAreListed) (recorded : UsesAreRecorded) (r : Repository) (known : set.FinSet id_cmp) (moment : ℤ) where
   abbrev planned : Change

@@ -22,7 +22,7 @@ use Rattle.keep_change.specs.declared.change.PackMark.{PackMark}
 use Rattle.keep_catalog.specs.Files.{file_in, index_of, what_is_read}
 use Rattle.keep_catalog.specs.Places.{is_among, listed_in, listed_of}
 use Rattle.keep_catalog.specs.declared.spot.PackedBlob.{PackedBlob}
-use Rattle.keep_plan.specs.Settling.{Settles, settled}
+use Rattle.keep_plan.specs.Storing.{StoresBuilt, stored_built}
 use Rattle.keep_sound.specs.Met.{IsIn, IsPartOf}
 use Rattle.keep_sound.specs.Standing.{file_facet}
 use Rattle.keep_upkeep.specs.Reindexing.{index_files, reindexing}
@@ -31,8 +31,8 @@ use Rattle.keep_upkeep.specs.Reindexing.{index_files, reindexing}
 abbrev pub WrittenReadBack : Type 0
 WrittenReadBack = (packs : List PackData) → Fits packs → index_reading.index_of (index_text packs) ≡ Ok packs
 
-abbrev pub BuiltAreSettled : Type 0
-BuiltAreSettled = (r : Repository) (used : List BlobId) (built : List NamedBytes) → Settles built (settled r used built)
+abbrev pub BuiltAreStored : Type 0
+BuiltAreStored = (r : Repository) (used : List BlobId) (built : List NamedBytes) → StoresBuilt built (stored_built r used built)
 
 -- an index of all files, of this text, lists what it was written of
 listed_new : WrittenReadBack → (all : Repository) (packs : List PackData) (id : Id) (p : PackedBlob) → Fits packs → finite.get all.files (named Index id) ≡ Some (index_text packs)
@@ -44,7 +44,7 @@ listed_new written all packs id p fits there among =
     ∙ among
 
 -- the change leaves an index that lists what the new one does
-pub listed_left : WrittenReadBack → BuiltAreSettled → TellsApart name_cmp → (r all : Repository) (packs : List PackData) (drops : List NamedBytes) (clears : List PackMark) (absent : List FileName) (p : PackedBlob)
+pub listed_left : WrittenReadBack → BuiltAreStored → TellsApart name_cmp → (r all : Repository) (packs : List PackData) (drops : List NamedBytes) (clears : List PackMark) (absent : List FileName) (p : PackedBlob)
     → Fits packs → All (IsIn all) (index_files packs) → is_among (flat_map listed_of packs) p ≡ true
     → (other : Id) × (leaves_filled (reindexing r (index_files packs) drops clears absent) (file_facet Index other) ≡ true) × (is_among (listed_in all other) p ≡ true)
 unfolding index_files

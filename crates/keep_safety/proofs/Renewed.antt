@@ -33,7 +33,7 @@ use Rattle.keep_plan.specs.Taking.{named_facts, taken_in}
 use Rattle.keep_plan.specs.declared.pick.Pick.{Pick}
 use Rattle.keep_plan.proofs.Made.{added_so}
 use Rattle.keep_plan.proofs.Ordered.{All-entries}
-use Rattle.keep_plan.specs.Settling.{absent_files}
+use Rattle.keep_plan.specs.Storing.{absent_files}
 use Rattle.keep_sound.specs.Careful.{IsSafe}
 use Rattle.keep_sound.specs.Met.{IsIn, IsPartOf}
 use Rattle.keep_sound.specs.Plans.{KeepsRoots, RetaggingIsSafe, root_in}
@@ -45,7 +45,7 @@ use Rattle.keep_labels.specs.Tagging.{retagged_file, tagged_file}
 use Rattle.keep_labels.proofs.Carried.{ReadIsSnap, snap_so}
 use Rattle.keep_labels.proofs.Lists.{all_both}
 use Rattle.keep_safety.proofs.Rooted.{Found, IsThere, each_dropped, found_so, said_in, snap_part, snap_there, tagged_says}
-use Rattle.keep_labels.proofs.Tagged.{WhatIsSettledCanBeMade, changed, new_files, old_files, tag_so, tag_well_formed}
+use Rattle.keep_labels.proofs.Tagged.{WhatIsStoredCanBeMade, changed, new_files, old_files, tag_so, tag_well_formed}
 use Rattle.keep_labels.proofs.Taken.{files_are_snapshots, names_of}
 use Rattle.keep_safety.proofs.Texts.{edited_texts}
 
@@ -98,7 +98,7 @@ module _ (law : ReadIsSnap) (r : Repository) where
 -- the laws on snapshots, and on names
 pub record Laws : Type 0 where
   pub apart : TellsApart name_cmp
-  pub settling : WhatIsSettledCanBeMade
+  pub settling : WhatIsStoredCanBeMade
   pub sorted : SortedListsAreWellFormed
   pub read : ReadIsSnap
   pub written : (s : SnapData) → IsSnap s → reading.snap_of (compact_text (snap_data s)) ≡ Ok s

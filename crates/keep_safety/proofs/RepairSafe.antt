@@ -29,7 +29,7 @@ use Rattle.keep_catalog.specs.Places.{is_among, is_stored, listed_in, listed_of,
 use Rattle.keep_catalog.specs.declared.spot.PackedBlob.{PackedBlob}
 use Rattle.keep_catalog.specs.Ordered.{in_order}
 use Rattle.keep_catalog.specs.Orders.{packed_blob_eq}
-use Rattle.keep_plan.specs.Settling.{is_there}
+use Rattle.keep_plan.specs.Storing.{is_there}
 use Rattle.keep_sound.specs.Careful.{IsSafe}
 use Rattle.keep_sound.specs.Met.{AddsPart, IsIn, IsPartOf}
 use Rattle.keep_sound.specs.Plans.{ReindexingIsSafe, Reindexes}
@@ -42,10 +42,10 @@ use Rattle.keep_safety.proofs.AnyOf.{any_filter_map, any_filtered, any_flat, any
 use Rattle.keep_upkeep.proofs.EachSo.{any_at, any_mapped, each_mapped, each_so, so_at}
 use Rattle.keep_upkeep.proofs.FilesThere.{IsThere}
 use Rattle.keep_safety.proofs.ListedPlaces.{elsewhere}
-use Rattle.keep_safety.proofs.NewIndex.{BuiltAreSettled, WrittenReadBack, listed_left, same_listed}
+use Rattle.keep_safety.proofs.NewIndex.{BuiltAreStored, WrittenReadBack, listed_left, same_listed}
 use Rattle.keep_upkeep.proofs.OtherIndexes.{all_there, kinds_are, others_apart}
 use Rattle.keep_upkeep.proofs.RepairPlanned.{repair_so, repaired_well_formed}
-use Rattle.keep_upkeep.proofs.Remade.{WhatIsSettledCanBeMade, adds_so, new_indexes}
+use Rattle.keep_upkeep.proofs.Remade.{WhatIsStoredCanBeMade, adds_so, new_indexes}
 
 -- ---- an absent pack that a dropped index lists
 
@@ -125,8 +125,8 @@ pub record KnownOfRepairs : Type 0 where
   pub places : RepairsListPlaces
   pub fits : HeadersFitAnIndex
   pub written : WrittenReadBack
-  pub settling : WhatIsSettledCanBeMade
-  pub settles : BuiltAreSettled
+  pub settling : WhatIsStoredCanBeMade
+  pub settles : BuiltAreStored
   pub sorted : SortedListsAreWellFormed
   pub safe : ReindexingIsSafe
 

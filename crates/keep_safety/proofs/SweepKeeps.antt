@@ -33,8 +33,8 @@ use Rattle.keep_upkeep.specs.Sweep.{left_files, left_of, listing, lists_gone, na
 use Rattle.keep_upkeep.proofs.EachSo.{any_at, each_among, each_kept, each_mapped, each_so, so_at}
 use Rattle.keep_upkeep.proofs.FilesThere.{IsThere, each_there}
 use Rattle.keep_safety.proofs.ListedPlaces.{IsRead, WhatIsLeft, any_left, any_places, each_read, entry_of, fits_as, in_packs, left_entry, left_pack}
-use Rattle.keep_safety.proofs.NewIndex.{BuiltAreSettled, WrittenReadBack, listed_left, same_listed}
-use Rattle.keep_upkeep.proofs.Remade.{WhatIsSettledCanBeMade, adds_so, new_indexes}
+use Rattle.keep_safety.proofs.NewIndex.{BuiltAreStored, WrittenReadBack, listed_left, same_listed}
+use Rattle.keep_upkeep.proofs.Remade.{WhatIsStoredCanBeMade, adds_so, new_indexes}
 use Rattle.keep_upkeep.proofs.Rising.{all_append}
 use Rattle.keep_upkeep.proofs.SweepPlanned.{sweep_so, swept_well_formed}
 
@@ -118,8 +118,8 @@ pub record KnownOfSweeps : Type 0 where
   pub joined_fits : (indexes : List (List PackData)) → AllByRecursion Fits indexes → Fits (joined indexes)
   pub written : WrittenReadBack
   pub read : (bytes : List ℕ) (packs : List PackData) → index_reading.index_of bytes ≡ Ok packs → Fits packs
-  pub settling : WhatIsSettledCanBeMade
-  pub settles : BuiltAreSettled
+  pub settling : WhatIsStoredCanBeMade
+  pub settles : BuiltAreStored
   pub sorted : SortedListsAreWellFormed
   pub safe : ReindexingIsSafe
 

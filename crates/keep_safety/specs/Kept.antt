@@ -7,7 +7,7 @@ use Rattle.keep_repo.specs.Repository.{Repository}
 use Rattle.keep_catalog.specs.Orders.{blob_eq}
 use Rattle.keep_catalog.specs.Places.{chosen_listing}
 use Rattle.keep_catalog.specs.declared.spot.Spot.{Spot}
-use Rattle.keep_plan.specs.Settling.{RecordsUse}
+use Rattle.keep_plan.specs.Storing.{RecordsUse}
 use Rattle.keep_build.specs.Blobs.{BlobData, blob_id_of}
 use Rattle.keep_build.specs.Stored.{packs_built, stored_of}
 

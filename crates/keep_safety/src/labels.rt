@@ -2,7 +2,7 @@ ghost use Rattle.keep_safety.specs.SafeLabels.{EditsAreTexts, ForgetIsSafe, Tagg
 
 use keep_change::sorted_lists_are_well_formed;
 use keep_names::orders_tell_apart;
-use keep_plan::what_is_settled_can_be_made;
+use keep_plan::what_is_stored_can_be_made;
 use keep_snap::{retagged_snapshots_can_be_written, snapshots_read_back};
 use keep_sound::{forgetting_is_safe, retagging_is_safe};
 
@@ -25,7 +25,7 @@ pub fn a_planned_tagging_is_safe()
     orders_tell_apart();
     snapshots_read_back();
     retagged_snapshots_can_be_written();
-    what_is_settled_can_be_made();
+    what_is_stored_can_be_made();
     sorted_lists_are_well_formed();
     retagging_is_safe();
 }

@@ -12,7 +12,7 @@ ghost use Rattle.keep_safety.specs.SafeBackup.{StoringGives};
 use keep_index::written_indexes_read_back;
 use keep_names::{digests_are_ids, orders_tell_apart};
 use keep_pack::{built_packs_are_honest, headers_are_read};
-use keep_plan::each_built_file_is_settled;
+use keep_plan::each_built_file_is_stored;
 use keep_sound::{built_files_support_their_blobs, recorded_uses_give_their_blobs};
 
 /// New blobs are cut into packs where one has 16,777,216 bytes: together the packs are the blobs in their
@@ -38,7 +38,7 @@ pub fn what_is_stored_is_given()
     headers_are_read();
     built_packs_are_honest();
     written_indexes_read_back();
-    each_built_file_is_settled();
+    each_built_file_is_stored();
     recorded_uses_give_their_blobs();
     built_files_support_their_blobs();
 }

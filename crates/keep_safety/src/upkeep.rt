@@ -5,7 +5,7 @@ use keep_change::sorted_lists_are_well_formed;
 use keep_index::{what_is_joined_is_listed, what_is_left_is_listed, written_indexes_read_back};
 use keep_names::{names_are_ordered, orders_tell_apart};
 use keep_pack::headers_are_read;
-use keep_plan::{each_built_file_is_settled, each_use_is_recorded, what_is_settled_can_be_made};
+use keep_plan::{each_built_file_is_stored, each_use_is_recorded, what_is_stored_can_be_made};
 use keep_reach::used_blobs_are_listed_once;
 use keep_sound::{marking_is_safe, reindexing_is_safe};
 use keep_upkeep::a_planned_mark_can_be_made;
@@ -31,8 +31,8 @@ pub fn a_planned_sweep_is_safe()
     what_is_left_is_listed();
     what_is_joined_is_listed();
     written_indexes_read_back();
-    what_is_settled_can_be_made();
-    each_built_file_is_settled();
+    what_is_stored_can_be_made();
+    each_built_file_is_stored();
     sorted_lists_are_well_formed();
     reindexing_is_safe();
 }
@@ -56,8 +56,8 @@ pub fn a_planned_repair_is_safe()
     names_are_ordered();
     what_a_repair_lists();
     written_indexes_read_back();
-    what_is_settled_can_be_made();
-    each_built_file_is_settled();
+    what_is_stored_can_be_made();
+    each_built_file_is_stored();
     sorted_lists_are_well_formed();
     reindexing_is_safe();
 }

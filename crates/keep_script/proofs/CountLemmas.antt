@@ -8,8 +8,8 @@ use Rattle.keep_script.specs.declared.input.Piece.TheVariants.{Line, Last}
 use Rattle.keep_script.specs.Line.{longest_script}
 use Rattle.keep_script.specs.Run.{StopsAt}
 use Rattle.keep_script.specs.Status.{ReachesEnd, status_at_end}
-use Rattle.keep_script.specs.declared.status.Status.{Status}
-use Rattle.keep_script.specs.declared.status.Status.TheVariants as ended_as
+use Rattle.keep_script.specs.declared.status.RunStatus.{RunStatus}
+use Rattle.keep_script.specs.declared.status.RunStatus.TheVariants as ended_as
 use Rattle.keep_script.specs.declared.status.Stop.{Stop}
 use Rattle.keep_script.specs.declared.status.Stop.TheVariants.{BadLine, ReadFailed, ScriptTooLong, WriteFailed, NoMemory, Untold}
 
@@ -64,7 +64,7 @@ StopsAt-long a b number NoMemory h = cc h.0
 StopsAt-long a b number Untold h = cc h.0
 
 -- a failed write ends it as one
-pub StopsAt-write : (a b : Option (List ℕ)) (number : ℕ) (stop : Stop) (status : Status) → StopsAt a b number stop status → stop ≡ WriteFailed → status ≡ ended_as.WriteFailed
+pub StopsAt-write : (a b : Option (List ℕ)) (number : ℕ) (stop : Stop) (status : RunStatus) → StopsAt a b number stop status → stop ≡ WriteFailed → status ≡ ended_as.WriteFailed
 StopsAt-write a b number (BadLine why) status h e = cc e
 StopsAt-write a b number ReadFailed status h e = cc e
 StopsAt-write a b number ScriptTooLong status h e = cc e
@@ -73,7 +73,7 @@ StopsAt-write a b number NoMemory status h e = cc e
 StopsAt-write a b number Untold status h e = cc e
 
 -- a run that stops doesn't reach the script's end
-pub StopsAt-end : (a b : Option (List ℕ)) (number : ℕ) (stop : Stop) (status : Status) → StopsAt a b number stop status → ReachesEnd status → ⊥
+pub StopsAt-end : (a b : Option (List ℕ)) (number : ℕ) (stop : Stop) (status : RunStatus) → StopsAt a b number stop status → ReachesEnd status → ⊥
 StopsAt-end a b number (BadLine why) status h (inl done) = rw done at h
 StopsAt-end a b number (BadLine why) status h (inr faulted) = rw faulted at h
 StopsAt-end a b number ReadFailed status h end = elim end [ inl done ↦ cc (sym done ∙ h.0) | inr faulted ↦ cc (sym faulted ∙ h.0) ]

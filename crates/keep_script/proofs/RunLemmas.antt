@@ -16,8 +16,8 @@ use Rattle.keep_answers.specs.Answering.{BeginsAnswer}
 use Rattle.keep_script.specs.Step.{AnswersLast, AnswersNext, BeginsWith}
 use Rattle.keep_answers.specs.Text.{bad_line_answer}
 use Rattle.keep_lines.specs.declared.mistake.Mistake.{Mistake}
-use Rattle.keep_script.specs.declared.status.Status.{Status}
-use Rattle.keep_script.specs.declared.status.Status.TheVariants as ended_as
+use Rattle.keep_script.specs.declared.status.RunStatus.{RunStatus}
+use Rattle.keep_script.specs.declared.status.RunStatus.TheVariants as ended_as
 use Rattle.keep_script.specs.declared.status.Stop.{Stop}
 use Rattle.keep_script.specs.declared.status.Stop.TheVariants.{BadLine, ReadFailed, ScriptTooLong, WriteFailed, NoMemory, Untold}
 
@@ -28,7 +28,7 @@ pub record Progress (known left old new : Option (List ℕ)) (begun now : State)
   pub each : AllByRecursion (λ line. HasLineEnd line → ⊥) lines
   pub read : Consumes known left (ended lines)
   pub written : Appends old new text
-  pub goes_on : (more : List (List ℕ)) (t : List ℕ) (status : Status) (after : State) → Answer now number more t status after → Answer begun 1 (lines ++ more) (text ++ t) status after
+  pub goes_on : (more : List (List ℕ)) (t : List ℕ) (status : RunStatus) (after : State) → Answer now number more t status after → Answer begun 1 (lines ++ more) (text ++ t) status after
 
 pub Progress-none : (known old : Option (List ℕ)) (begun : State) → Progress known known old old begun begun 1
 Progress-none known old begun = record {
@@ -188,7 +188,7 @@ bad-known known left old new begun now after number why so_far h same =
     (bad-next known left old new begun now after number why so_far h same)
 
 -- an answer of which a first part was written
-pub broken-part : (known : Option (List ℕ)) (begun after : State) (text part rest whole : List ℕ) (status : Status) → whole ≡ part ++ rest → IsAnswer begun known (text ++ whole) status after
+pub broken-part : (known : Option (List ℕ)) (begun after : State) (text part rest whole : List ℕ) (status : RunStatus) → whole ≡ part ++ rest → IsAnswer begun known (text ++ whole) status after
     → IfSome known (λ script. BreaksOff begun (lines_of script) (text ++ part) after)
 broken-part None begun after text part rest whole status split h = tt
 broken-part (Some script) begun after text part rest whole status split h = record {
@@ -200,7 +200,7 @@ broken-part (Some script) begun after text part rest whole status split h = reco
   answer = subst (λ t. Answer begun 1 (lines_of script) t status after) (ap (λ l. text ++ l) split ∙ sym (append_assoc text part rest)) h;
 }
 
-pub Ends-bad : (known left left' old new newer newest : Option (List ℕ)) (begun now after : State) (number : ℕ) (why : Mistake) (t : List ℕ) (status : Status)
+pub Ends-bad : (known left left' old new newer newest : Option (List ℕ)) (begun now after : State) (number : ℕ) (why : Mistake) (t : List ℕ) (status : RunStatus)
     → Progress known left old new begun now number → BeginsWith left (λ line. IsBad now line why) → Shows now [] t after → Appends new newer t → Refuses newer newest number why status
     → Writes old newest (λ text. Ends begun known left' text status after)
 Ends-bad known left left' old new newer newest begun now after number why t ended_as.Done so_far h shown appended wrote = absurd wrote
@@ -225,7 +225,7 @@ Ends-bad known left left' old new newer newest begun now after number why t ende
 -- ---- another end
 
 -- what is written at any end breaks off at most
-broken-whole : (known : Option (List ℕ)) (begun after : State) (text : List ℕ) (status : Status) → IsAnswer begun known text status after → IfSome known (λ script. BreaksOff begun (lines_of script) text after)
+broken-whole : (known : Option (List ℕ)) (begun after : State) (text : List ℕ) (status : RunStatus) → IsAnswer begun known text status after → IfSome known (λ script. BreaksOff begun (lines_of script) text after)
 broken-whole None begun after text status h = tt
 broken-whole (Some script) begun after text status h = record {
   lines = lines_of script;
@@ -248,7 +248,7 @@ broken-read (Some xs) (Some ys) begun after text h = record {
   answer = rw (append-nil text) h.answer;
 }
 
-pub Ends-broken : (known left : Option (List ℕ)) (begun after : State) (text : List ℕ) (status : Status) → Ends begun known left text status after → IfSome known (λ script. BreaksOff begun (lines_of script) text after)
+pub Ends-broken : (known left : Option (List ℕ)) (begun after : State) (text : List ℕ) (status : RunStatus) → Ends begun known left text status after → IfSome known (λ script. BreaksOff begun (lines_of script) text after)
 Ends-broken known left begun after text ended_as.Done h = broken-whole known begun after text ended_as.Done h.1
 Ends-broken known left begun after text ended_as.Faulted h = broken-whole known begun after text ended_as.Faulted h.1
 Ends-broken known left begun after text (ended_as.BadLine k told) h = broken-whole known begun after text (ended_as.BadLine k told) h
@@ -266,7 +266,7 @@ held_back None now after t none h = tt
 held_back (Some bytes) now after t none (line, more, first, (answer, answered)) = rw none (line, more, first, inr (answer, answered))
 
 -- a line's failure ends the run
-pub Ends-stop : (known left ahead left' old new newer newest : Option (List ℕ)) (begun now after : State) (number : ℕ) (stop : Stop) (status : Status) → Progress known left old new begun now number
+pub Ends-stop : (known left ahead left' old new newer newest : Option (List ℕ)) (begun now after : State) (number : ℕ) (stop : Stop) (status : RunStatus) → Progress known left old new begun now number
     → Writes new newer (λ t. AnswersNext now left ahead left' t (Err stop) after) → StopsAt newer newest number stop status → Writes old newest (λ text. Ends begun known left' text status after)
 Ends-stop known left ahead left' old new newer newest begun now after number (BadLine why) status so_far (t, appended, (bad, shown)) wrote =
     Ends-bad known left left' old new newer newest begun now after number why t status so_far bad shown appended wrote
@@ -283,14 +283,14 @@ Ends-stop known left ahead left' old new newer newest begun now after number Unt
     rw same (broken.0, broken.1, (broken.2, faulted))
 
 -- at the end what the writer keeps back is handed on, or that fails
-pub Ends-finished : (known left old new newer : Option (List ℕ)) (begun after : State) (status result : Status) → Writes old new (λ t. Ends begun known left t status after) → Keeps new newer
+pub Ends-finished : (known left old new newer : Option (List ℕ)) (begun after : State) (status result : RunStatus) → Writes old new (λ t. Ends begun known left t status after) → Keeps new newer
     → (result ≡ status) ⊎ (result ≡ ended_as.WriteFailed) → Writes old newer (λ t. Ends begun known left t result after)
 Ends-finished known left old new newer begun after status result (t, appended, h) kept (inl same) = rw same (t, Appends-kept old new newer t appended kept, h)
 Ends-finished known left old new newer begun after status result (t, appended, h) kept (inr failed) =
     rw failed (t, Appends-kept old new newer t appended kept, Ends-broken known left begun after t status h)
 
 -- what a run begins with
-pub Ends-begun : (known known' left old new : Option (List ℕ)) (begun begun' after : State) (status : Status) → begun ≡ begun' → known ≡ known'
+pub Ends-begun : (known known' left old new : Option (List ℕ)) (begun begun' after : State) (status : RunStatus) → begun ≡ begun' → known ≡ known'
     → Writes old new (λ t. Ends begun known left t status after) → Writes old new (λ t. Ends begun' known' left t status after)
 Ends-begun known known' left old new begun begun' after status same read (t, appended, h) =
     (t, appended, subst (λ k. Ends begun' k left t status after) read (subst (λ s. Ends s known left t status after) same h))

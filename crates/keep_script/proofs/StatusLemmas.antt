@@ -4,11 +4,11 @@ use Rattle.std.specs.Io.KnownBytes.{Keeps}
 use Rattle.keep_lines.specs.declared.mistake.Mistake.{Mistake}
 use Rattle.keep_script.specs.Run.{StopsAt}
 use Rattle.keep_script.specs.Status.{status_at}
-use Rattle.keep_script.specs.declared.status.Status.{Status}
+use Rattle.keep_script.specs.declared.status.RunStatus.{RunStatus}
 use Rattle.keep_script.specs.declared.status.Stop.{Stop}
 use Rattle.keep_script.specs.declared.status.Stop.TheVariants.{BadLine, ReadFailed, ScriptTooLong, WriteFailed, NoMemory, Untold}
 
-pub StopsAt-other : (a b : Option (List ℕ)) (number : ℕ) (stop : Stop) (status : Status) → ((why : Mistake) → stop ≡ BadLine why → ⊥) → Keeps a b → status ≡ status_at stop number → StopsAt a b number stop status
+pub StopsAt-other : (a b : Option (List ℕ)) (number : ℕ) (stop : Stop) (status : RunStatus) → ((why : Mistake) → stop ≡ BadLine why → ⊥) → Keeps a b → status ≡ status_at stop number → StopsAt a b number stop status
 StopsAt-other a b number (BadLine why) status other kept same = absurd (other why refl)
 StopsAt-other a b number ReadFailed status other kept same = (same, kept)
 StopsAt-other a b number ScriptTooLong status other kept same = (same, kept)

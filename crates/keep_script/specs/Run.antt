@@ -17,12 +17,12 @@ use Rattle.keep_script.specs.Status.{status_at_end}
 use Rattle.keep_answers.specs.Text.{bad_line_answer}
 use Rattle.keep_script.specs.declared.status.Stop.{Stop}
 use Rattle.keep_script.specs.declared.status.Stop.TheVariants as stop
-use Rattle.keep_script.specs.declared.status.Status.{Status}
-use Rattle.keep_script.specs.declared.status.Status.TheVariants.{Done, Faulted, BadLine, ReadFailed, ScriptTooLong, WriteFailed, NoMemory, Untold, NotOpened}
+use Rattle.keep_script.specs.declared.status.RunStatus.{RunStatus}
+use Rattle.keep_script.specs.declared.status.RunStatus.TheVariants.{Done, Faulted, BadLine, ReadFailed, ScriptTooLong, WriteFailed, NoMemory, Untold, NotOpened}
 
 -- the run ends at a bad line of this number
 pub record Stops (state : State) (number : ℕ) (line written : List ℕ)
-    (status : Status) (after : State) : Type 0 where
+    (status : RunStatus) (after : State) : Type 0 where
   pub why : Mistake
   pub bad : IsBad state line why
   pub text : written ≡ bad_line_answer number
@@ -30,7 +30,7 @@ pub record Stops (state : State) (number : ℕ) (line written : List ℕ)
   pub same : after ≡ state
 
 -- the text for these lines, the first of this number, how a run over them ends, and the state that it leaves
-abbrev pub Answer : State → ℕ → List (List ℕ) → List ℕ → Status → State → Type 0
+abbrev pub Answer : State → ℕ → List (List ℕ) → List ℕ → RunStatus → State → Type 0
 Answer state number [] text status after = (text ≡ []) × (status ≡ status_at_end state.faulted) × (after ≡ state)
 Answer state number (line ∷ lines) text status after =
     Stops state number line text status after
@@ -38,7 +38,7 @@ Answer state number (line ∷ lines) text status after =
     × Answer next (number + 1) lines rest status after)
 
 -- the text for the whole script
-abbrev pub IsAnswer : State → Option (List ℕ) → List ℕ → Status → State → Type 0
+abbrev pub IsAnswer : State → Option (List ℕ) → List ℕ → RunStatus → State → Type 0
 IsAnswer state known text status after =
     IfSome known (λ script. Answer state 1 (lines_of script) text status after)
 
@@ -57,13 +57,13 @@ pub record BreaksOff (state : State) (script : List (List ℕ)) (text : List ℕ
   pub lines : List (List ℕ)
   pub others : List (List ℕ)
   pub rest : List ℕ
-  pub status : Status
+  pub status : RunStatus
   pub split : script ≡ lines ++ others
   pub answer : Answer state 1 lines (text ++ rest) status after
 
 -- what is written by a run from this state, over a reader that had the known bytes, by how it ended: a book is opened
 -- before its run begins
-abbrev pub Ends : State → Option (List ℕ) → Option (List ℕ) → List ℕ → Status → State → Type 0
+abbrev pub Ends : State → Option (List ℕ) → Option (List ℕ) → List ℕ → RunStatus → State → Type 0
 Ends state known left text Done after = IsAtEnd left × IsAnswer state known text Done after
 Ends state known left text Faulted after = IsAtEnd left × IsAnswer state known text Faulted after
 Ends state known left text (BadLine number why) after = IsAnswer state known text (BadLine number why) after
@@ -79,7 +79,7 @@ Ends state known left text (NotOpened error) after = ⊥
 
 -- what is written by a run from the ledger that is opened of this shelf, with nothing armed: its shelf has the calls of
 -- the opening, and then those of each line that was answered
-abbrev pub EndsFrom : Shelved → SettingsData → KitData → Option (List ℕ) → Option (List ℕ) → List ℕ → Status → State → Type 0
+abbrev pub EndsFrom : Shelved → SettingsData → KitData → Option (List ℕ) → Option (List ℕ) → List ℕ → RunStatus → State → Type 0
 EndsFrom shelf settings kit known left text status after =
     (ledger : OnShelf) × IsOpened shelf ledger × Ends (begun settings kit ledger) known left text status after
 
@@ -88,7 +88,7 @@ abbrev pub IsUntouched : (known left old new : Option (List ℕ)) → Type 0
 IsUntouched known left old new = Keeps known left × Keeps old new
 
 -- what is written at a bad line, and how the run ends then
-abbrev pub Refuses : Option (List ℕ) → Option (List ℕ) → ℕ → Mistake → Status → Type 0
+abbrev pub Refuses : Option (List ℕ) → Option (List ℕ) → ℕ → Mistake → RunStatus → Type 0
 Refuses old new number why (BadLine k told) = (k ≡ number) × (told ≡ why) × Appends old new (bad_line_answer number)
 Refuses old new number why WriteFailed = AppendsPart old new (bad_line_answer number)
 Refuses old new number why NoMemory = AppendsPart old new (bad_line_answer number)
@@ -100,7 +100,7 @@ Refuses old new number why Untold = ⊥
 Refuses old new number why (NotOpened error) = ⊥
 
 -- how a run ends that stops at the line of this number, and what is written then
-abbrev pub StopsAt : Option (List ℕ) → Option (List ℕ) → ℕ → Stop → Status → Type 0
+abbrev pub StopsAt : Option (List ℕ) → Option (List ℕ) → ℕ → Stop → RunStatus → Type 0
 StopsAt old new number (stop.BadLine why) status = Refuses old new number why status
 StopsAt old new number stop.ReadFailed status = (status ≡ ReadFailed) × Keeps old new
 StopsAt old new number stop.ScriptTooLong status = (status ≡ ScriptTooLong) × Keeps old new

@@ -8,4 +8,4 @@ mod status;
 mod turns;
 
 pub use script::{Setup, run, run_on};
-pub use status::Status;
+pub use status::RunStatus;

@@ -13,7 +13,7 @@ ghost use Rattle.keep_script.specs.Run.{Ends, EndsFrom, IsUntouched};
 ghost use Rattle.keep_script.specs.Status.{ReachesEnd};
 
 use crate::flushing::flush;
-use crate::status::Status;
+use crate::status::RunStatus;
 use crate::turns::Turns;
 use keep_book::Book;
 use keep_jobs::{Kit, Settings};
@@ -47,18 +47,18 @@ pub fn run<S: Shelf, R: Read, W: Write>(
     kit: &mut Kit,
     reader: &mut R,
     writer: &mut W,
-) -> Result<(Status, Book<S>), NotOpened<S>>
+) -> Result<(RunStatus, Book<S>), NotOpened<S>>
     requires some { 0 < setup.settings.cut.bytes }
     ensures answers { IfOk result (λ ran. Writes (W.contents writer.old) (W.contents writer.new) (λ text. (after : State)
         × IsLeft after ran.1 × (kit_view kit.new ≡ kit_of after)
         × EndsFrom (S.shelved shelf) (settings_view setup.settings) (kit_view kit.old)
         (R.remaining reader.old) (R.remaining reader.new) text ran.0 after)) }
     ensures sums { IfOk result (λ ran. HasSums ran.1) }
-    ensures whole { IfOk result (λ ran. ran.0 ≢ Status.WriteFailed →
+    ensures whole { IfOk result (λ ran. ran.0 ≢ RunStatus.WriteFailed →
         WritesLines (W.contents writer.old) (W.contents writer.new)) }
     ensures limit { IfOk result (λ ran. ReachesEnd ran.0 →
         IfSome (R.remaining reader.old) (λ script. length script < longest_script)) }
-    ensures past_limit { IfOk result (λ ran. ran.0 ≡ Status.ScriptTooLong →
+    ensures past_limit { IfOk result (λ ran. ran.0 ≡ RunStatus.ScriptTooLong →
         IfSome (R.remaining reader.old) (λ script. longest_script ≤ length script)) }
     ensures refused { IfErr result (λ given. IsNotOpened (S.shelved shelf) given.error) }
     ensures given { IfErr result (λ given. IsGivenBack (S.shelved shelf) given.error (S.shelved given.shelf)) }
@@ -78,30 +78,30 @@ pub fn run_on<S: Shelf, R: Read, W: Write>(
     kit: &mut Kit,
     reader: &mut R,
     writer: &mut W,
-) -> Status
+) -> RunStatus
     requires sums { HasSums book.old }
     ensures answers { Writes (W.contents writer.old) (W.contents writer.new) (λ text. (after : State)
         × IsLeft after book.new × (kit_view kit.new ≡ kit_of after)
         × Ends (begun_over (settings_view setup.settings) (kit_view kit.old) book.old)
         (R.remaining reader.old) (R.remaining reader.new) text result after) }
     ensures sums { HasSums book.new }
-    ensures whole { result ≢ Status.WriteFailed → WritesLines (W.contents writer.old) (W.contents writer.new) }
+    ensures whole { result ≢ RunStatus.WriteFailed → WritesLines (W.contents writer.old) (W.contents writer.new) }
     ensures limit { ReachesEnd result →
         IfSome (R.remaining reader.old) (λ script. length script < longest_script) }
-    ensures past_limit { result ≡ Status.ScriptTooLong →
+    ensures past_limit { result ≡ RunStatus.ScriptTooLong →
         IfSome (R.remaining reader.old) (λ script. longest_script ≤ length script) }
 {
     let Ok(mut turns) = Turns::new(setup) else {
-        return Status::NoMemory;
+        return RunStatus::NoMemory;
     };
     let status = turns.answer_all(kit, book, reader, writer);
     finish(status, writer)
 }
 
 /// Hands on what the writer keeps back, and says how the run ended.
-fn finish<W: Write>(status: Status, writer: &mut W) -> Status
+fn finish<W: Write>(status: RunStatus, writer: &mut W) -> RunStatus
     ensures kept { Keeps (W.contents writer.old) (W.contents writer.new) }
-    ensures status { (result ≡ status) ⊎ (result ≡ Status.WriteFailed) }
+    ensures status { (result ≡ status) ⊎ (result ≡ RunStatus.WriteFailed) }
 {
     let flushed = flush(writer);
     status.once_flushed(flushed)

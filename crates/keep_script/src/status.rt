@@ -9,7 +9,7 @@ use std::alloc::AllocError;
 
 /// How a run ended.
 #[derive(PartialEq, Eq, Drop)]
-pub enum Status {
+pub enum RunStatus {
     /// The script ended, and each line was answered.
     Done,
     /// The script ended, and each line was answered, one of them at least by `no Fault` or `no Unsettled`.
@@ -32,39 +32,39 @@ pub enum Status {
     NotOpened(OpenError),
 }
 
-impl Status {
+impl RunStatus {
     /// How a run ends whose script ended, by whether a fault was answered.
-    pub(crate) fn at_end(faulted: bool) -> Status
+    pub(crate) fn at_end(faulted: bool) -> RunStatus
         ensures { result ≡ status_at_end faulted }
     {
         if faulted {
-            Status::Faulted
+            RunStatus::Faulted
         } else {
-            Status::Done
+            RunStatus::Done
         }
     }
 
     /// How a run ends that would end so, once the writer was flushed.
-    pub(crate) fn once_flushed(self, flushed: Result<(), Stop>) -> Status
+    pub(crate) fn once_flushed(self, flushed: Result<(), Stop>) -> RunStatus
         ensures { result ≡ status_once_flushed self flushed }
     {
         match flushed {
             Ok(()) => self,
-            Err(_) => Status::WriteFailed,
+            Err(_) => RunStatus::WriteFailed,
         }
     }
 }
 
-impl From<OpenError> for Status {
+impl From<OpenError> for RunStatus {
     ghost use Rattle.keep_script.specs.Status.{status_unopened};
 
     ghost from_gives = { λ error status. status ≡ status_unopened error };
 
     /// How a run ends whose shelf isn't opened.
-    fn from(error: OpenError) -> Status {
+    fn from(error: OpenError) -> RunStatus {
         match error {
-            OpenError::Memory => Status::NoMemory,
-            error => Status::NotOpened(error),
+            OpenError::Memory => RunStatus::NoMemory,
+            error => RunStatus::NotOpened(error),
         }
     }
 }
@@ -82,16 +82,16 @@ pub(crate) enum Stop {
 
 impl Stop {
     /// How a run ends that stops at the line of this number.
-    pub fn status(self, number: u64) -> Status
+    pub fn status(self, number: u64) -> RunStatus
         ensures { result ≡ status_at self number }
     {
         match self {
-            Stop::BadLine(why) => Status::BadLine(number, why),
-            Stop::ReadFailed => Status::ReadFailed,
-            Stop::ScriptTooLong => Status::ScriptTooLong,
-            Stop::WriteFailed => Status::WriteFailed,
-            Stop::NoMemory => Status::NoMemory,
-            Stop::Untold => Status::Untold,
+            Stop::BadLine(why) => RunStatus::BadLine(number, why),
+            Stop::ReadFailed => RunStatus::ReadFailed,
+            Stop::ScriptTooLong => RunStatus::ScriptTooLong,
+            Stop::WriteFailed => RunStatus::WriteFailed,
+            Stop::NoMemory => RunStatus::NoMemory,
+            Stop::Untold => RunStatus::Untold,
         }
     }
 }

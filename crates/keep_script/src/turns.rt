@@ -12,7 +12,7 @@ ghost use Rattle.keep_script.specs.Step.{AnswersNext};
 
 use crate::input::{Input, Piece};
 use crate::script::Setup;
-use crate::status::{Status, Stop};
+use crate::status::{RunStatus, Stop};
 use keep_answers::{Session, put_line};
 use keep_book::Book;
 use keep_jobs::Kit;
@@ -53,23 +53,23 @@ impl Turns {
         book: &mut Book<S>,
         reader: &mut R,
         writer: &mut W,
-    ) -> Status
+    ) -> RunStatus
         requires ahead { ahead_of self.old.input ≡ longest_script }
         requires sums { HasSums book.old }
         ensures answers { Writes (W.contents writer.old) (W.contents writer.new) (λ text.
             Ends (state_of (kit_view kit.old) self.old.session book.old)
             (left_of self.old.input (R.remaining reader.old)) (R.remaining reader.new) text result (state_of (kit_view kit.new) self.new.session book.new)) }
-        ensures whole { result ≢ Status.WriteFailed → WritesLines (W.contents writer.old) (W.contents writer.new) }
+        ensures whole { result ≢ RunStatus.WriteFailed → WritesLines (W.contents writer.old) (W.contents writer.new) }
         ensures sums { HasSums book.new }
         ensures limit { ReachesEnd result →
             IfSome (left_of self.old.input (R.remaining reader.old)) (λ script. length script < longest_script) }
-        ensures past_limit { result ≡ Status.ScriptTooLong →
+        ensures past_limit { result ≡ RunStatus.ScriptTooLong →
             IfSome (left_of self.old.input (R.remaining reader.old)) (λ script. longest_script ≤ length script) }
     {
         for number in 1..u64::MAX {
             match self.answer_next(kit, book, reader, writer) {
                 Ok(true) => {}
-                Ok(false) => return Status::at_end(self.session.is_faulted()),
+                Ok(false) => return RunStatus::at_end(self.session.is_faulted()),
                 Err(stop) => return stop_at(self.alloc, number, stop, writer),
             }
         }
@@ -117,9 +117,9 @@ impl Turns {
 }
 
 /// How the run ends that stops at the line of this number. Of a bad line it says so.
-fn stop_at<W: Write>(alloc: Global, number: u64, stop: Stop, writer: &mut W) -> Status
+fn stop_at<W: Write>(alloc: Global, number: u64, stop: Stop, writer: &mut W) -> RunStatus
     ensures stops { StopsAt (W.contents writer.old) (W.contents writer.new) number stop result }
-    ensures whole { result ≢ Status.WriteFailed → WritesLines (W.contents writer.old) (W.contents writer.new) }
+    ensures whole { result ≢ RunStatus.WriteFailed → WritesLines (W.contents writer.old) (W.contents writer.new) }
 {
     match stop {
         Stop::BadLine(why) => refuse(alloc, number, why, writer),
@@ -128,12 +128,12 @@ fn stop_at<W: Write>(alloc: Global, number: u64, stop: Stop, writer: &mut W) -> 
 }
 
 /// Says that the line of this number is bad, which ends the run.
-fn refuse<W: Write>(alloc: Global, number: u64, why: Mistake, writer: &mut W) -> Status
+fn refuse<W: Write>(alloc: Global, number: u64, why: Mistake, writer: &mut W) -> RunStatus
     ensures refuses { Refuses (W.contents writer.old) (W.contents writer.new) number why result }
-    ensures whole { result ≢ Status.WriteFailed → WritesLines (W.contents writer.old) (W.contents writer.new) }
+    ensures whole { result ≢ RunStatus.WriteFailed → WritesLines (W.contents writer.old) (W.contents writer.new) }
 {
     match put_line(alloc, &BadLine(number), writer) {
-        Ok(()) => Status::BadLine(number, why),
+        Ok(()) => RunStatus::BadLine(number, why),
         Err(halt) => Stop::from(halt).status(number),
     }
 }

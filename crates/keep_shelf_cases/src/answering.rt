@@ -2,7 +2,7 @@ ghost use Rattle.keep_book.specs.Armed.{HasSums};
 
 use keep_book::Book;
 use keep_jobs::Kit;
-use keep_script::{Setup, Status, run, run_on};
+use keep_script::{RunStatus, Setup, run, run_on};
 use keep_shelf::Shelf;
 
 /// Answers a script over this book.
@@ -12,7 +12,7 @@ pub(crate) fn answer_on<S: Shelf>(
     kit: &mut Kit,
     script: &str,
     text: &mut Vec<u8>,
-) -> Status
+) -> RunStatus
     requires { HasSums book.old }
     ensures { HasSums book.new }
 {
@@ -26,9 +26,9 @@ pub(crate) fn answer_over<S: Shelf>(
     kit: &mut Kit,
     script: &str,
     text: &mut Vec<u8>,
-) -> Status {
+) -> RunStatus {
     match run(setup, shelf, kit, &mut script.as_bytes(), text) {
         Ok((status, _)) => status,
-        Err(given) => Status::from(given.error),
+        Err(given) => RunStatus::from(given.error),
     }
 }

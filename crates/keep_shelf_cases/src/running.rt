@@ -13,7 +13,7 @@ use crate::stops::show_stops;
 use keep_book::Book;
 use keep_jobs::{Cut, Kit, Settings};
 use keep_plan::Filter;
-use keep_script::{Setup, Status};
+use keep_script::{RunStatus, Setup};
 use keep_shelf::{FailingShelf, MemoryShelf};
 use std::alloc::Global;
 use std::fmt::Write;
@@ -34,7 +34,7 @@ const NOW: i64 = 1_000;
 pub(crate) struct Answered<'a> {
     pub line: &'a str,
     pub text: Vec<u8>,
-    pub status: Status,
+    pub status: RunStatus,
     /// How many calls were made before it.
     pub before: usize,
 }
@@ -167,7 +167,7 @@ pub(crate) fn run_script(
     };
     let mut text = Vec::new(alloc);
     let status = answer_over(setup(alloc), shelf, kit, script, &mut text);
-    if let Status::NotOpened(error) = status {
+    if let RunStatus::NotOpened(error) = status {
         return Err(Stop::NotOpened(error));
     }
     show_script(trial.form, script, &text, &status, out)?;

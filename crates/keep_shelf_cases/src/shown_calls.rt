@@ -2,7 +2,7 @@ use crate::call::Call;
 use crate::running::{Answered, CaseShelf, recording};
 use crate::shelf_stop::Stop;
 use keep_book::Book;
-use keep_script::Status;
+use keep_script::RunStatus;
 use keep_shelf::{Key, Shelf};
 use std::alloc::{AllocError, Global};
 use std::fmt::Write;
@@ -55,7 +55,7 @@ pub(crate) fn show_script(
     form: Form,
     script: &str,
     text: &[u8],
-    status: &Status,
+    status: &RunStatus,
     out: &mut String,
 ) -> Result<(), Stop> {
     let Ok(text) = str::from_utf8(text) else {
@@ -91,11 +91,11 @@ pub(crate) fn show_calls(
 }
 
 /// How the run of a script ended that was opened, if it can end so.
-fn word_of(status: &Status) -> Option<&'static str> {
+fn word_of(status: &RunStatus) -> Option<&'static str> {
     match status {
-        Status::Done => Some("Done"),
-        Status::Faulted => Some("Faulted"),
-        Status::BadLine(_, _) => Some("BadLine"),
+        RunStatus::Done => Some("Done"),
+        RunStatus::Faulted => Some("Faulted"),
+        RunStatus::BadLine(_, _) => Some("BadLine"),
         _ => None,
     }
 }

@@ -39,7 +39,7 @@ fn taken_with<S: Shelf>(
     book: &Book<S>,
     number: u64,
 ) -> Result<BTreeSet<u64>, Failure> {
-    let numbers = match book.taken(number) {
+    let numbers = match book.taken_with(number) {
         Ok(numbers) => numbers,
         Err(refusal) => return Err(refused(run, number, &refusal)),
     };

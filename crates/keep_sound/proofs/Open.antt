@@ -13,7 +13,7 @@ use Rattle.keep_names.specs.declared.file_name.Kind.{Kind}
 use Rattle.keep_names.specs.declared.file_name.Kind.TheVariants.{Pack, Index}
 use Rattle.keep_names.specs.declared.id.Id.{Id}
 use Rattle.keep_repo.specs.Repository.{Repository}
-use Rattle.keep_catalog.specs.Chosen.{IsOpenPlace}
+use Rattle.keep_catalog.specs.Chosen.{IsUsablePlace}
 use Rattle.keep_catalog.specs.Files.{file_in}
 use Rattle.keep_catalog.specs.Orders.{id_eq}
 use Rattle.keep_catalog.specs.Places.{at, bytes_at, has_id, slice_of}
@@ -48,7 +48,7 @@ has id text hashed =
 
 module _ (r : Repository) (blob : BlobId) where
   -- an open place has a text
-  pub text_of_open : (spot : Spot) (index : Id) → IsOpenPlace r blob spot index → (text : List ℕ) × (bytes_at r spot ≡ Some text) × HasText restic r blob text
+  pub text_of_open : (spot : Spot) (index : Id) → IsUsablePlace r blob spot index → (text : List ℕ) × (bytes_at r spot ≡ Some text) × HasText restic r blob text
   text_of_open spot index place =
       let in_index = ap (lists_at (at blob spot)) (sym (file_is r Index index)) ∙ sym (listed_by r index (at blob spot)) ∙ place.listed in
       let in_pack = ap (stores_at (at blob spot)) (sym (file_is r Pack spot.pack)) ∙ sym (stored_by r (at blob spot)) ∙ place.stored in
@@ -76,7 +76,7 @@ module _ (r : Repository) (blob : BlobId) where
       )
 
   -- and where a blob has a text, its place is open
-  pub open_of_text : (text : List ℕ) (t : HasText restic r blob text) → IsOpenPlace r blob t.spot t.index × (bytes_at r t.spot ≡ Some text)
+  pub open_of_text : (text : List ℕ) (t : HasText restic r blob text) → IsUsablePlace r blob t.spot t.index × (bytes_at r t.spot ≡ Some text)
   open_of_text text t =
       let index : file_in r Index t.index ≡ Some t.listing = file_is r Index t.index ∙ t.has_index in
       let pack : file_in r Pack t.spot.pack ≡ Some t.pack = file_is r Pack t.spot.pack ∙ t.has_pack in (

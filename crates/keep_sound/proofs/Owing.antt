@@ -9,7 +9,7 @@ use Rattle.keep_names.specs.declared.file_name.Kind.TheVariants.{Pack, Snapshot}
 use Rattle.keep_names.specs.declared.id.Id.{Id}
 use Rattle.keep_repo.specs.Repository.{Repository, is_filled}
 use Rattle.keep_snap.specs.Snap.{SnapData}
-use Rattle.keep_catalog.specs.Chosen.{IsOpenPlace}
+use Rattle.keep_catalog.specs.Chosen.{IsUsablePlace}
 use Rattle.keep_catalog.specs.Files.{snap_read, snap_in}
 use Rattle.keep_catalog.specs.Naming.{blobs_named, missing, named_at, named_by, names_at, nodes_read, read_tree_of}
 use Rattle.keep_catalog.specs.Places.{bytes_at, chosen, chosen_listing}
@@ -54,8 +54,8 @@ module _ (least : LeastIsChosen) (r all : Repository) (part : IsPartOf r all) (o
   same_names a there = cases (chosen_listing r a) refl there where
     both : (e d : Spot × Id) → chosen_listing r a ≡ Some e → chosen_listing all a ≡ Some d → named_by r a ≡ named_by all a
     both e d here among =
-        let place : IsOpenPlace r a e.0 e.1 = open_of_chosen least r a e here in
-        let all_place : IsOpenPlace all a d.0 d.1 = open_of_chosen least all a d among in
+        let place : IsUsablePlace r a e.0 e.1 = open_of_chosen least r a e here in
+        let all_place : IsUsablePlace all a d.0 d.1 = open_of_chosen least all a d among in
         let filled : is_filled r (file_facet Pack e.0.pack) ≡ true = filled_from r (has_blob_at a e.0) refl Pack e.0.pack (sym (honest_by r a e.0) ∙ place.honest) in
         let same : bytes_at r e.0 ≡ bytes_at all e.0 = bytes_by r e.0 ∙ ap (slice_at e.0) (same_file r all part Pack e.0.pack filled) ∙ sym (bytes_by all e.0) in
         let text : bytes_at r e.0 ≡ bytes_at all d.0 = same ∙ one.one a e.0 d.0 (supports_from r all part a e.0 e.1 place).honest all_place.honest in

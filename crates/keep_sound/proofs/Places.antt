@@ -5,7 +5,7 @@ use Rattle.keep_names.specs.declared.blob.BlobId.{BlobId}
 use Rattle.keep_names.specs.declared.file_name.Kind.TheVariants.{Pack, Index}
 use Rattle.keep_names.specs.declared.id.Id.{Id}
 use Rattle.keep_repo.specs.Repository.{Repository}
-use Rattle.keep_catalog.specs.Chosen.{IsChosen, IsOpenPlace}
+use Rattle.keep_catalog.specs.Chosen.{IsChosen, IsUsablePlace}
 use Rattle.keep_catalog.specs.Places.{at, chosen, chosen_listing}
 use Rattle.keep_catalog.specs.declared.spot.Spot.{Spot}
 use Rattle.keep_sound.specs.Met.{HasOneText, IsPartOf}
@@ -18,14 +18,14 @@ LeastIsChosen = (r : Repository) (blob : BlobId) → IsChosen r blob (chosen_lis
 
 module _ (r all : Repository) (part : IsPartOf r all) where
   -- what lists, has and holds a blob in a part does so among all files
-  pub supports_from : (blob : BlobId) (spot : Spot) (index : Id) → IsOpenPlace r blob spot index → Supports all blob spot index
+  pub supports_from : (blob : BlobId) (spot : Spot) (index : Id) → IsUsablePlace r blob spot index → Supports all blob spot index
   supports_from blob spot index place = record {
     listed = listed_by all index (at blob spot) ∙ part_carries r all part (lists_at (at blob spot)) refl Index index (sym (listed_by r index (at blob spot)) ∙ place.listed);
     stored = stored_by all (at blob spot) ∙ part_carries r all part (stores_at (at blob spot)) refl Pack spot.pack (sym (stored_by r (at blob spot)) ∙ place.stored);
     honest = honest_by all blob spot ∙ part_carries r all part (has_blob_at blob spot) refl Pack spot.pack (sym (honest_by r blob spot) ∙ place.honest);
   }
 
-  pub stands_from : (blob : BlobId) (spot : Spot) (index : Id) → IsOpenPlace r blob spot index → Stands all r blob spot index
+  pub stands_from : (blob : BlobId) (spot : Spot) (index : Id) → IsUsablePlace r blob spot index → Stands all r blob spot index
   stands_from blob spot index place = record {
     supports = supports_from blob spot index place;
     has_pack = filled_from r (has_blob_at blob spot) refl Pack spot.pack (sym (honest_by r blob spot) ∙ place.honest);
@@ -33,7 +33,7 @@ module _ (r all : Repository) (part : IsPartOf r all) where
     free = free_from r spot.pack place.unmarked;
   }
 
-  pub opens_from : (blob : BlobId) (spot : Spot) (index : Id) → Stands all r blob spot index → IsOpenPlace r blob spot index
+  pub opens_from : (blob : BlobId) (spot : Spot) (index : Id) → Stands all r blob spot index → IsUsablePlace r blob spot index
   opens_from blob spot index stands = record {
     listed = listed_by r index (at blob spot) ∙ part_back r all part (lists_at (at blob spot)) Index index stands.has_index (sym (listed_by all index (at blob spot)) ∙ stands.supports.listed);
     stored = stored_by r (at blob spot) ∙ part_back r all part (stores_at (at blob spot)) Pack spot.pack stands.has_pack (sym (stored_by all (at blob spot)) ∙ stands.supports.stored);
@@ -49,13 +49,13 @@ chosen_listed r blob there = cases (chosen_listing r blob) there where
 
 module _ (least : LeastIsChosen) where
   -- a chosen place is an open one
-  pub open_of_chosen : (r : Repository) (blob : BlobId) (e : Spot × Id) → chosen_listing r blob ≡ Some e → IsOpenPlace r blob e.0 e.1
+  pub open_of_chosen : (r : Repository) (blob : BlobId) (e : Spot × Id) → chosen_listing r blob ≡ Some e → IsUsablePlace r blob e.0 e.1
   open_of_chosen r blob e is = let C : Option (Spot × Id) → Type 0 = IsChosen r blob in open_of (subst C is (least r blob)) where
-    open_of : IsChosen r blob (Some e) → IsOpenPlace r blob e.0 e.1
+    open_of : IsChosen r blob (Some e) → IsUsablePlace r blob e.0 e.1
     open_of place = place.place
 
   -- where one is open, one is chosen
-  pub chosen_of_open : (r : Repository) (blob : BlobId) (spot : Spot) (index : Id) → IsOpenPlace r blob spot index → is_some (chosen_listing r blob) ≡ true
+  pub chosen_of_open : (r : Repository) (blob : BlobId) (spot : Spot) (index : Id) → IsUsablePlace r blob spot index → is_some (chosen_listing r blob) ≡ true
   chosen_of_open r blob spot index place = cases (chosen_listing r blob) (least r blob) where
     cases : (o : Option (Spot × Id)) → IsChosen r blob o → is_some o ≡ true
     cases None none = absurd (none spot index place)
@@ -77,5 +77,5 @@ module _ (least : LeastIsChosen) where
   -- what all files support, they have a chosen place of
   pub chosen_of_support : (all : Repository) → HasOneText all → (blob : BlobId) (spot : Spot) (index : Id) → Supports all blob spot index → is_some (chosen_listing all blob) ≡ true
   chosen_of_support all one blob spot index supports = chosen_of_open all blob spot index place where
-    place : IsOpenPlace all blob spot index
+    place : IsUsablePlace all blob spot index
     place = record { listed = supports.listed; stored = supports.stored; honest = supports.honest; unmarked = one.unmarked spot.pack }

@@ -15,7 +15,7 @@ use Rattle.keep_repo.specs.Repository.{Repository}
 use Rattle.keep_tree.specs.Tree.{NodeData}
 use Rattle.keep_tree.specs.declared.tree.TreeError.{TreeError}
 use Rattle.keep_snap.specs.Snap.{SnapData}
-use Rattle.keep_catalog.specs.Chosen.{IsOpenPlace}
+use Rattle.keep_catalog.specs.Chosen.{IsUsablePlace}
 use Rattle.keep_catalog.specs.Files.{snap_in, snap_read, what_is_read}
 use Rattle.keep_catalog.specs.Naming.{blobs_named, named_by, named_of, nodes_read, read_tree_of}
 use Rattle.keep_catalog.specs.Places.{at, bytes_at, chosen, chosen_listing}
@@ -57,12 +57,12 @@ so_named b (Err why) has = has
 module _ (least : LeastIsChosen) (r all : Repository) (part : IsPartOf r all) (one : HasOneText all) where
   -- ---- one text
 
-  text_in_all : (a : BlobId) (spot : Spot) (index : Id) → IsOpenPlace r a spot index → bytes_at r spot ≡ bytes_at all spot
+  text_in_all : (a : BlobId) (spot : Spot) (index : Id) → IsUsablePlace r a spot index → bytes_at r spot ≡ bytes_at all spot
   text_in_all a spot index place =
       let there = filled_from r (has_blob_at a spot) refl Pack spot.pack (sym (honest_by r a spot) ∙ place.honest) in
       bytes_by r spot ∙ ap (slice_at spot) (same_file r all part Pack spot.pack there) ∙ sym (bytes_by all spot)
 
-  same_text : (a : BlobId) (s t : Spot) (i j : Id) → IsOpenPlace r a s i → IsOpenPlace r a t j → bytes_at r s ≡ bytes_at r t
+  same_text : (a : BlobId) (s t : Spot) (i j : Id) → IsUsablePlace r a s i → IsUsablePlace r a t j → bytes_at r s ≡ bytes_at r t
   same_text a s t i j p q =
       text_in_all a s i p ∙ one.one a s t (supports_from r all part a s i p).honest (supports_from r all part a t j q).honest ∙ sym (text_in_all a t j q)
 

@@ -1,12 +1,12 @@
-use keep_sources::{Kind, Sight};
+use keep_sources::{Stat, StatKind};
 use std::alloc::AllocError;
 
 /// Another one like this.
-pub(crate) fn copy_of(sight: &Sight) -> Result<Sight, AllocError> {
+pub(crate) fn copy_of(sight: &Stat) -> Result<Stat, AllocError> {
     let kind = kind_copy(&sight.kind)?;
     let user = text_copy(&sight.user)?;
     let group = text_copy(&sight.group)?;
-    Ok(Sight {
+    Ok(Stat {
         kind,
         mode: sight.mode,
         mtime: sight.mtime,
@@ -24,15 +24,15 @@ pub(crate) fn copy_of(sight: &Sight) -> Result<Sight, AllocError> {
     })
 }
 
-fn kind_copy(kind: &Kind) -> Result<Kind, AllocError> {
+fn kind_copy(kind: &StatKind) -> Result<StatKind, AllocError> {
     match kind {
-        Kind::File => Ok(Kind::File),
-        Kind::Folder => Ok(Kind::Folder),
-        Kind::Link(target) => Ok(Kind::Link(target.clone()?)),
-        Kind::Fifo => Ok(Kind::Fifo),
-        Kind::Socket => Ok(Kind::Socket),
-        Kind::Device => Ok(Kind::Device),
-        Kind::CharDevice => Ok(Kind::CharDevice),
+        StatKind::File => Ok(StatKind::File),
+        StatKind::Folder => Ok(StatKind::Folder),
+        StatKind::Link(target) => Ok(StatKind::Link(target.clone()?)),
+        StatKind::Fifo => Ok(StatKind::Fifo),
+        StatKind::Socket => Ok(StatKind::Socket),
+        StatKind::Device => Ok(StatKind::Device),
+        StatKind::CharDevice => Ok(StatKind::CharDevice),
     }
 }
 

@@ -2,7 +2,7 @@ ghost use Rattle.std.specs.Prelude.{◌≤◌, IfErr, IfOk, length, take};
 
 use crate::copy::copy_of;
 use crate::source_entry::{Entry, Failure};
-use keep_sources::{Listing, Sight, Source, Why};
+use keep_sources::{FolderListing, Source, Stat, Why};
 use std::alloc::{AllocError, Global};
 use std::collections::BTreeMap;
 
@@ -43,7 +43,7 @@ impl Source for MemorySource {
 
     ghost told = { anything };
 
-    fn look(&mut self, path: &str) -> Result<Sight, Why> {
+    fn look(&mut self, path: &str) -> Result<Stat, Why> {
         let entry = self.entry(path)?;
         if let Some(Failure::Look(why)) = entry.failure {
             return Err(why);
@@ -54,13 +54,13 @@ impl Source for MemorySource {
         }
     }
 
-    fn list(&mut self, folder: &str, _seen: &Sight) -> Result<Listing, Why> {
+    fn list(&mut self, folder: &str, _seen: &Stat) -> Result<FolderListing, Why> {
         let entry = self.entry(folder)?;
         if let Some(Failure::List(why)) = entry.failure {
             return Err(why);
         }
         match self.names_in(folder) {
-            Ok(names) => Ok(Listing {
+            Ok(names) => Ok(FolderListing {
                 names,
                 unsayable: entry.unsayable,
             }),
@@ -68,7 +68,7 @@ impl Source for MemorySource {
         }
     }
 
-    fn open(&mut self, path: &str, _seen: &Sight) -> Result<(), Why> {
+    fn open(&mut self, path: &str, _seen: &Stat) -> Result<(), Why> {
         match self.entry(path)?.failure {
             Some(Failure::Open(why)) => Err(why),
             _ => Ok(()),

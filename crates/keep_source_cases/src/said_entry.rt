@@ -1,7 +1,7 @@
 use crate::no_source::No;
 use crate::source_entry::{Entry, Failure};
 use crate::source_words::{number_in, text_of};
-use keep_sources::{Kind, Moment, Sight, Why};
+use keep_sources::{Moment, Stat, StatKind, Why};
 use std::alloc::Global;
 
 /// The entry that the words behind a path say.
@@ -11,17 +11,17 @@ pub(crate) fn entry_of(alloc: Global, words: &[&str]) -> Result<Entry, No> {
     };
     match *kind {
         "file" => file_of(alloc, rest),
-        "folder" => options_of(bare(alloc, Kind::Folder), rest),
+        "folder" => options_of(bare(alloc, StatKind::Folder), rest),
         "link" => {
             let [target] = rest else {
                 return Err(No::Case);
             };
-            Ok(bare(alloc, Kind::Link(text_of(alloc, target)?)))
+            Ok(bare(alloc, StatKind::Link(text_of(alloc, target)?)))
         }
-        "fifo" => options_of(bare(alloc, Kind::Fifo), rest),
-        "socket" => options_of(bare(alloc, Kind::Socket), rest),
-        "device" => options_of(bare(alloc, Kind::Device), rest),
-        "chardev" => options_of(bare(alloc, Kind::CharDevice), rest),
+        "fifo" => options_of(bare(alloc, StatKind::Fifo), rest),
+        "socket" => options_of(bare(alloc, StatKind::Socket), rest),
+        "device" => options_of(bare(alloc, StatKind::Device), rest),
+        "chardev" => options_of(bare(alloc, StatKind::CharDevice), rest),
         _ => Err(No::Case),
     }
 }
@@ -30,7 +30,7 @@ fn file_of(alloc: Global, words: &[&str]) -> Result<Entry, No> {
     let [text, rest @ ..] = words else {
         return Err(No::Case);
     };
-    let mut entry = bare(alloc, Kind::File);
+    let mut entry = bare(alloc, StatKind::File);
     let text = text_of(alloc, text)?;
     entry.content.extend_from_slice(text.as_bytes())?;
     entry.sight.size = text.len() as u64;
@@ -91,12 +91,12 @@ fn why_in(word: &str) -> Result<Why, No> {
 }
 
 /// Something without content.
-pub(crate) fn bare(alloc: Global, kind: Kind) -> Entry {
+pub(crate) fn bare(alloc: Global, kind: StatKind) -> Entry {
     let moment = Moment {
         seconds: 0,
         nanoseconds: 0,
     };
-    let sight = Sight {
+    let sight = Stat {
         kind,
         mode: 0,
         mtime: moment,

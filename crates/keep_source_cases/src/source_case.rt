@@ -5,7 +5,7 @@ use crate::source_entry::Entry;
 use crate::source_events::Events;
 use crate::source_words::{number_in, text_of, words_in};
 use keep_names::parse_id;
-use keep_sources::{Job, Kind, Known, Moment, Taking};
+use keep_sources::{Known, Moment, Scope, StatKind, Taking};
 use keep_tree::parse_pattern;
 use std::alloc::Global;
 use std::collections::BTreeMap;
@@ -14,7 +14,7 @@ use std::collections::BTreeMap;
 #[derive(Drop)]
 struct Case {
     entries: BTreeMap<String, Entry>,
-    job: Job,
+    job: Scope,
     held: u64,
 }
 
@@ -46,8 +46,8 @@ fn taken(alloc: Global, case: Case) -> Result<String, No> {
 
 fn read_case(alloc: Global, line: &str) -> Result<Case, No> {
     let mut entries = BTreeMap::new(alloc);
-    entries.insert(String::new(alloc), bare(alloc, Kind::Folder))?;
-    let job = Job {
+    entries.insert(String::new(alloc), bare(alloc, StatKind::Folder))?;
+    let job = Scope {
         paths: Vec::new(alloc),
         excludes: Vec::new(alloc),
         known: BTreeMap::new(alloc),
@@ -92,7 +92,7 @@ fn dig(alloc: Global, case: &mut Case, count: u64) -> Result<(), No> {
         }
         path.push('d')?;
         case.entries
-            .insert(path.clone()?, bare(alloc, Kind::Folder))?;
+            .insert(path.clone()?, bare(alloc, StatKind::Folder))?;
     }
     Ok(())
 }

@@ -1,10 +1,10 @@
-use keep_sources::{Sight, Why};
+use keep_sources::{Stat, Why};
 
 /// What lies at a path.
 #[derive(Drop)]
 pub struct Entry {
     /// What a look tells. A file that changes has another size here than it holds bytes.
-    pub sight: Sight,
+    pub sight: Stat,
     /// What a file holds when it is read.
     pub content: Vec<u8>,
     /// How many names of a folder can't be said.

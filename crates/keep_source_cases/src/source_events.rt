@@ -2,7 +2,7 @@ ghost use Rattle.std.specs.Prelude.{◌≤◌, OnOk};
 
 use crate::source_words::word_of;
 use keep_names::Id;
-use keep_sources::{Kind, Receives, Sight, Stop, Why};
+use keep_sources::{Receives, Stat, StatKind, Stop, Why};
 use std::alloc::{AllocError, Global};
 
 /// Texts up to so many bytes are shown, and longer ones counted.
@@ -103,7 +103,7 @@ impl Receives for Events {
         Ok(())
     }
 
-    fn close_folder(&mut self, _sight: &Sight) -> Result<(), Stop> {
+    fn close_folder(&mut self, _sight: &Stat) -> Result<(), Stop> {
         self.add("close")?;
         Ok(())
     }
@@ -114,7 +114,7 @@ impl Receives for Events {
         Ok(())
     }
 
-    fn end_file(&mut self, name: &str, sight: &Sight) -> Result<(), Stop> {
+    fn end_file(&mut self, name: &str, sight: &Stat) -> Result<(), Stop> {
         self.add_file(name, sight.size)?;
         Ok(())
     }
@@ -124,20 +124,20 @@ impl Receives for Events {
         Ok(())
     }
 
-    fn same_file(&mut self, name: &str, content: &[Id], _sight: &Sight) -> Result<(), Stop> {
+    fn same_file(&mut self, name: &str, content: &[Id], _sight: &Stat) -> Result<(), Stop> {
         self.add_same(name, content)?;
         Ok(())
     }
 
-    fn add_other(&mut self, name: &str, sight: &Sight) -> Result<(), Stop> {
+    fn add_other(&mut self, name: &str, sight: &Stat) -> Result<(), Stop> {
         match &sight.kind {
-            Kind::File => self.add_named("file", name)?,
-            Kind::Folder => self.add_named("folder", name)?,
-            Kind::Link(target) => self.add_link(name, target.as_str())?,
-            Kind::Fifo => self.add_named("fifo", name)?,
-            Kind::Socket => self.add_named("socket", name)?,
-            Kind::Device => self.add_named("device", name)?,
-            Kind::CharDevice => self.add_named("chardev", name)?,
+            StatKind::File => self.add_named("file", name)?,
+            StatKind::Folder => self.add_named("folder", name)?,
+            StatKind::Link(target) => self.add_link(name, target.as_str())?,
+            StatKind::Fifo => self.add_named("fifo", name)?,
+            StatKind::Socket => self.add_named("socket", name)?,
+            StatKind::Device => self.add_named("device", name)?,
+            StatKind::CharDevice => self.add_named("chardev", name)?,
         }
         Ok(())
     }

@@ -7,11 +7,11 @@ use Rattle.keep_sources.specs.Job.{is_asked}
 use Rattle.keep_sources.specs.Met.{Met, End, Then, Inside, below, given_of, given_of_leaf, names_of, skips_of, skips_of_leaf, unsaid}
 use Rattle.keep_sources.specs.Told.{Told}
 use Rattle.keep_sources.specs.Took.{IsMet, Took, TookLeaf, TookListed, listed_names, skip_view}
-use Rattle.keep_sources.specs.declared.scope.Job.{Job}
-use Rattle.keep_sources.specs.declared.stat.Kind.TheVariants.{Folder}
-use Rattle.keep_sources.specs.declared.stat.Sight.{Sight}
+use Rattle.keep_sources.specs.declared.scope.Scope.{Scope}
+use Rattle.keep_sources.specs.declared.stat.StatKind.TheVariants.{Folder}
+use Rattle.keep_sources.specs.declared.stat.Stat.{Stat}
 use Rattle.keep_sources.specs.declared.skipped.Skipped.{Skipped}
-use Rattle.keep_sources.specs.declared.source.Listing.{Listing}
+use Rattle.keep_sources.specs.declared.source.FolderListing.{FolderListing}
 
 join : Met → Met → Met
 join End b = b
@@ -43,13 +43,13 @@ skips-join f (Inside n s u i r) b =
     ap (λ g. (unsaid (below f n) u ++ skips_of (below f n) i) ++ g) (skips-join f r b)
     ∙ sym (append_assoc (unsaid (below f n) u ++ skips_of (below f n) i) (skips_of f r) (skips_of f b))
 
-met-join : (t : Told) (j : Job) (k : ℕ) (f : List ℕ) (a b : Met) → IsMet t j k f a → IsMet t j k f b → IsMet t j k f (join a b)
+met-join : (t : Told) (j : Scope) (k : ℕ) (f : List ℕ) (a b : Met) → IsMet t j k f a → IsMet t j k f b → IsMet t j k f (join a b)
 unfolding join
 met-join t j k f End b ha hb = hb
 met-join t j k f (Then n l r) b ha hb = (ha.0, met-join t j k f r b ha.1 hb)
 met-join t j k f (Inside n s u i r) b ha hb = (ha.0, ha.1, met-join t j k f r b ha.2 hb)
 
-module _ {X : Type 0} (gives : X → Given → X → Type 0) (t : Told) (j : Job) (k : ℕ) (f : List ℕ) where
+module _ {X : Type 0} (gives : X → Given → X → Type 0) (t : Told) (j : Scope) (k : ℕ) (f : List ℕ) where
   -- no name was taken
   pub took_none : (g : X) (s : List Skipped) → Took t gives j k f [] g g s s
   took_none g s = record { met = End; is = tt; all = refl; gave = refl; named = sym (append-nil (map skip_view s)) }
@@ -80,7 +80,7 @@ module _ {X : Type 0} (gives : X → Given → X → Type 0) (t : Told) (j : Job
       }
 
   -- the names of a listing were taken, behind those that can't be said
-  pub took_listed : (listing : Listing) (g g' : X) (s s' s'' : List Skipped)
+  pub took_listed : (listing : FolderListing) (g g' : X) (s s' s'' : List Skipped)
       → map skip_view s' ≡ map skip_view s ++ unsaid f listing.unsayable → Took t gives j k f (listed_names listing) g g' s' s''
       → TookListed t gives j k f listing g g' s s''
   took_listed listing g g' s s' s'' un a = record {
@@ -92,7 +92,7 @@ module _ {X : Type 0} (gives : X → Given → X → Type 0) (t : Told) (j : Job
   }
 
   -- a folder was taken, with all below it
-  pub took_folder : (n path : List ℕ) (sight : Sight) (listing : Listing) (g g1 g2 g' : X) (s s' : List Skipped)
+  pub took_folder : (n path : List ℕ) (sight : Stat) (listing : FolderListing) (g g1 g2 g' : X) (s s' : List Skipped)
       → path ≡ below f n → is_asked j path ≡ true → t.saw path sight → sight.kind ≡ Folder → 1 ≤ k → t.listed path listing
       → gives g (OpenedFolder n) g1 → TookListed t gives j (k - 1) path listing g1 g2 s s' → gives g2 (ClosedFolder sight) g'
       → Took t gives j k f (n ∷ []) g g' s s'

@@ -9,19 +9,19 @@ use Rattle.keep_sources.specs.Job.{IsUnchanged, is_asked}
 use Rattle.keep_sources.specs.Met.{Excluded, Missed, Other, Same, Whole, Broken, below, change_of, named, sized, total}
 use Rattle.keep_sources.specs.Told.{Told}
 use Rattle.keep_sources.specs.Took.{CopiedFile, IsNewFile, Took, TookLeaf, TookListed, is_other, skip_view}
-use Rattle.keep_sources.specs.declared.scope.Job.{Job}
-use Rattle.keep_sources.specs.declared.stat.Kind.TheVariants.{File, Folder}
-use Rattle.keep_sources.specs.declared.stat.Sight.{Sight}
+use Rattle.keep_sources.specs.declared.scope.Scope.{Scope}
+use Rattle.keep_sources.specs.declared.stat.StatKind.TheVariants.{File, Folder}
+use Rattle.keep_sources.specs.declared.stat.Stat.{Stat}
 use Rattle.keep_sources.specs.declared.skipped.Skipped.{Skipped}
 use Rattle.keep_sources.specs.declared.skipped.Why.{Why}
 use Rattle.keep_sources.specs.declared.skipped.Why.TheVariants.{TooDeep}
-use Rattle.keep_sources.specs.declared.source.Listing.{Listing}
+use Rattle.keep_sources.specs.declared.source.FolderListing.{FolderListing}
 
 pub on_ok : {A E P Q : Type 0} (r : Result A E) → (P → Q) → OnOk r P → OnOk r Q
 on_ok (Ok x) f h = f h
 on_ok (Err e) f h = tt
 
-module _ {X : Type 0} (gives : X → Given → X → Type 0) (t : Told) (j : Job) (k : ℕ) (path n : List ℕ) where
+module _ {X : Type 0} (gives : X → Given → X → Type 0) (t : Told) (j : Scope) (k : ℕ) (path n : List ℕ) where
   pub left_out : (g : X) (s : List Skipped) → is_asked j path ≡ false → TookLeaf t gives j k path n g g s s
   left_out g s out = record { leaf = Excluded; is = out; gave = refl; named = sym (append-nil (map skip_view s)) }
 
@@ -29,7 +29,7 @@ module _ {X : Type 0} (gives : X → Given → X → Type 0) (t : Told) (j : Job
       → map skip_view s' ≡ map skip_view s ++ (path, why) ∷ [] → TookLeaf t gives j k path n g g' s s'
   missed g g' s s' why asked lost same says = record { leaf = Missed why; is = (asked, inl lost); gave = same; named = says }
 
-  pub too_deep : (g g' : X) (s s' : List Skipped) (sight : Sight) → is_asked j path ≡ true → k ≡ 0 → t.saw path sight → sight.kind ≡ Folder → g' ≡ g
+  pub too_deep : (g g' : X) (s s' : List Skipped) (sight : Stat) → is_asked j path ≡ true → k ≡ 0 → t.saw path sight → sight.kind ≡ Folder → g' ≡ g
       → map skip_view s' ≡ map skip_view s ++ (path, TooDeep) ∷ [] → TookLeaf t gives j k path n g g' s s'
   too_deep g g' s s' sight asked deep saw kind same says = record {
     leaf = Missed TooDeep;
@@ -38,7 +38,7 @@ module _ {X : Type 0} (gives : X → Given → X → Type 0) (t : Told) (j : Job
     named = says;
   }
 
-  pub other : (g g' : X) (s : List Skipped) (sight : Sight) → is_asked j path ≡ true → t.saw path sight → is_other sight.kind ≡ true
+  pub other : (g g' : X) (s : List Skipped) (sight : Stat) → is_asked j path ≡ true → t.saw path sight → is_other sight.kind ≡ true
       → gives g (GotOther n sight) g' → TookLeaf t gives j k path n g g' s s
   other g g' s sight asked saw is gave = record {
     leaf = Other sight;
@@ -47,7 +47,7 @@ module _ {X : Type 0} (gives : X → Given → X → Type 0) (t : Told) (j : Job
     named = sym (append-nil (map skip_view s));
   }
 
-  pub same : (g g' : X) (s : List Skipped) (sight : Sight) (content : List Id) → is_asked j path ≡ true → t.saw path sight → sight.kind ≡ File
+  pub same : (g g' : X) (s : List Skipped) (sight : Stat) (content : List Id) → is_asked j path ≡ true → t.saw path sight → sight.kind ≡ File
       → IsUnchanged j path sight content → gives g (GotSame n content sight) g' → TookLeaf t gives j k path n g g' s s
   same g g' s sight content asked saw is known gave = record {
     leaf = Same sight content;
@@ -56,7 +56,7 @@ module _ {X : Type 0} (gives : X → Given → X → Type 0) (t : Told) (j : Job
     named = sym (append-nil (map skip_view s));
   }
 
-  pub broken : (g g' g'' : X) (s s' : List Skipped) (sight : Sight) (size : ℕ) (failure : Option Why) (why : Why) → is_asked j path ≡ true
+  pub broken : (g g' g'' : X) (s s' : List Skipped) (sight : Stat) (size : ℕ) (failure : Option Why) (why : Why) → is_asked j path ≡ true
       → IsNewFile t j path sight → CopiedFile t gives path sight.size g g' size failure → failure ≡ Some why → gives g' DroppedFile g''
       → map skip_view s' ≡ map skip_view s ++ (path, why) ∷ [] → TookLeaf t gives j k path n g g'' s s'
   broken g g' g'' s s' sight size failure why asked new copied is gave says =
@@ -68,7 +68,7 @@ module _ {X : Type 0} (gives : X → Given → X → Type 0) (t : Told) (j : Job
         named = says;
       }
 
-  pub whole : (g g' g'' : X) (s s' : List Skipped) (sight : Sight) (size : ℕ) (failure : Option Why) → is_asked j path ≡ true
+  pub whole : (g g' g'' : X) (s s' : List Skipped) (sight : Stat) (size : ℕ) (failure : Option Why) → is_asked j path ≡ true
       → IsNewFile t j path sight → CopiedFile t gives path sight.size g g' size failure → failure ≡ None
       → gives g' (EndedFile n (sized sight size)) g'' → map skip_view s' ≡ map skip_view s ++ named path (change_of size sight.size)
       → TookLeaf t gives j k path n g g'' s s'
@@ -85,7 +85,7 @@ module _ {X : Type 0} (gives : X → Given → X → Type 0) (t : Told) (j : Job
       }
 
 -- a folder was taken, by the calls that it takes
-pub folder_ends : {X : Type 0} (gives : X → Given → X → Type 0) (t : Told) (j : Job) (k : ℕ) (f n path text : List ℕ) (sight : Sight) (listing : Listing)
+pub folder_ends : {X : Type 0} (gives : X → Given → X → Type 0) (t : Told) (j : Scope) (k : ℕ) (f n path text : List ℕ) (sight : Stat) (listing : FolderListing)
     (g g1 g2 g3 g4 : X) (s s1 s2 : List Skipped)
     → path ≡ below f n → text ≡ path → is_asked j path ≡ true → t.saw path sight → sight.kind ≡ Folder → 1 ≤ k → t.listed text listing
     → gives g (OpenedFolder n) g1 → TookListed t gives j (k - 1) text listing g1 g2 s s1 → g3 ≡ g2 → s2 ≡ s1

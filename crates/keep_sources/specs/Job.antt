@@ -6,14 +6,14 @@ use Rattle.std.specs.Str.{bytes_eq}
 use Rattle.keep_names.specs.declared.id.Id.{Id}
 use Rattle.keep_tree.specs.Parsing.{PatternData, pattern_view}
 use Rattle.keep_sources.specs.Excluding.{is_excluded}
-use Rattle.keep_sources.specs.declared.scope.Job.{Job}
+use Rattle.keep_sources.specs.declared.scope.Scope.{Scope}
 use Rattle.keep_sources.specs.declared.scope.Known.{Known}
-use Rattle.keep_sources.specs.declared.stat.Sight.{Sight}
+use Rattle.keep_sources.specs.declared.stat.Stat.{Stat}
 
-abbrev pub patterns_of : Job → List PatternData
+abbrev pub patterns_of : Scope → List PatternData
 patterns_of job = map pattern_view job.excludes.items
 
-abbrev pub paths_of : Job → List (List ℕ)
+abbrev pub paths_of : Scope → List (List ℕ)
 paths_of job = map string_bytes job.paths.items
 
 -- whether a text ends, or goes on with a slash
@@ -32,11 +32,11 @@ abbrev pub is_wanted : List (List ℕ) → List ℕ → Bool
 is_wanted paths path = list_any (λ chosen. is_within chosen path || is_within path chosen) paths
 
 -- whether the path is asked for: it has to do with the paths, and no pattern takes it
-abbrev pub is_asked : Job → List ℕ → Bool
+abbrev pub is_asked : Scope → List ℕ → Bool
 is_asked job path = is_wanted (paths_of job) path && not (is_excluded (patterns_of job) path)
 
 -- an earlier backup has a file of this path, size and time, of these blobs
-pub record IsUnchanged (job : Job) (path : List ℕ) (sight : Sight) (content : List Id) : Type 0 where
+pub record IsUnchanged (job : Scope) (path : List ℕ) (sight : Stat) (content : List Id) : Type 0 where
   pub file : Known
   pub known : get_by_text job.known path ≡ Some file
   pub size : file.size ≡ sight.size

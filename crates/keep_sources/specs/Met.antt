@@ -2,7 +2,7 @@
 use Rattle.std.specs.Prelude.{ℕ, ◌+◌, ◌==◌, Option, None, Some, List, [], ◌∷◌, ◌++◌, map, length, codes, if◌then◌else◌, nat_lt}
 use Rattle.keep_names.specs.declared.id.Id.{Id}
 use Rattle.keep_sources.specs.Given.{Given, ClosedFolder, DroppedFile, EndedFile, GotOther, GotSame, OpenedFolder, Wrote}
-use Rattle.keep_sources.specs.declared.stat.Sight.{Sight}
+use Rattle.keep_sources.specs.declared.stat.Stat.{Stat}
 use Rattle.keep_sources.specs.declared.skipped.Why.{Why}
 use Rattle.keep_sources.specs.declared.skipped.Why.TheVariants.{Grew, Shrank, Unsayable}
 
@@ -13,13 +13,13 @@ pub data Leaf : Type 0 where
   -- it couldn't be seen, opened or listed
   Missed : Why → Leaf
   -- it is neither a file nor a folder
-  Other : Sight → Leaf
+  Other : Stat → Leaf
   -- it is a file that an earlier backup has
-  Same : Sight → List Id → Leaf
+  Same : Stat → List Id → Leaf
   -- it is a file that was read, in these pieces
-  Whole : Sight → List (List ℕ) → Leaf
+  Whole : Stat → List (List ℕ) → Leaf
   -- it is a file of which no more than these pieces could be read
-  Broken : Sight → List (List ℕ) → Why → Leaf
+  Broken : Stat → List (List ℕ) → Why → Leaf
 
 -- what was met in a folder
 pub data Met : Type 0 where
@@ -28,7 +28,7 @@ pub data Met : Type 0 where
   -- this became of a name, and then come the other names
   Then : List ℕ → Leaf → Met → Met
   -- a folder of this name was seen so, with so many names that can't be said, and in it was met this; then come the other names
-  Inside : List ℕ → Sight → ℕ → Met → Met → Met
+  Inside : List ℕ → Stat → ℕ → Met → Met → Met
 
 abbrev pub names_of : Met → List (List ℕ)
 names_of End = []
@@ -46,7 +46,7 @@ total [] = 0
 total (piece ∷ pieces) = length piece + total pieces
 
 -- a file as it was seen, with the size that was read
-abbrev pub sized : Sight → ℕ → Sight
+abbrev pub sized : Stat → ℕ → Stat
 sized sight size = record sight { size = size }
 
 -- what is given of a name that isn't a folder's

@@ -1,14 +1,14 @@
 -- What a source told, by paths.
 use Rattle.std.specs.Prelude.{ℕ, List}
-use Rattle.keep_sources.specs.declared.stat.Sight.{Sight}
+use Rattle.keep_sources.specs.declared.stat.Stat.{Stat}
 use Rattle.keep_sources.specs.declared.skipped.Why.{Why}
-use Rattle.keep_sources.specs.declared.source.Listing.{Listing}
+use Rattle.keep_sources.specs.declared.source.FolderListing.{FolderListing}
 
 pub record Told : Type 1 where
   -- a look at the path answered this
-  pub saw : List ℕ → Sight → Type 0
+  pub saw : List ℕ → Stat → Type 0
   -- the folder was listed, and has this
-  pub listed : List ℕ → Listing → Type 0
+  pub listed : List ℕ → FolderListing → Type 0
   -- a read of the file, from this offset on, answered these bytes
   pub read : List ℕ → ℕ → List ℕ → Type 0
   -- a call at the path failed, and this is why

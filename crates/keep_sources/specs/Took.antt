@@ -6,17 +6,17 @@ use Rattle.keep_sources.specs.Job.{IsUnchanged, is_asked}
 use Rattle.keep_sources.specs.Limits.{most_levels, read_limit}
 use Rattle.keep_sources.specs.Met.{Leaf, Excluded, Missed, Other, Same, Whole, Broken, Met, End, Then, Inside, below, given_of, given_of_leaf, names_of, skips_of, skips_of_leaf, total, unsaid}
 use Rattle.keep_sources.specs.Told.{Told}
-use Rattle.keep_sources.specs.declared.scope.Job.{Job}
-use Rattle.keep_sources.specs.declared.stat.Kind.{Kind}
-use Rattle.keep_sources.specs.declared.stat.Kind.TheVariants.{File, Folder}
-use Rattle.keep_sources.specs.declared.stat.Sight.{Sight}
+use Rattle.keep_sources.specs.declared.scope.Scope.{Scope}
+use Rattle.keep_sources.specs.declared.stat.StatKind.{StatKind}
+use Rattle.keep_sources.specs.declared.stat.StatKind.TheVariants.{File, Folder}
+use Rattle.keep_sources.specs.declared.stat.Stat.{Stat}
 use Rattle.keep_sources.specs.declared.skipped.Skipped.{Skipped}
 use Rattle.keep_sources.specs.declared.skipped.Why.{Why}
 use Rattle.keep_sources.specs.declared.skipped.Why.TheVariants.{TooDeep}
-use Rattle.keep_sources.specs.declared.source.Listing.{Listing}
+use Rattle.keep_sources.specs.declared.source.FolderListing.{FolderListing}
 
 -- the names of a listing
-abbrev pub listed_names : Listing → List (List ℕ)
+abbrev pub listed_names : FolderListing → List (List ℕ)
 listed_names listing = map string_bytes listing.names.items
 
 -- what is named of a path, as a value
@@ -24,7 +24,7 @@ abbrev pub skip_view : Skipped → List ℕ × Why
 skip_view skipped = (string_bytes skipped.path, skipped.why)
 
 -- whether something is neither a file nor a folder
-abbrev pub is_other : Kind → Bool
+abbrev pub is_other : StatKind → Bool
 is_other File = false
 is_other Folder = false
 is_other _ = true
@@ -39,17 +39,17 @@ abbrev pub IsReadOut : Told → List ℕ → ℕ → ℕ → Type 0
 IsReadOut told path seen size = told.read path size [] ⊎ (read_limit seen ≤ size)
 
 -- the path was seen, and it is a file that no earlier backup has so
-pub record IsNewFile (told : Told) (job : Job) (path : List ℕ) (sight : Sight) : Type 0 where
+pub record IsNewFile (told : Told) (job : Scope) (path : List ℕ) (sight : Stat) : Type 0 where
   pub seen : told.saw path sight
   pub file : sight.kind ≡ File
   pub new : (content : List Id) → IsUnchanged job path sight content → ⊥
 
 -- a path was told so: it wasn't asked for where it is excluded, and what became of it has a cause
-abbrev pub IsLeaf : Told → Job → ℕ → List ℕ → Leaf → Type 0
+abbrev pub IsLeaf : Told → Scope → ℕ → List ℕ → Leaf → Type 0
 IsLeaf told job levels path Excluded = is_asked job path ≡ false
 IsLeaf told job levels path (Missed why) =
     (is_asked job path ≡ true)
-    × (told.lost path why ⊎ ((why ≡ TooDeep) × (levels ≡ 0) × ((sight : Sight) × told.saw path sight × (sight.kind ≡ Folder))))
+    × (told.lost path why ⊎ ((why ≡ TooDeep) × (levels ≡ 0) × ((sight : Stat) × told.saw path sight × (sight.kind ≡ Folder))))
 IsLeaf told job levels path (Other sight) =
     (is_asked job path ≡ true) × told.saw path sight × (is_other sight.kind ≡ true)
 IsLeaf told job levels path (Same sight content) =
@@ -61,18 +61,18 @@ IsLeaf told job levels path (Broken sight pieces why) =
     (is_asked job path ≡ true) × IsNewFile told job path sight × AreRead told path 0 pieces × told.lost path why
 
 -- a folder was seen and listed, and has these names and so many more that can't be said
-pub record IsFolder (told : Told) (job : Job) (levels : ℕ) (path : List ℕ) (sight : Sight) (names : List (List ℕ)) (count : ℕ) : Type 0 where
+pub record IsFolder (told : Told) (job : Scope) (levels : ℕ) (path : List ℕ) (sight : Stat) (names : List (List ℕ)) (count : ℕ) : Type 0 where
   pub asked : is_asked job path ≡ true
   pub seen : told.saw path sight
   pub folder : sight.kind ≡ Folder
   pub reached : 1 ≤ levels
-  pub listing : Listing
+  pub listing : FolderListing
   pub listed : told.listed path listing
   pub sayable : listed_names listing ≡ names
   pub unsayable : listing.unsayable ≡ count
 
 -- all that was met in the folder was told so, with so many levels of folders below it
-abbrev pub IsMet : Told → Job → ℕ → List ℕ → Met → Type 0
+abbrev pub IsMet : Told → Scope → ℕ → List ℕ → Met → Type 0
 IsMet told job levels folder End = Unit {0}
 IsMet told job levels folder (Then name leaf rest) = IsLeaf told job levels (below folder name) leaf × IsMet told job levels folder rest
 IsMet told job levels folder (Inside name sight unsayable inside rest) =
@@ -80,7 +80,7 @@ IsMet told job levels folder (Inside name sight unsayable inside rest) =
     × IsMet told job (levels - 1) (below folder name) inside × IsMet told job levels folder rest
 
 -- these names of a folder were taken: something was met of each, and that alone is given and named behind what was so before
-pub record Took {X : Type 0} (told : Told) (gives : X → Given → X → Type 0) (job : Job) (levels : ℕ) (folder : List ℕ) (names : List (List ℕ)) (given given_now : X)
+pub record Took {X : Type 0} (told : Told) (gives : X → Given → X → Type 0) (job : Scope) (levels : ℕ) (folder : List ℕ) (names : List (List ℕ)) (given given_now : X)
     (skips skips_now : List Skipped) : Type 0 where
   pub met : Met
   pub is : IsMet told job levels folder met
@@ -89,7 +89,7 @@ pub record Took {X : Type 0} (told : Told) (gives : X → Given → X → Type 0
   pub named : map skip_view skips_now ≡ map skip_view skips ++ skips_of folder met
 
 -- one of these became of a name, told so, and that alone is given and named
-pub record TookLeaf {X : Type 0} (told : Told) (gives : X → Given → X → Type 0) (job : Job) (levels : ℕ) (path name : List ℕ) (given given_now : X)
+pub record TookLeaf {X : Type 0} (told : Told) (gives : X → Given → X → Type 0) (job : Scope) (levels : ℕ) (path name : List ℕ) (given given_now : X)
     (skips skips_now : List Skipped) : Type 0 where
   pub leaf : Leaf
   pub is : IsLeaf told job levels path leaf
@@ -97,7 +97,7 @@ pub record TookLeaf {X : Type 0} (told : Told) (gives : X → Given → X → Ty
   pub named : map skip_view skips_now ≡ map skip_view skips ++ skips_of_leaf path leaf
 
 -- the names of a listing were taken, and those that can't be said are named
-pub record TookListed {X : Type 0} (told : Told) (gives : X → Given → X → Type 0) (job : Job) (levels : ℕ) (folder : List ℕ) (listing : Listing) (given given_now : X)
+pub record TookListed {X : Type 0} (told : Told) (gives : X → Given → X → Type 0) (job : Scope) (levels : ℕ) (folder : List ℕ) (listing : FolderListing) (given given_now : X)
     (skips skips_now : List Skipped) : Type 0 where
   pub met : Met
   pub is : IsMet told job levels folder met
@@ -106,9 +106,9 @@ pub record TookListed {X : Type 0} (told : Told) (gives : X → Given → X → 
   pub named : map skip_view skips_now ≡ map skip_view skips ++ (unsaid folder listing.unsayable ++ skips_of folder met)
 
 -- all below the root was taken, or the root can't be listed and is named
-abbrev pub TookAll : {X : Type 0} → Told → (X → Given → X → Type 0) → Job → X → X → List Skipped → List Skipped → Type 0
+abbrev pub TookAll : {X : Type 0} → Told → (X → Given → X → Type 0) → Scope → X → X → List Skipped → List Skipped → Type 0
 TookAll told gives job given given_now skips skips_now =
-    ((listing : Listing) × told.listed [] listing × TookListed told gives job most_levels [] listing given given_now skips skips_now)
+    ((listing : FolderListing) × told.listed [] listing × TookListed told gives job most_levels [] listing given given_now skips skips_now)
     ⊎ ((why : Why) × told.lost [] why × (given_now ≡ given) × (map skip_view skips_now ≡ map skip_view skips ++ ([], why) ∷ []))
 
 -- pieces of a file were read and given, up to its end or to a failure

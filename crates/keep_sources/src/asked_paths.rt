@@ -2,11 +2,11 @@ ghost use Rattle.std.specs.Prelude.{◌≡◌, IfOk, map, string_bytes};
 ghost use Rattle.keep_sources.specs.Job as spec;
 
 use crate::excluding::is_excluded;
-use crate::scope::Job;
+use crate::scope::Scope;
 use std::alloc::{AllocError, Global};
 
 /// Whether the path is asked for.
-pub(crate) fn is_asked(alloc: Global, job: &Job, path: &str) -> Result<bool, AllocError>
+pub(crate) fn is_asked(alloc: Global, job: &Scope, path: &str) -> Result<bool, AllocError>
     ensures { IfOk result (λ asked. asked ≡ spec.is_asked job.now path.now) }
 {
     if !is_wanted(job.paths.as_slice(), path) {

@@ -15,8 +15,8 @@ mod taking;
 mod walk;
 
 pub use receives::{Receives, Stop};
-pub use scope::{Job, Known};
+pub use scope::{Known, Scope};
 pub use skipped::{Skipped, Why};
-pub use source::{Listing, Source};
-pub use stat::{Kind, Moment, Sight};
+pub use source::{FolderListing, Source};
+pub use stat::{Moment, Stat, StatKind};
 pub use taking::Taking;

@@ -2,7 +2,7 @@ ghost use Rattle.std.specs.Prelude.{◌≡◌, ◌≤◌, OnOk};
 ghost use Rattle.keep_sources.specs.Given.{ClosedFolder, DroppedFile, EndedFile, GotOther, GotSame, OpenedFolder, Wrote};
 ghost use Rattle.keep_sources.specs.Limits.{most_held};
 
-use crate::stat::Sight;
+use crate::stat::Stat;
 use keep_names::Id;
 use std::alloc::AllocError;
 
@@ -46,7 +46,7 @@ pub trait Receives: Drop {
         ensures { OnOk result (gives (seen self.old) (OpenedFolder name.now) (seen self.new)) };
 
     /// Ends the folder that was opened last and isn't closed.
-    fn close_folder(&mut self, sight: &Sight) -> Result<(), Stop>
+    fn close_folder(&mut self, sight: &Stat) -> Result<(), Stop>
         requires room { holds self.old ≤ most_held }
         ensures { OnOk result (gives (seen self.old) (ClosedFolder sight.now) (seen self.new)) };
 
@@ -56,7 +56,7 @@ pub trait Receives: Drop {
         ensures { OnOk result (gives (seen self.old) (Wrote bytes.now) (seen self.new)) };
 
     /// A file of the bytes that were written since the last one. Its size is how many they are.
-    fn end_file(&mut self, name: &str, sight: &Sight) -> Result<(), Stop>
+    fn end_file(&mut self, name: &str, sight: &Stat) -> Result<(), Stop>
         ensures { OnOk result (gives (seen self.old) (EndedFile name.now sight.now) (seen self.new)) };
 
     /// The bytes that were written since the last file are of none.
@@ -64,11 +64,11 @@ pub trait Receives: Drop {
         ensures { OnOk result (gives (seen self.old) DroppedFile (seen self.new)) };
 
     /// A file of blobs that are stored.
-    fn same_file(&mut self, name: &str, content: &[Id], sight: &Sight) -> Result<(), Stop>
+    fn same_file(&mut self, name: &str, content: &[Id], sight: &Stat) -> Result<(), Stop>
         ensures { OnOk result (gives (seen self.old) (GotSame name.now content.now sight.now) (seen self.new)) };
 
     /// What is neither a file nor a folder.
-    fn add_other(&mut self, name: &str, sight: &Sight) -> Result<(), Stop>
+    fn add_other(&mut self, name: &str, sight: &Stat) -> Result<(), Stop>
         ensures { OnOk result (gives (seen self.old) (GotOther name.now sight.now) (seen self.new)) };
 
     /// How many bytes are held in memory until they are stored.

@@ -14,7 +14,7 @@ pub struct Known {
 
 /// What is to be taken.
 #[derive(Drop)]
-pub struct Job {
+pub struct Scope {
     /// What is taken, with all below it, and the folders that lead there. The empty path is all.
     pub paths: Vec<String>,
     /// What isn't taken, with all below it: what one of them matches by its path below the root.

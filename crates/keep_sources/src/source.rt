@@ -1,11 +1,11 @@
 ghost use Rattle.std.specs.Prelude.{◌≤◌, IfErr, IfOk, length, take};
 
 use crate::skipped::Why;
-use crate::stat::Sight;
+use crate::stat::Stat;
 
 /// What lies in a folder.
 #[derive(Drop)]
-pub struct Listing {
+pub struct FolderListing {
     /// In the order of their bytes, and none twice.
     pub names: Vec<String>,
     /// How many more names there are, which aren't UTF-8.
@@ -23,17 +23,17 @@ pub trait Source: Drop {
     ghost told: { Told };
 
     /// What stands at the path. A link isn't followed.
-    fn look(&mut self, path: &str) -> Result<Sight, Why>
+    fn look(&mut self, path: &str) -> Result<Stat, Why>
         ensures seen { IfOk result (λ sight. told.saw path.now sight) }
         ensures lost { IfErr result (λ why. told.lost path.now why) };
 
     /// What lies in the folder that was seen. Where something else stands there now it is `Replaced`.
-    fn list(&mut self, folder: &str, seen: &Sight) -> Result<Listing, Why>
+    fn list(&mut self, folder: &str, seen: &Stat) -> Result<FolderListing, Why>
         ensures listed { IfOk result (λ listing. told.listed folder.now listing) }
         ensures lost { IfErr result (λ why. told.lost folder.now why) };
 
     /// Opens the file that was seen, to be read. Where something else stands there now it is `Replaced`.
-    fn open(&mut self, path: &str, seen: &Sight) -> Result<(), Why>
+    fn open(&mut self, path: &str, seen: &Stat) -> Result<(), Why>
         ensures lost { IfErr result (λ why. told.lost path.now why) };
 
     /// Reads bytes of the file of this path that was opened last, from an offset on. At its end it is none.

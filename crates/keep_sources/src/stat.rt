@@ -8,7 +8,7 @@ pub struct Moment {
 
 /// What stands at a path.
 #[derive(Drop)]
-pub enum Kind {
+pub enum StatKind {
     /// A regular file.
     File,
     Folder,
@@ -23,8 +23,8 @@ pub enum Kind {
 
 /// What a look at a path tells, as POSIX's `lstat` does. No link is followed.
 #[derive(Drop)]
-pub struct Sight {
-    pub kind: Kind,
+pub struct Stat {
+    pub kind: StatKind,
     /// The bits of `st_mode`, those of the kind too.
     pub mode: u32,
     pub mtime: Moment,

@@ -4,13 +4,13 @@ ghost use Rattle.keep_sources.specs.Job as asking;
 ghost use Rattle.keep_sources.specs.Job.{IsUnchanged};
 ghost use Rattle.keep_sources.specs.Met as spec;
 ghost use Rattle.keep_sources.specs.Took.{IsNewFile, TookLeaf};
-ghost use Rattle.keep_sources.specs.declared.stat.Kind.TheVariants as the_kind;
+ghost use Rattle.keep_sources.specs.declared.stat.StatKind.TheVariants as the_kind;
 
 use crate::receives::{Receives, Stop};
-use crate::scope::Job;
+use crate::scope::Scope;
 use crate::skipped::Why;
 use crate::source::Source;
-use crate::stat::Sight;
+use crate::stat::Stat;
 use crate::taking::Taking;
 use keep_names::Id;
 
@@ -18,10 +18,10 @@ impl<S: Source, A: Receives> Taking<S, A> {
     /// Takes a file that was seen: what an earlier backup has of it, or what it holds.
     pub(crate) fn take_file(
         &mut self,
-        job: &Job,
+        job: &Scope,
         path: String,
         name: &str,
-        sight: Sight,
+        sight: Stat,
         levels: u16,
     ) -> Result<(), Stop>
         requires asked { asking.is_asked job.now (string_bytes path) ≡ true }
@@ -39,10 +39,10 @@ impl<S: Source, A: Receives> Taking<S, A> {
     /// Reads a file that was seen, and gives what it holds.
     fn read_file(
         &mut self,
-        job: &Job,
+        job: &Scope,
         path: String,
         name: &str,
-        sight: Sight,
+        sight: Stat,
         levels: u16,
     ) -> Result<(), Stop>
         requires asked { asking.is_asked job.now (string_bytes path) ≡ true }
@@ -71,7 +71,7 @@ impl<S: Source, A: Receives> Taking<S, A> {
 }
 
 /// The blobs of a file that an earlier backup has so.
-fn unchanged<'a>(job: &'a Job, path: &str, sight: &Sight) -> Option<&'a [Id]>
+fn unchanged<'a>(job: &'a Scope, path: &str, sight: &Stat) -> Option<&'a [Id]>
     ensures { MatchOption result ((content : List the_id) → IsUnchanged job.now path.now sight.now content → ⊥)
         (λ content. IsUnchanged job.now path.now sight.now content.now) }
 {

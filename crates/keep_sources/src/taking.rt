@@ -2,9 +2,9 @@ ghost use Rattle.std.specs.Prelude.{◌≡◌, [], IfErr, IfOk, OnOk};
 ghost use Rattle.keep_sources.specs.Took.{TookAll};
 
 use crate::receives::{Receives, Stop};
-use crate::scope::Job;
+use crate::scope::Scope;
 use crate::skipped::{Skipped, Why};
-use crate::source::{Listing, Source};
+use crate::source::{FolderListing, Source};
 use std::alloc::{AllocError, Global};
 
 /// How many folders lead to a node at most.
@@ -42,7 +42,7 @@ impl<S: Source, A: Receives> Taking<S, A> {
     }
 
     /// Takes all that lies below the root of the source, depth first, in the order of the names.
-    pub fn take(&mut self, job: &Job) -> Result<(), Stop>
+    pub fn take(&mut self, job: &Scope) -> Result<(), Stop>
         ensures { OnOk result (TookAll S.told A.gives job.now (A.seen (archive_of self.old)) (A.seen (archive_of self.new))
             (skipped_of self.old) (skipped_of self.new)) }
     {
@@ -52,7 +52,7 @@ impl<S: Source, A: Receives> Taking<S, A> {
         }
     }
 
-    fn list_root(&mut self) -> Result<Listing, Why>
+    fn list_root(&mut self) -> Result<FolderListing, Why>
         ensures listed { IfOk result (λ listing. S.told.listed [] listing) }
         ensures lost { IfErr result (λ why. S.told.lost [] why) }
         ensures archive { self.new.archive ≡ self.old.archive }

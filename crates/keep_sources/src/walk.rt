@@ -2,14 +2,14 @@ ghost use Rattle.std.specs.Prelude.{◌≡◌, [], ◌∷◌, true, OnOk, map, s
 ghost use Rattle.keep_sources.specs.Job as asking;
 ghost use Rattle.keep_sources.specs.Met.{below};
 ghost use Rattle.keep_sources.specs.Took.{Took, TookListed};
-ghost use Rattle.keep_sources.specs.declared.stat.Kind.TheVariants as the_kind;
+ghost use Rattle.keep_sources.specs.declared.stat.StatKind.TheVariants as the_kind;
 
 use crate::asked_paths::is_asked;
 use crate::receives::{Receives, Stop};
-use crate::scope::Job;
+use crate::scope::Scope;
 use crate::skipped::Why;
-use crate::source::{Listing, Source};
-use crate::stat::{Kind, Sight};
+use crate::source::{FolderListing, Source};
+use crate::stat::{Stat, StatKind};
 use crate::taken_paths::path_of;
 use crate::taking::Taking;
 
@@ -18,9 +18,9 @@ impl<S: Source, A: Receives> Taking<S, A> {
     #[cycle(walking)]
     pub(crate) fn take_listed(
         &mut self,
-        job: &Job,
+        job: &Scope,
         folder: &str,
-        listing: &Listing,
+        listing: &FolderListing,
         levels: u16,
     ) -> Result<(), Stop>
         ensures { OnOk result (TookListed S.told A.gives job.now levels folder.now listing.now
@@ -34,7 +34,7 @@ impl<S: Source, A: Receives> Taking<S, A> {
     #[cycle(walking)]
     fn take_names(
         &mut self,
-        job: &Job,
+        job: &Scope,
         folder: &str,
         names: &[String],
         levels: u16,
@@ -50,7 +50,7 @@ impl<S: Source, A: Receives> Taking<S, A> {
 
     /// Takes what a name of a folder leads to.
     #[cycle(walking)]
-    fn take_name(&mut self, job: &Job, folder: &str, name: &str, levels: u16) -> Result<(), Stop>
+    fn take_name(&mut self, job: &Scope, folder: &str, name: &str, levels: u16) -> Result<(), Stop>
         ensures { OnOk result (Took S.told A.gives job.now levels folder.now (name.now ∷ [])
             (A.seen self.old.archive) (A.seen self.new.archive) self.old.skipped.items self.new.skipped.items) }
     {
@@ -63,11 +63,13 @@ impl<S: Source, A: Receives> Taking<S, A> {
             Err(why) => return self.skip(path, why),
         };
         match sight.kind {
-            Kind::File => self.take_file(job, path, name, sight, levels),
-            Kind::Folder => self.take_folder(job, folder, path, name, &sight, levels),
-            Kind::Link(_) | Kind::Fifo | Kind::Socket | Kind::Device | Kind::CharDevice => {
-                self.archive.add_other(name, &sight)
-            }
+            StatKind::File => self.take_file(job, path, name, sight, levels),
+            StatKind::Folder => self.take_folder(job, folder, path, name, &sight, levels),
+            StatKind::Link(_)
+            | StatKind::Fifo
+            | StatKind::Socket
+            | StatKind::Device
+            | StatKind::CharDevice => { self.archive.add_other(name, &sight) }
         }
     }
 
@@ -75,11 +77,11 @@ impl<S: Source, A: Receives> Taking<S, A> {
     #[cycle(walking)]
     fn take_folder(
         &mut self,
-        job: &Job,
+        job: &Scope,
         folder: &str,
         path: String,
         name: &str,
-        sight: &Sight,
+        sight: &Stat,
         levels: u16,
     ) -> Result<(), Stop>
         requires path { string_bytes path ≡ below folder.now name.now }

@@ -90,7 +90,7 @@ fn answer_by(
 /// Answers the line so many times.
 fn repeat(state: &mut State, rest: &str, out: &mut String) -> Result<(), Stop> {
     let (count, line) = state_words::pair(rest)?;
-    for _ in 0..words::number(count)? {
+    for _ in 0..state_words::number(count)? {
         answer(state, line, out)?;
     }
     Ok(())

@@ -4,7 +4,7 @@ use crate::state_words;
 use crate::stop::Stop;
 use keep_lines::{FoundCount, Refused, RestoredCounts, RestoredFile, print_hex};
 use keep_names::Id;
-use keep_read::{Finding, Restored, audit, restore};
+use keep_read::{Finding, RestoredFiles, audit, restore};
 use std::alloc::{AllocError, Global};
 use std::fmt::Write;
 
@@ -30,7 +30,11 @@ fn restored(state: &State, snapshot: Id, out: &mut String) -> Result<(), AllocEr
     }
 }
 
-fn show_restored(alloc: Global, restored: &Restored, out: &mut String) -> Result<(), AllocError> {
+fn show_restored(
+    alloc: Global,
+    restored: &RestoredFiles,
+    out: &mut String,
+) -> Result<(), AllocError> {
     for (path, bytes) in &restored.files {
         let (path, hex) = (path.as_str(), print_hex(alloc, bytes)?);
         let hex = hex.as_str();

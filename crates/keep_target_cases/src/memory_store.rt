@@ -1,7 +1,7 @@
 use crate::thing::{Kind, Thing};
 use keep_files::home_of;
 use keep_noted_target::Store;
-use keep_targets::{Owner, Refusal, Short, Times};
+use keep_targets::{Owner, Short, TargetError, Times};
 use std::alloc::{AllocError, Global};
 use std::collections::BTreeMap;
 
@@ -33,19 +33,19 @@ impl MemoryStore {
     }
 
     /// Has this at a place where nothing is, in a folder that can be written.
-    fn make(&mut self, path: &str, thing: Thing) -> Result<(), Refusal> {
+    fn make(&mut self, path: &str, thing: Thing) -> Result<(), TargetError> {
         if self.is_full() {
-            return Err(Refusal::Full);
+            return Err(TargetError::Full);
         }
         if !self.has_home(path) {
-            return Err(Refusal::Denied);
+            return Err(TargetError::Denied);
         }
         if self.things.get(path).is_some() {
-            return Err(Refusal::Taken);
+            return Err(TargetError::Taken);
         }
         match self.insert(path, thing) {
             Ok(()) => Ok(()),
-            Err(AllocError) => Err(Refusal::Memory),
+            Err(AllocError) => Err(TargetError::Memory),
         }
     }
 
@@ -67,23 +67,23 @@ impl MemoryStore {
         }
     }
 
-    fn thing(&mut self, path: &str) -> Result<&mut Thing, Refusal> {
+    fn thing(&mut self, path: &str) -> Result<&mut Thing, TargetError> {
         if self.is_full() {
-            return Err(Refusal::Full);
+            return Err(TargetError::Full);
         }
         match self.things.get_mut(path) {
             Some(thing) => Ok(thing),
-            None => Err(Refusal::Failed),
+            None => Err(TargetError::Failed),
         }
     }
 }
 
 impl Store for MemoryStore {
-    fn make_folder(&mut self, path: &str) -> Result<(), Refusal> {
+    fn make_folder(&mut self, path: &str) -> Result<(), TargetError> {
         self.make(path, Thing::new(Kind::Folder, 0o700))
     }
 
-    fn make_file(&mut self, path: &str) -> Result<(), Refusal> {
+    fn make_file(&mut self, path: &str) -> Result<(), TargetError> {
         let bytes = Vec::new(self.alloc);
         self.make(path, Thing::new(Kind::File(bytes), 0o600))
     }
@@ -104,48 +104,48 @@ impl Store for MemoryStore {
             },
         ) = self.things.get_mut(path)
         else {
-            return Err(short(0, Refusal::Failed));
+            return Err(short(0, TargetError::Failed));
         };
         if held
             .extend_from_slice(bytes.get(..count).unwrap_or(&[]))
             .is_err()
         {
-            return Err(short(0, Refusal::Memory));
+            return Err(short(0, TargetError::Memory));
         }
         if is_full {
-            return Err(short(count as u64, Refusal::Full));
+            return Err(short(count as u64, TargetError::Full));
         }
         Ok(())
     }
 
-    fn make_link(&mut self, path: &str, to: &str) -> Result<(), Refusal> {
+    fn make_link(&mut self, path: &str, to: &str) -> Result<(), TargetError> {
         let Ok(to) = String::from_str(self.alloc, to) else {
-            return Err(Refusal::Memory);
+            return Err(TargetError::Memory);
         };
         self.make(path, Thing::new(Kind::Link(to), 0o777))
     }
 
-    fn set_owner(&mut self, path: &str, owner: Owner) -> Result<(), Refusal> {
+    fn set_owner(&mut self, path: &str, owner: Owner) -> Result<(), TargetError> {
         self.thing(path)?.owner = Some(owner);
         Ok(())
     }
 
-    fn set_link_owner(&mut self, path: &str, owner: Owner) -> Result<(), Refusal> {
+    fn set_link_owner(&mut self, path: &str, owner: Owner) -> Result<(), TargetError> {
         self.thing(path)?.owner = Some(owner);
         Ok(())
     }
 
-    fn set_mode(&mut self, path: &str, mode: u32) -> Result<(), Refusal> {
+    fn set_mode(&mut self, path: &str, mode: u32) -> Result<(), TargetError> {
         self.thing(path)?.mode = mode;
         Ok(())
     }
 
-    fn set_times(&mut self, path: &str, times: Times) -> Result<(), Refusal> {
+    fn set_times(&mut self, path: &str, times: Times) -> Result<(), TargetError> {
         self.thing(path)?.times = Some(times);
         Ok(())
     }
 }
 
-fn short(written: u64, refusal: Refusal) -> Short {
+fn short(written: u64, refusal: TargetError) -> Short {
     Short { written, refusal }
 }

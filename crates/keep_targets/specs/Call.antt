@@ -3,7 +3,7 @@
 use Rattle.std.specs.Prelude.{if◌then◌else◌, ℕ, ◌==◌, List, Result, Ok, Err}
 use Rattle.keep_targets.specs.declared.attributes.Owner.{Owner}
 use Rattle.keep_targets.specs.declared.attributes.Times.{Times}
-use Rattle.keep_targets.specs.declared.target_error.Refusal.{Refusal}
+use Rattle.keep_targets.specs.declared.target_error.TargetError.{TargetError}
 use Rattle.keep_targets.specs.declared.target_error.Short.{Short}
 
 -- what can be asked, by paths below the root
@@ -27,12 +27,12 @@ pub data Call : Type 0 where
   -- it was done
   Did : Act → Call
   -- nothing was done
-  Refused : Refusal → Call
+  Refused : TargetError → Call
   -- of these bytes, which were to be written behind those of the file, only so many first ones were
   Cut : List ℕ → List ℕ → Short → Call
 
 -- a call that is done whole or not at all
-abbrev pub ended : Result (Unit {0}) Refusal → Act → Call
+abbrev pub ended : Result (Unit {0}) TargetError → Act → Call
 ended (Ok _) act = Did act
 ended (Err refusal) act = Refused refusal
 

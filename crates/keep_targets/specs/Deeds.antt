@@ -1,11 +1,11 @@
 -- What is noted of a target.
 use Rattle.std.specs.Prelude.{string_bytes}
 use Rattle.keep_targets.specs.Call.{Append, Call, Cut, Did, MakeFile, MakeFolder, MakeLink, Refused, SetLinkOwner, SetMode, SetOwner, SetTimes}
-use Rattle.keep_targets.specs.declared.noted_call.Deed.{Deed}
-use Rattle.keep_targets.specs.declared.noted_call.Deed.TheVariants as deed
+use Rattle.keep_targets.specs.declared.noted_call.NotedCall.{NotedCall}
+use Rattle.keep_targets.specs.declared.noted_call.NotedCall.TheVariants as deed
 
 -- the call that was noted, by the bytes of the paths
-abbrev pub call_of : Deed → Call
+abbrev pub call_of : NotedCall → Call
 call_of (deed.MakeFolder path) = Did (MakeFolder (string_bytes path))
 call_of (deed.MakeFile path) = Did (MakeFile (string_bytes path))
 call_of (deed.Append path bytes) = Did (Append (string_bytes path) bytes.items)

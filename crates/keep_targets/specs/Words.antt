@@ -1,9 +1,9 @@
 -- Refusals in words.
 use Rattle.std.specs.Prelude.{ℕ, List, codes}
-use Rattle.keep_targets.specs.declared.target_error.Refusal.{Refusal}
-use Rattle.keep_targets.specs.declared.target_error.Refusal.TheVariants.{Denied, Failed, Full, Memory, Taken, Unknown, Unsayable}
+use Rattle.keep_targets.specs.declared.target_error.TargetError.{TargetError}
+use Rattle.keep_targets.specs.declared.target_error.TargetError.TheVariants.{Denied, Failed, Full, Memory, Taken, Unknown, Unsayable}
 
-abbrev pub refusal_text : Refusal → List ℕ
+abbrev pub refusal_text : TargetError → List ℕ
 refusal_text Taken = codes "something is there already"
 refusal_text Denied = codes "permission denied"
 refusal_text Full = codes "no space left"

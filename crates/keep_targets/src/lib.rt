@@ -8,7 +8,7 @@ mod target;
 mod target_error;
 
 pub use attributes::{Instant, Owner, Times};
-pub use noted_call::Deed;
+pub use noted_call::NotedCall;
 pub use pieces::Pieces;
 pub use target::Target;
-pub use target_error::{Refusal, Short};
+pub use target_error::{Short, TargetError};

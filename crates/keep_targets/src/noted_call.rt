@@ -1,9 +1,9 @@
 use crate::attributes::{Owner, Times};
-use crate::target_error::{Refusal, Short};
+use crate::target_error::{Short, TargetError};
 
 /// A call of a target and how it ended, as a target notes it.
 #[derive(Drop)]
-pub enum Deed {
+pub enum NotedCall {
     MakeFolder(String),
     MakeFile(String),
     Append(String, Vec<u8>),
@@ -12,6 +12,6 @@ pub enum Deed {
     SetLinkOwner(String, Owner),
     SetMode(String, u32),
     SetTimes(String, Times),
-    Refuse(Refusal),
+    Refuse(TargetError),
     Stop(String, Vec<u8>, Short),
 }

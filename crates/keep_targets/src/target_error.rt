@@ -2,7 +2,7 @@ use std::fmt;
 
 /// Why a target didn't do what it was asked for.
 #[derive(Clone, Copy, Debug, PartialEq, Eq)]
-pub enum Refusal {
+pub enum TargetError {
     /// Something is there already.
     Taken,
     /// A permission is wanting.
@@ -24,10 +24,10 @@ pub enum Refusal {
 pub struct Short {
     /// How many of them.
     pub written: u64,
-    pub refusal: Refusal,
+    pub refusal: TargetError,
 }
 
-impl fmt::Display for Refusal {
+impl fmt::Display for TargetError {
     ghost use Rattle.std.specs.Prelude.{Some};
     ghost use Rattle.keep_targets.specs.Words.{refusal_text};
 
@@ -35,13 +35,13 @@ impl fmt::Display for Refusal {
 
     fn fmt<W: fmt::Write>(&self, f: &mut fmt::Formatter<W>) -> fmt::Result {
         f.write_str(match self {
-            Refusal::Taken => "something is there already",
-            Refusal::Denied => "permission denied",
-            Refusal::Full => "no space left",
-            Refusal::Unsayable => "the system can't take it",
-            Refusal::Unknown => "the file system can't do it",
-            Refusal::Memory => "out of memory",
-            Refusal::Failed => "the file system failed",
+            TargetError::Taken => "something is there already",
+            TargetError::Denied => "permission denied",
+            TargetError::Full => "no space left",
+            TargetError::Unsayable => "the system can't take it",
+            TargetError::Unknown => "the file system can't do it",
+            TargetError::Memory => "out of memory",
+            TargetError::Failed => "the file system failed",
         })
     }
 }

@@ -12,7 +12,7 @@ ghost use Rattle.keep_operators.specs.Crewed.{AllowsJustBackups, IsCrewed};
 
 use keep_chronicle::Opened;
 use keep_desk::{Desk, Locked, NotOpened, OpenGate, Operator, Pass, Plans, Work};
-use keep_operators::{EachSnapshot, NoCrew, Order, Planner, Tally};
+use keep_operators::{CrewTally, EachSnapshot, NoCrew, Order, Planner};
 use keep_register::{Keeper, Naming};
 use std::alloc::{AllocError, Global};
 use std::sync::Wait;
@@ -40,7 +40,7 @@ pub fn crew_at_desk<B, R, K>(
     blank: Blank,
     works: Vec<Backup>,
     order: Order<'_>,
-) -> (K, Result<Tally, NoCrew>)
+) -> (K, Result<CrewTally, NoCrew>)
 where
     B: Naming + Send + Sync,
     R: Wait + Threads + Copy + Send + Sync,
@@ -149,7 +149,7 @@ fn close_after<B, R, K>(
     worked: Vec<Operator<B, Planner<EachSnapshot>>>,
     room: Vec<Pass<B>>,
     before: u64,
-) -> (K, Tally)
+) -> (K, CrewTally)
 where
     B: Naming,
     R: Wait + Drop,
@@ -167,7 +167,7 @@ where
     let keeper = desk.close(passes_of(worked, room));
     let length = keeper.history().length();
     let accepted = length - before;
-    (keeper, Tally { accepted, length })
+    (keeper, CrewTally { accepted, length })
 }
 
 /// The passes of the operators, in a list that has room for them.

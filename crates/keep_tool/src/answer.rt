@@ -72,7 +72,7 @@ fn confirm<S: Shelf>(run: &Run<'_>, book: &Book<S>, command: &Command<'_>) -> Re
             change,
             with_all: true,
             yes,
-        } => match book.taken(*change) {
+        } => match book.taken_with(*change) {
             Ok(numbers) => {
                 let list = numbers_text(run, &numbers)?;
                 (

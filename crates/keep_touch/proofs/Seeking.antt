@@ -6,15 +6,15 @@ use Rattle.keep_journal.specs.History.{last_change}
 use Rattle.keep_journal.specs.Journal.{Journal}
 use Rattle.keep_touch.specs.Gathering.{is_pending, is_walked, touches_kept, Begins, Covers, Finds, NothingPends, Takes}
 use Rattle.keep_touch.specs.Taken.{is_one_of, itself, leaning, AreTaken, FallFrom, IsTaken, LeansOn}
-use Rattle.keep_touch.specs.declared.gathered.Found.{Found}
+use Rattle.keep_touch.specs.declared.gathered.Gathered.{Gathered}
 use Rattle.keep_touch.proofs.Members.{fall_higher, one_cases, one_itself, one_more, taken_is_least}
 
 -- whether the change was looked at, or is pending
-abbrev pub is_found : List ℕ → Found → ℕ → Bool
+abbrev pub is_found : List ℕ → Gathered → ℕ → Bool
 is_found done found m = is_one_of done m || is_pending found m
 
 -- what was looked at, the last first, falls and is below what is pending; all of it is taken back; what leans on one that was looked at is found
-pub record IsSearch (j : Journal) (n : ℕ) (done : List ℕ) (found : Found) : Type 0 where
+pub record IsSearch (j : Journal) (n : ℕ) (done : List ℕ) (found : Gathered) : Type 0 where
   pub down : FallFrom (last_change j + 1) done
   pub each : (m : ℕ) → is_one_of done m ≡ true → IsTaken j n m
   pub above : (m : ℕ) → is_pending found m ≡ true → FallFrom m done
@@ -23,7 +23,7 @@ pub record IsSearch (j : Journal) (n : ℕ) (done : List ℕ) (found : Found) : 
   pub closed : (k m : ℕ) → is_one_of done k ≡ true → LeansOn j m k → is_found done found m ≡ true
   pub covers : (facet : Facet) (m : ℕ) → is_walked found facet ≡ true → FallFrom m done → touches_kept j facet m ≡ true → is_pending found m ≡ true
 
-pub search_begins : (j : Journal) (n : ℕ) (found : Found) → Begins n found → IsSearch j n [] found
+pub search_begins : (j : Journal) (n : ℕ) (found : Gathered) → Begins n found → IsSearch j n [] found
 search_begins j n found begins = record {
   down = tt;
   each = λ m h. absurd (false≢true h);
@@ -42,7 +42,7 @@ search_begins j n found begins = record {
 
 -- ---- the least of the pending ones is looked at
 
-module _ (j : Journal) (n : ℕ) (done : List ℕ) (old mid : Found) (m : ℕ) (search : IsSearch j n done old) (takes : Takes m old mid) where
+module _ (j : Journal) (n : ℕ) (done : List ℕ) (old mid : Gathered) (m : ℕ) (search : IsSearch j n done old) (takes : Takes m old mid) where
   pub first_taken : IsTaken j n m
   first_taken = search.taken m takes.was
 
@@ -72,7 +72,7 @@ module _ (j : Journal) (n : ℕ) (done : List ℕ) (old mid : Found) (m : ℕ) (
         | inr rest ↦ rest.1
       ]
 
-  found_still : (new : Found) → Finds j m mid new → (q : ℕ) → is_found done old q ≡ true → is_found (m ∷ done) new q ≡ true
+  found_still : (new : Gathered) → Finds j m mid new → (q : ℕ) → is_found done old q ≡ true → is_found (m ∷ done) new q ≡ true
   found_still new finds q h = elim (or_cases (is_one_of done q) (is_pending old q) h) [
     | inl there ↦ or_left (is_one_of (m ∷ done) q) (is_pending new q) (one_more m done q there)
     | inr pending ↦ elim (was_pending q pending) [
@@ -81,7 +81,7 @@ module _ (j : Journal) (n : ℕ) (done : List ℕ) (old mid : Found) (m : ℕ) (
     ]
   ]
 
-  pub search_goes_on : (new : Found) → Finds j m mid new → m ≤ last_change j → IsSearch j n (m ∷ done) new
+  pub search_goes_on : (new : Gathered) → Finds j m mid new → m ≤ last_change j → IsSearch j n (m ∷ done) new
   search_goes_on new finds within = record {
     down = (omega arith, first_above);
     each = λ q h. elim (one_cases m done q h) [
@@ -107,7 +107,7 @@ module _ (j : Journal) (n : ℕ) (done : List ℕ) (old mid : Found) (m : ℕ) (
 
 -- ---- the end: nothing is pending
 
-pub search_ends : (j : Journal) (n : ℕ) (done : List ℕ) (found : Found) → IsSearch j n done found → NothingPends found → AreTaken j n done
+pub search_ends : (j : Journal) (n : ℕ) (done : List ℕ) (found : Gathered) → IsSearch j n done found → NothingPends found → AreTaken j n done
 search_ends j n done found search none = record {
   down = search.down;
   each = search.each;

@@ -7,15 +7,15 @@ use Rattle.keep_journal.specs.Kept.{is_kept}
 use Rattle.keep_touch.specs.Finding.{in_force}
 use Rattle.keep_touch.specs.Gathering.{Begins, Finds, NothingPends, Takes}
 use Rattle.keep_touch.specs.Taken.{AreTaken}
-use Rattle.keep_touch.specs.declared.gathered.Found.{Found}
+use Rattle.keep_touch.specs.declared.gathered.Gathered.{Gathered}
 use Rattle.keep_touch.proofs.Members.{kept_is_there, kept_within, taken_kept}
 use Rattle.keep_touch.proofs.Seeking.{above_bound, bound_of, search_begins, search_ends, search_goes_on, IsSearch}
 use Rattle.keep_touch.proofs.Walking.{finds_nothing}
 
-pub begins : (j : Journal) (n : ℕ) (numbers : List ℕ) (found : Found) → numbers ≡ [] → Begins n found → IsSearch j n (reverse numbers) found
+pub begins : (j : Journal) (n : ℕ) (numbers : List ℕ) (found : Gathered) → numbers ≡ [] → Begins n found → IsSearch j n (reverse numbers) found
 begins j n numbers found none is = subst (λ xs. IsSearch j n (reverse xs) found) (sym none) (search_begins j n found is)
 
-module _ (j : Journal) (n : ℕ) (numbers : List ℕ) (m : ℕ) (old mid : Found) where
+module _ (j : Journal) (n : ℕ) (numbers : List ℕ) (m : ℕ) (old mid : Gathered) where
   -- what is looked at is in force
   pub first_kept : IsNumbered j → is_change j n ≡ true → is_kept j n ≡ true → IsSearch j n (reverse numbers) old → Takes m old mid → in_force j m ≡ true
   first_kept numbered change kept search takes =
@@ -26,7 +26,7 @@ module _ (j : Journal) (n : ℕ) (numbers : List ℕ) (m : ℕ) (old mid : Found
     looked_more = ap reverse longer ∙ reverse-append numbers (m ∷ [])
 
     -- what leans on it is found
-    pub goes_on : (new : Found) → IsNumbered j → is_change j n ≡ true → is_kept j n ≡ true
+    pub goes_on : (new : Gathered) → IsNumbered j → is_change j n ≡ true → is_kept j n ≡ true
         → IsSearch j n (reverse numbers) old → Takes m old mid → Finds j m mid new → IsSearch j n (reverse more) new
     goes_on new numbered change kept search takes finds =
         subst (λ xs. IsSearch j n xs new) (sym looked_more)
@@ -46,5 +46,5 @@ module _ (j : Journal) (n : ℕ) (numbers : List ℕ) (m : ℕ) (old mid : Found
         let bound = ap bound_of looked_more in
         omega (arith, within, above, bound)
 
-pub ends : (j : Journal) (n : ℕ) (numbers turned : List ℕ) (found : Found) → turned ≡ reverse numbers → IsSearch j n (reverse numbers) found → NothingPends found → AreTaken j n turned
+pub ends : (j : Journal) (n : ℕ) (numbers turned : List ℕ) (found : Gathered) → turned ≡ reverse numbers → IsSearch j n (reverse numbers) found → NothingPends found → AreTaken j n turned
 ends j n numbers turned found is search none = subst (AreTaken j n) (sym is) (search_ends j n (reverse numbers) found search none)

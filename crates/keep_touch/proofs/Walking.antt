@@ -24,13 +24,13 @@ use Rattle.keep_touch.proofs.Listing.{written_listed}
 use Rattle.keep_touch.proofs.Picking.{all_weaker}
 use Rattle.keep_touch.proofs.Putting.{same_key}
 use Rattle.keep_touch.specs.Gathering.{is_pending, is_walked, touches_after, touches_kept, Finds, Walks}
-use Rattle.keep_touch.specs.declared.gathered.Found.{Found}
+use Rattle.keep_touch.specs.declared.gathered.Gathered.{Gathered}
 use Rattle.keep_touch.proofs.Members.{kept_within}
 use Rattle.keep_touch.proofs.Mentioned.{mentioned}
 
 -- ---- one list of facets after another
 
-pub walks_none : (j : Journal) (n : ℕ) (found : Found) → Walks j n [] found found
+pub walks_none : (j : Journal) (n : ℕ) (found : Gathered) → Walks j n [] found found
 walks_none j n found = record {
   stay = λ m h. h;
   only = λ m h. inl h;
@@ -43,7 +43,7 @@ both_all : {X : Type 0} (P : X → Type 0) (xs ys : List X) → AllByRecursion P
 both_all P [] ys one other = other
 both_all P (x ∷ xs) ys one other = (one.0, both_all P xs ys one.1 other)
 
-pub walks_both : (j : Journal) (n : ℕ) (fs gs : List Facet) (old mid new : Found) → Walks j n fs old mid → Walks j n gs mid new → Walks j n (fs ++ gs) old new
+pub walks_both : (j : Journal) (n : ℕ) (fs gs : List Facet) (old mid new : Gathered) → Walks j n fs old mid → Walks j n gs mid new → Walks j n (fs ++ gs) old new
 walks_both j n fs gs old mid new one other = record {
   stay = λ m h. other.stay m (one.stay m h);
   only = λ m h. elim (other.only m h) [
@@ -59,7 +59,7 @@ walks_both j n fs gs old mid new one other = record {
 }
 
 -- one member more
-pub walks_more : {X : Type 0} (facet_of : X → Facet) (members : List X) (i : ℕ) (x : X) (j : Journal) (n : ℕ) (old mid new : Found)
+pub walks_more : {X : Type 0} (facet_of : X → Facet) (members : List X) (i : ℕ) (x : X) (j : Journal) (n : ℕ) (old mid new : Gathered)
     → i < length members → x ≡ get_or members i x
     → Walks j n (map facet_of (take i members)) old mid → Walks j n (facet_of x ∷ []) mid new → Walks j n (map facet_of (take (i + 1) members)) old new
 walks_more facet_of members i x j n old mid new within read one other =
@@ -73,7 +73,7 @@ always : (b : Bool) → cond b true true ≡ true
 always true = refl
 always false = refl
 
-module _ (old new : Found) (q : Facet) (put : (f : Facet) → is_walked new f ≡ cond (same_key q f) true (is_walked old f)) where
+module _ (old new : Gathered) (q : Facet) (put : (f : Facet) → is_walked new f ≡ cond (same_key q f) true (is_walked old f)) where
   walked_still : (f : Facet) → is_walked old f ≡ true → is_walked new f ≡ true
   walked_still f h = put f ∙ ap (cond (same_key q f) true) h ∙ always (same_key q f)
 
@@ -146,7 +146,7 @@ picked P test (f ∷ fs) all h = elim (or_cases (test f) (list_any test fs) h) [
   | inr there ↦ picked P test fs all.1 there
 ]
 
-pub walked_finds : (j : Journal) (n : ℕ) (c : Change) (old new : Found) → kept_change j n ≡ Some c → Walks j n (written_facets c) old new → Finds j n old new
+pub walked_finds : (j : Journal) (n : ℕ) (c : Change) (old new : Gathered) → kept_change j n ≡ Some c → Walks j n (written_facets c) old new → Finds j n old new
 walked_finds j n c old new is_c walks =
     let is_n : change_of j n ≡ Some c = (a_kept_change j n c is_c).1 in
     record {
@@ -167,7 +167,7 @@ walked_finds j n c old new is_c walks =
     }
 
 -- nothing leans on the last change
-pub finds_nothing : (j : Journal) (n : ℕ) (found : Found) → IsNumbered j → last_change j ≤ n → Finds j n found found
+pub finds_nothing : (j : Journal) (n : ℕ) (found : Gathered) → IsNumbered j → last_change j ≤ n → Finds j n found found
 finds_nothing j n found numbered last = record {
   stay = λ m h. h;
   only = λ m h. inl h;
@@ -176,7 +176,7 @@ finds_nothing j n found numbered last = record {
 }
 
 -- the four lists of what a change writes
-pub walks_lists : (c : Change) (j : Journal) (n : ℕ) (old one two three new : Found)
+pub walks_lists : (c : Change) (j : Journal) (n : ℕ) (old one two three new : Gathered)
     → Walks j n (map (λ f. File f.name) c.adds) old one → Walks j n (map (λ f. File f.name) c.drops) one two
     → Walks j n (map (λ m. Mark m.pack) c.sets) two three → Walks j n (map (λ m. Mark m.pack) c.clears) three new
     → Walks j n (written_facets c) old new

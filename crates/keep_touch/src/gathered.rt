@@ -20,22 +20,22 @@ use std::collections::{BTreeSet, HashSet};
 /// Whatever leans on a change is later, so they are looked at by their numbers. The mentions of a facet are gone
 /// through once: those after the first change that writes it have all that a later writer would find.
 #[derive(Drop)]
-pub(crate) struct Found {
+pub(crate) struct Gathered {
     /// Those that are still to be looked at.
     pub(crate) pending: BTreeSet<u64>,
     /// The facets whose mentions were gone through.
     pub(crate) walked: HashSet<Facet>,
 }
 
-impl Found {
+impl Gathered {
     /// Change n is to be looked at.
-    pub(crate) fn new(alloc: Global, n: u64) -> Result<Found, AllocError>
+    pub(crate) fn new(alloc: Global, n: u64) -> Result<Gathered, AllocError>
         ensures { IfOk result (Begins n) }
     {
         let mut pending = BTreeSet::new(alloc);
         pending.insert(n)?;
         let walked = HashSet::new(alloc);
-        Ok(Found { pending, walked })
+        Ok(Gathered { pending, walked })
     }
 
     /// The first of those that are to be looked at.

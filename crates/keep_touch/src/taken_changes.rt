@@ -5,7 +5,7 @@ ghost use Rattle.keep_touch.specs.Taken.{AreTaken};
 ghost use Rattle.keep_touch.specs.Mentions.{AreNoted};
 
 use crate::Touch;
-use crate::gathered::Found;
+use crate::gathered::Gathered;
 use keep_journal::History;
 use std::alloc::{AllocError, Global};
 
@@ -26,7 +26,7 @@ pub fn taken_with(
     ensures { IfOk result (λ numbers. AreTaken history.now.journal n numbers.items) }
 {
     let last = history.last_change();
-    let mut found = Found::new(alloc, n)?;
+    let mut found = Gathered::new(alloc, n)?;
     let mut numbers = Vec::new(alloc);
     while let Some(number) = found.take_first() {
         numbers.push(number)?;

@@ -2,7 +2,7 @@ use crate::scripts::end_over;
 use keep_ledger::OpenError;
 use keep_names::{FileName, id_of};
 use keep_repo::Bytes;
-use keep_script::Status;
+use keep_script::RunStatus;
 use keep_shelf::{FailingShelf, Key, MemoryShelf, Shelf};
 use std::test::Fail;
 
@@ -16,7 +16,7 @@ fn an_undo_is_unsettled_where_the_shelf_fails_from_its_move_on(rt: HostRuntime) 
     let shelf = FailingShelf::onward(MemoryShelf::new(alloc), 7);
     let mut writer = Vec::new(alloc);
     let ended = end_over(alloc, shelf, &mut FIRST_UNDO.as_bytes(), &mut writer);
-    assert!(rt; ended == Status::Faulted);
+    assert!(rt; ended == RunStatus::Faulted);
     let answers = "ok 1 at 1 +1 -0 *0 ~0\n\
          ok 2 at 2 +1 -0 *0 ~0\n\
          no Unsettled 2\n\
@@ -38,7 +38,7 @@ fn all_is_as_before_where_an_entry_is_not_written(rt: HostRuntime) {
     let shelf = FailingShelf::once(MemoryShelf::new(alloc), 4);
     let mut writer = Vec::new(alloc);
     let ended = end_over(alloc, shelf, &mut SECOND_ADD.as_bytes(), &mut writer);
-    assert!(rt; ended == Status::Faulted);
+    assert!(rt; ended == RunStatus::Faulted);
     let answers = "ok 1 at 1 +1 -0 *0 ~0\n\
          noted n\n\
          no Fault\n\
@@ -58,7 +58,7 @@ fn a_shelf_with_trash_and_an_entry_is_not_opened(rt: HostRuntime) -> Result<(), 
     shelf.write(Key::Entry(3), &bytes)?;
     let mut writer = Vec::new(alloc);
     let ended = end_over(alloc, shelf, &mut b"count".as_slice(), &mut writer);
-    assert!(rt; ended == Status::NotOpened(OpenError::BadEntry(3)));
+    assert!(rt; ended == RunStatus::NotOpened(OpenError::BadEntry(3)));
     assert!(rt; writer.is_empty());
     Ok(())
 }

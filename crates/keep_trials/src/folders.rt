@@ -4,7 +4,7 @@ ghost use Rattle.keep_keyed_folder.specs.Tmp.{IsTmp};
 use crate::scripts::end_over;
 use keep_folder::FolderShelf;
 use keep_memory_files::{FailingTree, MemoryTree};
-use keep_script::Status;
+use keep_script::RunStatus;
 use std::alloc::{AllocError, Global};
 use std::test::Fail;
 
@@ -25,7 +25,7 @@ fn an_entry_that_is_there_and_answered_as_an_error_ends_the_run(
     };
     let mut writer = Vec::new(alloc);
     let ended = end_over(alloc, shelf, &mut ONE_ADD.as_bytes(), &mut writer);
-    assert!(rt; ended == Status::Untold);
+    assert!(rt; ended == RunStatus::Untold);
     assert!(rt; writer.is_empty());
     Ok(())
 }
@@ -39,7 +39,7 @@ fn a_run_goes_on_where_an_entry_is_not_there(rt: HostRuntime) -> Result<(), Fail
     };
     let mut writer = Vec::new(alloc);
     let ended = end_over(alloc, shelf, &mut ONE_ADD.as_bytes(), &mut writer);
-    assert!(rt; ended == Status::Faulted);
+    assert!(rt; ended == RunStatus::Faulted);
     assert!(rt; writer.as_slice() == b"no Fault\nfiles 0 marks 0\n".as_slice());
     Ok(())
 }

@@ -2,14 +2,14 @@ use crate::readers::{Endless, EndlessLine, Interrupted, LineByLine, Slow};
 use crate::writers::{ByLine, Flushed, Narrow};
 use keep_jobs::{Cut, Kit, Settings};
 use keep_lines::Mistake;
-use keep_script::{Setup, Status, run};
+use keep_script::{RunStatus, Setup, run};
 use keep_shelf::{MemoryShelf, Shelf};
 use std::alloc::Global;
 use std::io::{Read, Write};
 use std::test::Fail;
 
 /// How the run of what the reader gives ends, over a shelf in memory with nothing on it.
-fn end_of<R: Read, W: Write>(alloc: Global, reader: &mut R, writer: &mut W) -> Status {
+fn end_of<R: Read, W: Write>(alloc: Global, reader: &mut R, writer: &mut W) -> RunStatus {
     end_over(alloc, MemoryShelf::new(alloc), reader, writer)
 }
 
@@ -19,7 +19,7 @@ pub fn end_over<S: Shelf, R: Read, W: Write>(
     shelf: S,
     reader: &mut R,
     writer: &mut W,
-) -> Status {
+) -> RunStatus {
     let mut nothing_stored = Kit {
         filters: Vec::new(alloc),
         vetoes: Vec::new(alloc),
@@ -34,7 +34,7 @@ pub fn end_over<S: Shelf, R: Read, W: Write>(
     };
     match run(setup, shelf, &mut nothing_stored, reader, writer) {
         Ok((status, _)) => status,
-        Err(given) => Status::from(given.error),
+        Err(given) => RunStatus::from(given.error),
     }
 }
 
@@ -55,13 +55,13 @@ const LISTED: &str = "ok 1 at 1 +1 -0 *0 ~0\n\
 fn endless_scripts_are_given_up(rt: HostRuntime) {
     let mut writer = Vec::new(rt.alloc());
     let ended = end_of(rt.alloc(), &mut Endless, &mut writer);
-    assert!(rt; ended == Status::ScriptTooLong);
+    assert!(rt; ended == RunStatus::ScriptTooLong);
     assert!(rt; writer.is_empty());
 }
 
 /// Scripts with each kind of answer twice, what is answered, and how the run ends.
-const SCRIPTS: [(&str, &str, Status); 9] = [
-    (LISTING, LISTED, Status::Done),
+const SCRIPTS: [(&str, &str, RunStatus); 9] = [
+    (LISTING, LISTED, RunStatus::Done),
     (
         "add snapshot 61\nadd index 62\nlist\nhistory\n",
         "ok 1 at 1 +1 -0 *0 ~0\n\
@@ -71,14 +71,14 @@ const SCRIPTS: [(&str, &str, Status); 9] = [
          files 2 marks 0\n\
          1 commit 1\n\
          2 commit 2\n",
-        Status::Done,
+        RunStatus::Done,
     ),
-    ("", "", Status::Done),
-    ("\n# a comment\ncount", "files 0 marks 0\n", Status::Done),
+    ("", "", RunStatus::Done),
+    ("\n# a comment\ncount", "files 0 marks 0\n", RunStatus::Done),
     (
         "# nothing\tto do",
         "bad line 1\n",
-        Status::BadLine(1, Mistake::NotText),
+        RunStatus::BadLine(1, Mistake::NotText),
     ),
     (
         "add index 61\ndrop index @1\nundo 1\nundo 2\nundo 1\nredo 2\nempty 1\n\ncount\n",
@@ -90,12 +90,12 @@ const SCRIPTS: [(&str, &str, Status); 9] = [
          no Blocked 2\n\
          ok 1 at 5\n\
          files 0 marks 0\n",
-        Status::Done,
+        RunStatus::Done,
     ),
     (
         "note n\nadd index 61\nsame n\nnote n\nsame n\nundo 3\nundo 01",
         "noted n\nok 1 at 1 +1 -0 *0 ~0\nsame n no\nnoted n\nsame n yes\nno Unknown\nbad line 7\n",
-        Status::BadLine(7, Mistake::NotNumber),
+        RunStatus::BadLine(7, Mistake::NotNumber),
     ),
     (
         "audit\n\
@@ -109,7 +109,7 @@ const SCRIPTS: [(&str, &str, Status); 9] = [
          no NotJson snapshot ca978112ca1bbdcafac231b39a23dc4da786eff8147c4e72b9807785afee48bb\n\
          unreadable snapshot ca978112ca1bbdcafac231b39a23dc4da786eff8147c4e72b9807785afee48bb 2\n\
          audit 1\n",
-        Status::Done,
+        RunStatus::Done,
     ),
     (
         "backup web 2024-01-01T10:00:00Z /a=68656c6c6f\n\
@@ -123,7 +123,7 @@ const SCRIPTS: [(&str, &str, Status); 9] = [
          /b -\n\
          restored 2 skipped 0\n\
          files 7 marks 0\n",
-        Status::Done,
+        RunStatus::Done,
     ),
 ];
 
@@ -155,7 +155,7 @@ fn a_line_of_single_bytes_is_read_on(rt: HostRuntime) -> Result<(), Fail> {
     };
     let mut writer = Vec::new(alloc);
     let ended = end_of(alloc, &mut slow, &mut writer);
-    assert!(rt; ended == Status::Done);
+    assert!(rt; ended == RunStatus::Done);
     assert!(rt; writer.as_slice() == b"files 0 marks 0\n".as_slice());
     Ok(())
 }
@@ -164,7 +164,7 @@ fn a_line_of_single_bytes_is_read_on(rt: HostRuntime) -> Result<(), Fail> {
 fn a_line_without_end_is_a_bad_one(rt: HostRuntime) {
     let mut writer = Vec::new(rt.alloc());
     let ended = end_of(rt.alloc(), &mut EndlessLine, &mut writer);
-    assert!(rt; ended == Status::BadLine(1, Mistake::TooLong));
+    assert!(rt; ended == RunStatus::BadLine(1, Mistake::TooLong));
     assert!(rt; writer.as_slice() == b"bad line 1\n".as_slice());
 }
 
@@ -172,7 +172,7 @@ fn a_line_without_end_is_a_bad_one(rt: HostRuntime) {
 fn a_reader_that_is_always_interrupted_is_given_up(rt: HostRuntime) {
     let mut writer = Vec::new(rt.alloc());
     let ended = end_of(rt.alloc(), &mut Interrupted, &mut writer);
-    assert!(rt; ended == Status::ReadFailed);
+    assert!(rt; ended == RunStatus::ReadFailed);
     assert!(rt; writer.is_empty());
 }
 
@@ -198,7 +198,7 @@ fn a_failed_read_ends_the_run(rt: HostRuntime) {
         } else {
             "ok 1 at 1 +1 -0 *0 ~0\n"
         };
-        assert!(rt; ended == Status::ReadFailed, "after {read}");
+        assert!(rt; ended == RunStatus::ReadFailed, "after {read}");
         assert!(rt; writer.as_slice() == answers.as_bytes(), "after {read}");
     }
 }
@@ -216,9 +216,9 @@ fn a_failed_write_ends_the_run(rt: HostRuntime) {
             };
             let ended = end_of(alloc, &mut script.as_bytes(), &mut writer);
             let status = if room < answers.len() {
-                Status::WriteFailed
+                RunStatus::WriteFailed
             } else {
-                Status::Done
+                RunStatus::Done
             };
             assert!(rt; ended == status, "at {room}");
             assert!(rt;
@@ -236,7 +236,7 @@ fn lines_are_written_one_by_one(rt: HostRuntime) {
         held: Vec::new(alloc),
     };
     let ended = end_of(alloc, &mut LISTING.as_bytes(), &mut writer);
-    assert!(rt; ended == Status::Done);
+    assert!(rt; ended == RunStatus::Done);
     assert!(rt; writer.held.as_slice() == LISTED.as_bytes());
 }
 
@@ -254,17 +254,17 @@ fn each_answer_is_handed_on_before_the_next_read(rt: HostRuntime) {
             THREE_LINES,
             99,
             [0, 22, 38, 38, 48].as_slice(),
-            Status::Done,
+            RunStatus::Done,
         ),
-        (THREE_LINES, 4, &[0, 22, 38, 38], Status::WriteFailed),
-        (THREE_LINES, 1, &[0], Status::WriteFailed),
+        (THREE_LINES, 4, &[0, 22, 38, 38], RunStatus::WriteFailed),
+        (THREE_LINES, 1, &[0], RunStatus::WriteFailed),
         (
             BAD_AT_LAST,
             99,
             &[0, 22, 38, 49],
-            Status::BadLine(3, Mistake::NoCommand),
+            RunStatus::BadLine(3, Mistake::NoCommand),
         ),
-        (BAD_AT_LAST, 3, &[0, 22, 38], Status::WriteFailed),
+        (BAD_AT_LAST, 3, &[0, 22, 38], RunStatus::WriteFailed),
     ] {
         let mut writer = Flushed {
             held: Vec::new(alloc),

@@ -2,7 +2,7 @@ use crate::readers::{Endless, Slow};
 use crate::writers::Flushed;
 use keep_command::{BadOptions, Ending, HostShelves, NoOperators, keepd};
 use keep_ledger::OpenError;
-use keep_script::Status;
+use keep_script::RunStatus;
 use std::alloc::Global;
 use std::process::Abort;
 use std::test::Fail;
@@ -120,9 +120,9 @@ fn unread_options_give_their_status(rt: HostRuntime) -> Result<(), Fail> {
 #[test]
 fn shelves_that_fail_give_their_status(rt: HostRuntime) -> Result<(), Fail> {
     for (status, cause) in [
-        (Status::Faulted, "keepd: the shelf failed"),
+        (RunStatus::Faulted, "keepd: the shelf failed"),
         (
-            Status::NotOpened(OpenError::BadEntry(3)),
+            RunStatus::NotOpened(OpenError::BadEntry(3)),
             "keepd: cannot open: BadEntry 3; put journal, trash and files back from one copy",
         ),
     ] {

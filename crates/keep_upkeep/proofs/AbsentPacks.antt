@@ -21,7 +21,7 @@ use Rattle.keep_change.specs.Filling.{has_name}
 use Rattle.keep_change.specs.Lists.{file_names}
 use Rattle.keep_change.specs.NamedBytes.{NamedBytes}
 use Rattle.keep_catalog.specs.Files.{packs_view}
-use Rattle.keep_plan.specs.Settling.{is_there}
+use Rattle.keep_plan.specs.Storing.{is_there}
 use Rattle.keep_upkeep.specs.Repair.{absent_among, absent_listed, other_listings}
 use Rattle.keep_upkeep.proofs.LeavingIndexes.{Read}
 

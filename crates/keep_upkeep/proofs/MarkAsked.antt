@@ -27,7 +27,7 @@ use Rattle.keep_catalog.specs.declared.reach_error.ReachError.TheVariants as rea
 use Rattle.keep_catalog.specs.declared.unread.Unread.{Unread}
 use Rattle.keep_plan.specs.Refusal.{of_catalog, of_reach, unless, unread_first}
 use Rattle.keep_plan.specs.Reuse.{RestOn}
-use Rattle.keep_plan.specs.Settling.{is_there}
+use Rattle.keep_plan.specs.Storing.{is_there}
 use Rattle.keep_plan.specs.declared.plan_error.PlanError.{PlanError}
 use Rattle.keep_plan.specs.declared.plan_error.PlanError.TheVariants as plan
 use Rattle.keep_plan.specs.declared.reuses.Reuses.{Reuses}

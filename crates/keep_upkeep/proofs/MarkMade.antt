@@ -39,7 +39,7 @@ use Rattle.keep_catalog.specs.declared.reach_error.ReachError.{ReachError}
 use Rattle.keep_plan.proofs.Ordered.{All-entries, All-of_map, each_so, filter_passes}
 use Rattle.keep_plan.specs.Refusal.{of_reach, unless, unread_first}
 use Rattle.keep_plan.specs.Reuse.{reused_packs}
-use Rattle.keep_plan.specs.Settling.{CanBeMade, is_there, settled}
+use Rattle.keep_plan.specs.Storing.{CanBeMade, is_there, stored_built}
 use Rattle.keep_plan.specs.declared.plan_error.PlanError.{PlanError}
 use Rattle.keep_plan.specs.declared.plan_error.PlanError.TheVariants.{NothingToDo}
 use Rattle.keep_upkeep.specs.Mark.{gone_snapshots, mark_at, mark_change, marking, marking_of, needed_in, not_there, unneeded_but, unneeded_packs, why_unknown}
@@ -143,7 +143,7 @@ module _ (r : Repository) (known : set.FinSet id_cmp) (moment : ℤ) where
 
   -- a pack that is to be unmarked is needed
   pub free_is_needed : (pack : Id) → has_pack (needed_in r).unmarked pack ≡ is_needed pack
-  unfolding settled
+  unfolding stored_built
   free_is_needed pack =
       in_order-same id_total pack (reused_packs r (used_in r) ++ [])
       ∙ ap (λ (packs : List Id). has_pack packs pack) (append-nil (reused_packs r (used_in r)))
@@ -240,13 +240,13 @@ module _ (r : Repository) (known : set.FinSet id_cmp) (moment : ℤ) where
       })
 
 -- what is settled can be made of the repository
-abbrev pub SettledIsMade : Type 0
-SettledIsMade = (r : Repository) (used : List BlobId) (built : List NamedBytes) → AreNamedByBytes built → CanBeMade r (settled r used built)
+abbrev pub StoredIsMade : Type 0
+StoredIsMade = (r : Repository) (used : List BlobId) (built : List NamedBytes) → AreNamedByBytes built → CanBeMade r (stored_built r used built)
 
-pub mark_well_formed : NamesAreOrdered → SettledIsMade → SortedListsAreWellFormed → (r : Repository) (known : set.FinSet id_cmp) (moment : ℤ) (c : Change) → mark_change r known moment ≡ Ok c → IsWellFormed c
+pub mark_well_formed : NamesAreOrdered → StoredIsMade → SortedListsAreWellFormed → (r : Repository) (known : set.FinSet id_cmp) (moment : ℤ) (c : Change) → mark_change r known moment ≡ Ok c → IsWellFormed c
 mark_well_formed names settles law r known moment c is =
     mark_so r known moment IsWellFormed (λ whole some. made_well_formed r known moment names (settles r (used_in r) [] (All-nil _)) law some) c is
 
-pub mark_met : SettledIsMade → WhatIsAskedIsMet → (r : Repository) (known : set.FinSet id_cmp) (moment : ℤ) (c : Change) → mark_change r known moment ≡ Ok c → is_met (held r) c ≡ true
+pub mark_met : StoredIsMade → WhatIsAskedIsMet → (r : Repository) (known : set.FinSet id_cmp) (moment : ℤ) (c : Change) → mark_change r known moment ≡ Ok c → is_met (held r) c ≡ true
 mark_met settles law r known moment c is =
     mark_so r known moment (λ d. is_met (held r) d ≡ true) (λ whole some. made_met r known moment (settles r (used_in r) [] (All-nil _)) law) c is

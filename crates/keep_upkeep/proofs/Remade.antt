@@ -26,7 +26,7 @@ use Rattle.keep_change.specs.NamedBytes.{NamedBytes}
 use Rattle.keep_change.specs.declared.change.Change.{Change}
 use Rattle.keep_change.specs.declared.change.PackMark.{PackMark}
 use Rattle.keep_plan.specs.Reuse.{reused_files}
-use Rattle.keep_plan.specs.Settling.{CanBeMade, absent_files, is_there, names_there, settled}
+use Rattle.keep_plan.specs.Storing.{CanBeMade, absent_files, is_there, names_there, stored_built}
 use Rattle.keep_plan.proofs.Made.{added_so}
 use Rattle.keep_upkeep.specs.Reindexing.{index_files, reindexing}
 use Rattle.keep_upkeep.proofs.EachSo.{are_apart, each_mapped, each_so, never_at, so_at}
@@ -34,8 +34,8 @@ use Rattle.keep_upkeep.proofs.FilesThere.{IsThere}
 use Rattle.keep_upkeep.proofs.Rising.{none_rise}
 
 -- what becomes of files that are built, where no blob is used
-abbrev pub WhatIsSettledCanBeMade : Type 0
-WhatIsSettledCanBeMade = (r : Repository) (used : List BlobId) (built : List NamedBytes) → AreNamedByBytes built → CanBeMade r (settled r used built)
+abbrev pub WhatIsStoredCanBeMade : Type 0
+WhatIsStoredCanBeMade = (r : Repository) (used : List BlobId) (built : List NamedBytes) → AreNamedByBytes built → CanBeMade r (stored_built r used built)
 
 -- ---- the new index
 
@@ -54,8 +54,8 @@ pub new_indexes : (packs : List PackData) → AllByRecursion (λ (f : NamedBytes
 new_indexes packs = each_so IsNewIndex (λ f. f.name.kind ≡ Index) (λ f new. new.0) (index_files packs) (each_new packs)
 
 -- what all built files are, the added ones are
-pub adds_so : (r : Repository) (P : NamedBytes → Type 0) (built : List NamedBytes) → AllByRecursion P built → AllByRecursion P (settled r [] built).adds
-unfolding settled
+pub adds_so : (r : Repository) (P : NamedBytes → Type 0) (built : List NamedBytes) → AllByRecursion P built → AllByRecursion P (stored_built r [] built).adds
+unfolding stored_built
 adds_so r P built h = added_so r P built h
 
 any_kept : {X : Type 0} (q p : X → Bool) (xs : List X) → list_any q (filter p xs) ≡ true → list_any q xs ≡ true
@@ -71,8 +71,8 @@ unfolding reused_files
 nothing_reused r = refl
 
 -- what has to be present is among the built files
-pub present_built : (r : Repository) (built : List NamedBytes) (name : FileName) → has_name (settled r [] built).present name ≡ true → has_name (file_names built) name ≡ true
-unfolding settled
+pub present_built : (r : Repository) (built : List NamedBytes) (name : FileName) → has_name (stored_built r [] built).present name ≡ true → has_name (file_names built) name ≡ true
+unfolding stored_built
 present_built r built name h =
     any_kept (eq_by_cmp name_cmp name) (is_there r) (file_names built)
     (ap (λ (names : List FileName). has_name (names ++ names_there r built) name) (sym (nothing_reused r))
@@ -91,12 +91,12 @@ pub record CanBeRemade (r : Repository) (built drops : List NamedBytes) (clears 
   pub marked : AllByRecursion (λ (m : PackMark). get r.marks m.pack ≡ Some m.mark) clears
   pub none : AllByRecursion (λ (name : FileName). get r.files name ≡ None) absent
   pub others : AllByRecursion (λ (f : NamedBytes). has_name (file_names built) f.name ≡ false) drops
-  pub new_apart : AreApart name_cmp (file_names (settled r [] built).adds) absent
+  pub new_apart : AreApart name_cmp (file_names (stored_built r [] built).adds) absent
   pub writes : written (reindexing r built drops clears absent) ≢ []
 
-module _ (apart : TellsApart name_cmp) (settling : WhatIsSettledCanBeMade) (r : Repository) (built drops : List NamedBytes) (clears : List PackMark) (absent : List FileName)
+module _ (apart : TellsApart name_cmp) (settling : WhatIsStoredCanBeMade) (r : Repository) (built drops : List NamedBytes) (clears : List PackMark) (absent : List FileName)
     (can : CanBeRemade r built drops clears absent) where
-  abbrev made : CanBeMade r (settled r [] built)
+  abbrev made : CanBeMade r (stored_built r [] built)
   made = settling r [] built can.named
 
   abbrev IsAbsent : FileName → Type 0
@@ -110,22 +110,22 @@ module _ (apart : TellsApart name_cmp) (settling : WhatIsSettledCanBeMade) (r : 
       let bad : false ≡ true = ap is_some (sym none) ∙ some in
       (cc bad)
 
-  adds_absent : AllByRecursion IsAbsent (file_names (settled r [] built).adds)
-  adds_absent = each_mapped IsAbsent (λ (f : NamedBytes). f.name) (settled r [] built).adds (recursion_from_All (λ (f : NamedBytes). get r.files f.name ≡ None) (settled r [] built).adds made.adds)
+  adds_absent : AllByRecursion IsAbsent (file_names (stored_built r [] built).adds)
+  adds_absent = each_mapped IsAbsent (λ (f : NamedBytes). f.name) (stored_built r [] built).adds (recursion_from_All (λ (f : NamedBytes). get r.files f.name ≡ None) (stored_built r [] built).adds made.adds)
 
   drops_there : AllByRecursion HasFile (file_names drops)
   drops_there = each_mapped HasFile (λ (f : NamedBytes). f.name) drops (each_so (IsThere r) (λ f. HasFile f.name) (λ f is. ap is_some is) drops can.there)
 
-  present_there : AllByRecursion HasFile (settled r [] built).present
-  present_there = recursion_from_All (λ name. IsSome (get r.files name)) (settled r [] built).present made.present
+  present_there : AllByRecursion HasFile (stored_built r [] built).present
+  present_there = recursion_from_All (λ name. IsSome (get r.files name)) (stored_built r [] built).present made.present
 
   -- no dropped file has to be present
-  drops_present : AreApart name_cmp (file_names drops) (settled r [] built).present
-  drops_present name has = cases (has_name (settled r [] built).present name) refl where
+  drops_present : AreApart name_cmp (file_names drops) (stored_built r [] built).present
+  drops_present name has = cases (has_name (stored_built r [] built).present name) refl where
     other : has_name (file_names built) name ≡ false
     other = so_at name_cmp apart (λ (n : FileName). has_name (file_names built) n ≡ false) (file_names drops) (each_mapped (λ (n : FileName). has_name (file_names built) n ≡ false) (λ (f : NamedBytes). f.name) drops can.others) name has
 
-    cases : (b : Bool) → has_name (settled r [] built).present name ≡ b → b ≡ false
+    cases : (b : Bool) → has_name (stored_built r [] built).present name ≡ b → b ≡ false
     cases true is =
         let bad : true ≡ false = sym (present_built r built name is) ∙ other in
         bad
@@ -145,12 +145,12 @@ module _ (apart : TellsApart name_cmp) (settling : WhatIsSettledCanBeMade) (r : 
         unmarked = none_rise id_cmp;
       })
       (record {
-        adds_drops = are_apart name_cmp apart IsAbsent HasFile clash (file_names (settled r [] built).adds) (file_names drops) adds_absent drops_there;
-        adds_present = are_apart name_cmp apart IsAbsent HasFile clash (file_names (settled r [] built).adds) (settled r [] built).present adds_absent present_there;
+        adds_drops = are_apart name_cmp apart IsAbsent HasFile clash (file_names (stored_built r [] built).adds) (file_names drops) adds_absent drops_there;
+        adds_present = are_apart name_cmp apart IsAbsent HasFile clash (file_names (stored_built r [] built).adds) (stored_built r [] built).present adds_absent present_there;
         adds_absent = can.new_apart;
         drops_present = drops_present;
         drops_absent = are_apart name_cmp apart HasFile IsAbsent (λ name some none. clash name none some) (file_names drops) absent drops_there can.none;
-        present_absent = are_apart name_cmp apart HasFile IsAbsent (λ name some none. clash name none some) (settled r [] built).present absent present_there can.none;
+        present_absent = are_apart name_cmp apart HasFile IsAbsent (λ name some none. clash name none some) (stored_built r [] built).present absent present_there can.none;
       })
       (record {
         sets_clears = λ pack has. (cc has);

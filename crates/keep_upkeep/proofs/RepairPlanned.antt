@@ -24,7 +24,7 @@ use Rattle.keep_catalog.specs.Files.{header_view, ids_in, indexes_in, packs_view
 use Rattle.keep_catalog.specs.Ordered.{in_order, keyed}
 use Rattle.keep_repo.proofs.Rising.{keys_in_order}
 use Rattle.keep_catalog.proofs.Ordered.{in_order-same}
-use Rattle.keep_plan.specs.Settling.{is_there, settled}
+use Rattle.keep_plan.specs.Storing.{is_there, stored_built}
 use Rattle.keep_plan.specs.declared.plan_error.PlanError.{PlanError}
 use Rattle.keep_plan.specs.declared.plan_error.PlanError.TheVariants.{NothingToDo}
 use Rattle.keep_upkeep.specs.Reindexing.{files_there, index_files, other_indexes, reindexing}
@@ -33,7 +33,7 @@ use Rattle.keep_upkeep.proofs.EachSo.{are_apart, each_always, each_among, each_m
 use Rattle.keep_upkeep.proofs.FilesThere.{ids_rise}
 use Rattle.keep_upkeep.proofs.LeavingIndexes.{Read}
 use Rattle.keep_upkeep.proofs.OtherIndexes.{all_there, others_apart, others_rise}
-use Rattle.keep_upkeep.proofs.Remade.{CanBeRemade, WhatIsSettledCanBeMade, adds_so, new_indexes, new_named, remade_met, remade_well_formed}
+use Rattle.keep_upkeep.proofs.Remade.{CanBeRemade, WhatIsStoredCanBeMade, adds_so, new_indexes, new_named, remade_met, remade_well_formed}
 use Rattle.keep_upkeep.proofs.Rising.{all_append, none_rise}
 
 -- ---- what has to be absent
@@ -86,12 +86,12 @@ writes [] [] some e = (cc some)
 writes [] (f ∷ drops) some e = (cc e)
 writes (f ∷ adds) drops some e = (cc e)
 
-module _ (names : NamesAreOrdered) (apart : TellsApart name_cmp) (settling : WhatIsSettledCanBeMade) (r : Repository) where
-  new_apart : AreApart name_cmp (file_names (settled r [] (whole_files r)).adds) (absent_packs r)
+module _ (names : NamesAreOrdered) (apart : TellsApart name_cmp) (settling : WhatIsStoredCanBeMade) (r : Repository) where
+  new_apart : AreApart name_cmp (file_names (stored_built r [] (whole_files r)).adds) (absent_packs r)
   new_apart =
       are_apart name_cmp apart (λ (n : FileName). n.kind ≡ Index) (λ (n : FileName). n.kind ≡ Pack) clash
-      (file_names (settled r [] (whole_files r)).adds) (absent_packs r)
-      (each_mapped (λ (n : FileName). n.kind ≡ Index) (λ (f : NamedBytes). f.name) (settled r [] (whole_files r)).adds (adds_so r (λ f. f.name.kind ≡ Index) (whole_files r) (new_indexes (packs_there r))))
+      (file_names (stored_built r [] (whole_files r)).adds) (absent_packs r)
+      (each_mapped (λ (n : FileName). n.kind ≡ Index) (λ (f : NamedBytes). f.name) (stored_built r [] (whole_files r)).adds (adds_so r (λ f. f.name.kind ≡ Index) (whole_files r) (new_indexes (packs_there r))))
       (each_so (IsAbsentPack r) (λ (n : FileName). n.kind ≡ Pack) (λ n is. is.0) (absent_packs r) (absent_are r apart)) where
         clash : (name : FileName) → name.kind ≡ Index → name.kind ≡ Pack → ⊥
         clash name index pack =
@@ -109,7 +109,7 @@ module _ (names : NamesAreOrdered) (apart : TellsApart name_cmp) (settling : Wha
     none = each_so (IsAbsentPack r) (λ (n : FileName). get r.files n ≡ None) (λ n is. is.1) (absent_packs r) (absent_are r apart);
     others = others_apart r (whole_files r) (ids_in r Index);
     new_apart = new_apart;
-    writes = writes (settled r [] (whole_files r)).adds (other_files r) some;
+    writes = writes (stored_built r [] (whole_files r)).adds (other_files r) some;
   }
 
   pub repaired_well_formed : SortedListsAreWellFormed → is_idle (repairing r) ≡ false → IsWellFormed (repairing r)

@@ -31,7 +31,7 @@ use Rattle.keep_repo.proofs.Rising.{keys_in_order}
 use Rattle.keep_plan.proofs.Ordered.{entries_there}
 use Rattle.keep_plan.specs.Refusal.{unless, unread_first}
 use Rattle.keep_change.specs.Marks.{pack_mark}
-use Rattle.keep_plan.specs.Settling.{settled}
+use Rattle.keep_plan.specs.Storing.{stored_built}
 use Rattle.keep_plan.specs.declared.plan_error.PlanError.{PlanError}
 use Rattle.keep_plan.specs.declared.plan_error.PlanError.TheVariants.{Memory, NothingToDo}
 use Rattle.keep_plan.proofs.Rising.{rise_kept}
@@ -40,7 +40,7 @@ use Rattle.keep_upkeep.specs.Sweep.{has_waited, left_files, listing, lists_gone,
 use Rattle.keep_upkeep.proofs.EachSo.{each_always, each_kept, each_mapped, each_passes, each_so, never_at}
 use Rattle.keep_upkeep.proofs.FilesThere.{IsThere, each_there, files_rise, ids_rise, pack_before_index}
 use Rattle.keep_upkeep.proofs.OtherIndexes.{all_there, kinds_are, others_apart, others_rise}
-use Rattle.keep_upkeep.proofs.Remade.{CanBeRemade, WhatIsSettledCanBeMade, new_indexes, new_named, remade_met, remade_well_formed}
+use Rattle.keep_upkeep.proofs.Remade.{CanBeRemade, WhatIsStoredCanBeMade, new_indexes, new_named, remade_met, remade_well_formed}
 use Rattle.keep_upkeep.proofs.Rising.{all_append, none_rise, rise_append, rise_keyed, rise_left}
 
 -- ---- the marks
@@ -143,7 +143,7 @@ module _ (r : Repository) (now : ℤ) (wait : ℕ) (P : Change → Type 0) (so :
   unfolding sweep_change
   sweep_so h = read_so (unread_first r) h
 
-module _ (names : NamesAreOrdered) (kinds : KindsAreOrdered) (apart : TellsApart name_cmp) (settling : WhatIsSettledCanBeMade) (r : Repository) (now : ℤ) (wait : ℕ) where
+module _ (names : NamesAreOrdered) (kinds : KindsAreOrdered) (apart : TellsApart name_cmp) (settling : WhatIsStoredCanBeMade) (r : Repository) (now : ℤ) (wait : ℕ) where
   abbrev pub marks : List PackMark
   marks = waited_marks r now wait
 
@@ -161,7 +161,7 @@ module _ (names : NamesAreOrdered) (kinds : KindsAreOrdered) (apart : TellsApart
     none = tt;
     others = swept_others names kinds apart r gone;
     new_apart = λ name has. refl;
-    writes = writes (settled r [] (left_files r gone)).adds (swept_files r gone) marks some;
+    writes = writes (stored_built r [] (left_files r gone)).adds (swept_files r gone) marks some;
   }
 
   pub swept_well_formed : SortedListsAreWellFormed → waited_marks r now wait ≢ [] → IsWellFormed (sweeping r marks)

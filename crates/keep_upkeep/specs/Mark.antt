@@ -18,7 +18,7 @@ use Rattle.keep_reach.specs.Snapshots.{broken_in}
 use Rattle.keep_reach.specs.Used.{used_in}
 use Rattle.keep_plan.specs.Refusal.{of_reach, unless, unread_first}
 use Rattle.keep_plan.specs.Reuse.{reused_packs}
-use Rattle.keep_plan.specs.Settling.{is_there, settled}
+use Rattle.keep_plan.specs.Storing.{is_there, stored_built}
 use Rattle.keep_plan.specs.declared.plan_error.PlanError.{PlanError}
 use Rattle.keep_plan.specs.declared.plan_error.PlanError.TheVariants.{NothingToDo}
 use Rattle.keep_plan.specs.declared.stored.Stored.{Stored}
@@ -41,7 +41,7 @@ mark_at moment pack = record { pack = pack; mark = record { moment = moment } }
 
 -- what the uses of all blobs that snapshots reach rest on, where they are; nothing is built
 abbrev pub needed_in : Repository → Stored
-needed_in r = settled r (used_in r) []
+needed_in r = stored_built r (used_in r) []
 
 -- those of the snapshots that aren't there
 abbrev pub not_there : Repository → List Id → List Id

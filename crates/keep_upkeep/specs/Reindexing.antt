@@ -16,7 +16,7 @@ use Rattle.keep_change.specs.Lists.{file_names}
 use Rattle.keep_change.specs.NamedBytes.{NamedBytes, file_of}
 use Rattle.keep_change.specs.declared.change.Change.{Change}
 use Rattle.keep_change.specs.declared.change.PackMark.{PackMark}
-use Rattle.keep_plan.specs.Settling.{settled}
+use Rattle.keep_plan.specs.Storing.{stored_built}
 
 -- the file of this kind and id, if it is there
 abbrev pub file_there : Repository → Kind → Id → Option NamedBytes
@@ -40,11 +40,11 @@ other_indexes built ids = filter (λ id. not (has_name (file_names built) (named
 -- files are to be absent.
 abbrev pub reindexing : Repository → List NamedBytes → List NamedBytes → List PackMark → List FileName → Change
 reindexing r built drops clears absent = record {
-  adds = (settled r [] built).adds;
+  adds = (stored_built r [] built).adds;
   drops = drops;
   sets = [];
   clears = clears;
-  present = (settled r [] built).present;
+  present = (stored_built r [] built).present;
   absent = absent;
   marked = [];
   unmarked = [];

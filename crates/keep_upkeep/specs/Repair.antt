@@ -15,7 +15,7 @@ use Rattle.keep_change.specs.NamedBytes.{NamedBytes}
 use Rattle.keep_change.specs.declared.change.Change.{Change}
 use Rattle.keep_catalog.specs.Files.{headers_in, ids_in, indexes_in}
 use Rattle.keep_catalog.specs.Ordered.{in_order}
-use Rattle.keep_plan.specs.Settling.{is_there}
+use Rattle.keep_plan.specs.Storing.{is_there}
 use Rattle.keep_plan.specs.declared.plan_error.PlanError.{PlanError}
 use Rattle.keep_plan.specs.declared.plan_error.PlanError.TheVariants.{NothingToDo}
 use Rattle.keep_upkeep.specs.Reindexing.{files_there, index_files, other_indexes, reindexing}

@@ -13,7 +13,7 @@ ghost use Rattle.keep_catalog.specs.Places.{chosen_listing, is_unmarked};
 ghost use Rattle.keep_reach.specs.Used.{used_in};
 ghost use Rattle.keep_reach.specs.Walk.{AreChosen};
 ghost use Rattle.keep_plan.specs.Reuse.{RestOn};
-ghost use Rattle.keep_plan.specs.Settling.{is_there};
+ghost use Rattle.keep_plan.specs.Storing.{is_there};
 ghost use Rattle.keep_plan.specs.declared.plan_error.PlanError.TheVariants as the_error;
 ghost use Rattle.keep_upkeep.specs.Mark as spec;
 ghost use Rattle.keep_upkeep.specs.Mark.{gone_snapshots, mark_at, mark_change, marking_of, not_there};
@@ -22,7 +22,7 @@ ghost use Rattle.keep_upkeep.specs.Mark.{unneeded_but, unneeded_packs, why_unkno
 use crate::upkeep_laws::a_planned_mark_can_be_made;
 use keep_change::{Change, Listed, PackMark, Planned};
 use keep_names::{FileName, Id, Kind};
-use keep_plan::{PlanError, Reuses, Stored, settle};
+use keep_plan::{PlanError, Reuses, Stored, store_built};
 use keep_reach::{Reached, used};
 use keep_repo::{Facet, Mark, Repo};
 use keep_view::View;
@@ -86,7 +86,7 @@ fn mark_others(alloc: Global, view: &View, moment: i64, reuses: Reuses) -> Resul
         return Err(PlanError::NothingToDo);
     }
     let marks = marks_at(alloc, packs, moment)?;
-    let needed = settle(alloc, view.repo(), Vec::new(alloc), reuses)?;
+    let needed = store_built(alloc, view.repo(), Vec::new(alloc), reuses)?;
     let gone = gone(alloc, view)?;
     let names = snapshot_names(alloc, gone)?;
     Ok(marking(alloc, marks, needed, names))

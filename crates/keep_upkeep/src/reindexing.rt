@@ -12,7 +12,7 @@ ghost use Rattle.keep_upkeep.specs.Reindexing as spec;
 use keep_change::{Change, Listed, StoredFile};
 use keep_index::{Index, write_index, written_indexes_read_back};
 use keep_names::{FileName, Id, Kind};
-use keep_plan::{Reuses, settle};
+use keep_plan::{Reuses, store_built};
 use keep_repo::Repo;
 use std::alloc::{AllocError, Global};
 
@@ -104,7 +104,7 @@ pub(crate) fn reindexed(
 ) -> Result<Change, AllocError>
     ensures { IfOk result (λ change. change ≡ spec.reindexing repo.now built.items drops.items [] []) }
 {
-    let stored = settle(alloc, repo, built, Reuses::new(alloc))?;
+    let stored = store_built(alloc, repo, built, Reuses::new(alloc))?;
     let mut change = Change::new(alloc);
     change.adds = stored.adds;
     change.drops = Listed::from_vec(drops);

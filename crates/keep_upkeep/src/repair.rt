@@ -12,7 +12,7 @@ ghost use Rattle.keep_change.specs.Change.{is_met};
 ghost use Rattle.keep_change.specs.Form.{IsWellFormed};
 ghost use Rattle.keep_catalog.specs.Files.{packs_view};
 ghost use Rattle.keep_catalog.specs.Ordered.{in_order};
-ghost use Rattle.keep_plan.specs.Settling.{is_there};
+ghost use Rattle.keep_plan.specs.Storing.{is_there};
 ghost use Rattle.keep_plan.specs.declared.plan_error.PlanError.TheVariants as the_error;
 ghost use Rattle.keep_upkeep.specs.Repair.{absent_among, absent_listed, other_listings, repair_change};
 ghost use Rattle.keep_upkeep.specs.Repair as spec;

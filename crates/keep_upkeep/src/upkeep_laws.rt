@@ -11,7 +11,7 @@ ghost use Rattle.keep_upkeep.specs.Sweep.{sweep_change};
 
 use keep_change::{sorted_lists_are_well_formed, what_is_asked_is_met};
 use keep_names::{names_are_ordered, orders_tell_apart};
-use keep_plan::what_is_settled_can_be_made;
+use keep_plan::what_is_stored_can_be_made;
 
 /// The change of a sweep can be committed: it is well formed, and the repository that it was planned on meets it.
 pub fn a_planned_sweep_can_be_made()
@@ -22,7 +22,7 @@ pub fn a_planned_sweep_can_be_made()
 {
     orders_tell_apart();
     names_are_ordered();
-    what_is_settled_can_be_made();
+    what_is_stored_can_be_made();
     sorted_lists_are_well_formed();
     what_is_asked_is_met();
 }
@@ -34,7 +34,7 @@ pub fn a_planned_repair_can_be_made()
 {
     orders_tell_apart();
     names_are_ordered();
-    what_is_settled_can_be_made();
+    what_is_stored_can_be_made();
     sorted_lists_are_well_formed();
     what_is_asked_is_met();
 }
@@ -48,7 +48,7 @@ pub fn a_planned_mark_can_be_made()
 {
     names_are_ordered();
     orders_tell_apart();
-    what_is_settled_can_be_made();
+    what_is_stored_can_be_made();
     sorted_lists_are_well_formed();
     what_is_asked_is_met();
 }

@@ -14,7 +14,7 @@ pub use keep_repo::{Bytes, Facet, Repo};
 pub use keep_jobs::{BackupFacts, Cut, Job, Settings, Task, plan};
 pub use keep_labels::{Count, Edit, Policy};
 pub use keep_plan::PlanError;
-pub use keep_read::{Finding, RestoreError, Restored, audit, restore};
+pub use keep_read::{Finding, RestoreError, RestoredFiles, audit, restore};
 pub use keep_snap::SnapFacts;
 pub use keep_view::View;
 
@@ -30,4 +30,4 @@ pub use keep_shelf::{FailingShelf, Fault, Key, MemoryShelf, Shelf};
 
 // Scripts.
 pub use keep_jobs::Kit;
-pub use keep_script::{Setup, Status, run, run_on};
+pub use keep_script::{RunStatus, Setup, run, run_on};

@@ -4,7 +4,7 @@ ghost use Rattle.keep_files.specs.Act.{CanDo, Made, Removed, Renamed, Synced, Wr
 ghost use Rattle.keep_files.specs.Stands.{HasHome, is_file, put_at};
 
 use super::MemoryTree;
-use crate::done_act::Deed;
+use crate::done_act::DoneAct;
 use keep_files::{Node, TreeError};
 use keep_repo::Bytes;
 use std::alloc::AllocError;
@@ -25,7 +25,7 @@ impl MemoryTree {
             (seen_in self.new ≡ done (seen_in self.old) (Wrote path.now bytes.now)) }
         ensures err { OnErr result (seen_in self.new ≡ seen_in self.old) }
     {
-        let deed = Deed::Write(String::from_str(self.alloc, path)?, bytes.clone()?);
+        let deed = DoneAct::Write(String::from_str(self.alloc, path)?, bytes.clone()?);
         let node = Node::File(bytes.clone()?);
         self.add(path, node, &deed, store)
     }
@@ -41,7 +41,7 @@ impl MemoryTree {
         ensures ok { OnOk result (seen_in self.new ≡ done (seen_in self.old) (Made path.now)) }
         ensures err { OnErr result (seen_in self.new ≡ seen_in self.old) }
     {
-        let deed = Deed::Make(String::from_str(self.alloc, path)?);
+        let deed = DoneAct::Make(String::from_str(self.alloc, path)?);
         self.add(path, Node::Folder, &deed, store)
     }
 
@@ -50,7 +50,7 @@ impl MemoryTree {
         &mut self,
         path: &str,
         node: Node,
-        deed: &Deed,
+        deed: &DoneAct,
         store: F,
     ) -> Result<(), TreeError>
         requires { F.pre store }
@@ -76,12 +76,12 @@ impl MemoryTree {
         Ok(())
     }
 
-    fn renaming(&self, from: &str, to: &str) -> Result<Deed, AllocError>
+    fn renaming(&self, from: &str, to: &str) -> Result<DoneAct, AllocError>
         ensures { IfOk result (λ deed. act_of deed ≡ Renamed from.now to.now) }
     {
         let from = String::from_str(self.alloc, from)?;
         let to = String::from_str(self.alloc, to)?;
-        Ok(Deed::Rename(from, to))
+        Ok(DoneAct::Rename(from, to))
     }
 
     pub(super) fn try_rename<F: FnOnce() -> Result<(), TreeError> + Drop>(
@@ -131,7 +131,7 @@ impl MemoryTree {
         if self.is_folder(path) {
             return Err(TreeError::Broken);
         }
-        let deed = Deed::Remove(String::from_str(self.alloc, path)?);
+        let deed = DoneAct::Remove(String::from_str(self.alloc, path)?);
         if self.nodes.contains_key(path) {
             store()?;
         }
@@ -150,7 +150,7 @@ impl MemoryTree {
         ensures ok { OnOk result (seen_in self.new ≡ done (seen_in self.old) (Synced path.now)) }
         ensures err { OnErr result (seen_in self.new ≡ seen_in self.old) }
     {
-        let deed = Deed::Sync(String::from_str(self.alloc, path)?);
+        let deed = DoneAct::Sync(String::from_str(self.alloc, path)?);
         store()?;
         self.note(&deed);
         Ok(())

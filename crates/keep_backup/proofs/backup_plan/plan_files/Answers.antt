@@ -7,8 +7,8 @@ use Rattle.keep_backup.specs.Files.{file_view, given_view}
 use Rattle.keep_backup.specs.declared.paths.PathFile.{PathFile}
 use Rattle.keep_backup.proofs.Committed.{backup_met, backup_well_formed}
 use Rattle.keep_backup.proofs.Planning.{bad_files, change_made, late, none_stored, snapshot_there, untagged}
-use Rattle.keep_plan.specs.Settling.{is_there}
-use Rattle.keep_plan.proofs.Settled.{filled_there}
+use Rattle.keep_plan.specs.Storing.{is_there}
+use Rattle.keep_plan.proofs.StoredFiles.{filled_there}
 use Rattle.keep_backup.proofs.backup_plan.plan_files.Goals as goal
 
 pub returns-in_err-files-clause-change : goal.returns-in_err-files-clause-change

@@ -6,5 +6,5 @@ use Rattle.keep_catalog.proofs.usable_listings.first_open_among.Given as goal
 
 abbrev pub invariant-loop-listing : goal.invariant-loop-listing
 invariant-loop-listing l =
-    find (λ x. spec.is_stored l.repo (at l.blob x.spot) && spec.is_open l.repo l.blob x.spot) l.listing-iterator
-    ≡ find (λ x. spec.is_stored l.repo (at l.blob x.spot) && spec.is_open l.repo l.blob x.spot) l.listings.keys
+    find (λ x. spec.is_stored l.repo (at l.blob x.spot) && spec.is_usable l.repo l.blob x.spot) l.listing-iterator
+    ≡ find (λ x. spec.is_stored l.repo (at l.blob x.spot) && spec.is_usable l.repo l.blob x.spot) l.listings.keys

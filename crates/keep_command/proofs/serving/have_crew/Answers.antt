@@ -4,7 +4,7 @@ use Rattle.keep_book.specs.Armed.{hooks_of, ledger_of, on_shelf}
 use Rattle.keep_jobs.specs.Job.{settings_view}
 use Rattle.keep_operators.specs.Crewed.{IsCrewed}
 use Rattle.keep_operators.specs.declared.order.NoCrew.{NoCrew}
-use Rattle.keep_operators.specs.declared.order.Tally.{Tally}
+use Rattle.keep_operators.specs.declared.order.CrewTally.{CrewTally}
 use Rattle.keep_options.specs.Option.{options_view}
 use Rattle.keep_command.proofs.CrewLemmas.{crews-uncrewed, crews-worked}
 use Rattle.keep_command.specs.Running.{settings_of}
@@ -24,7 +24,7 @@ returns-in-Ok-clause-crews g c =
     let answers = g.C.Crew.answers c.args.crew.now in
     let after = on_shelf c.work-left.result.0 in
     let crewed = subst
-    (λ (worked : Result Tally NoCrew). IfOk worked (λ tally. IsCrewed (hooks_of c.args.book).vetoes (settings_view c.order.result.settings)
+    (λ (worked : Result CrewTally NoCrew). IfOk worked (λ tally. IsCrewed (hooks_of c.args.book).vetoes (settings_view c.order.result.settings)
     c.order.result.time.now c.order.result.size (ledger_of c.args.book) after.state tally.accepted tally.length)) c.in-Ok.is c.work-left.ensures.crewed in
     crews-worked takes answers (settings_view c.order.result.settings) (settings_of options) c.order.result.time.now options.time
     c.order.result.size options.crew (on_shelf c.args.book) after (hooks_of c.args.book) (hooks_of c.work-left.result.0) c.in-Ok.tally
@@ -40,7 +40,7 @@ returns-in-Err-clause-crews g c =
     let options = options_view c.args.terms.options in
     let takes = g.H.Shelves.takes c.args.shelves.now in
     let answers = g.C.Crew.answers c.args.crew.now in
-    let same = subst (λ (worked : Result Tally NoCrew). IfErr worked (λ _. c.work-left.result.0 ≡ c.args.book)) c.in-Err.is c.work-left.ensures.handed in
+    let same = subst (λ (worked : Result CrewTally NoCrew). IfErr worked (λ _. c.work-left.result.0 ≡ c.args.book)) c.in-Err.is c.work-left.ensures.handed in
     crews-uncrewed takes answers (settings_of options) options.time options.crew
     (on_shelf c.args.book) (on_shelf c.work-left.result.0) (hooks_of c.args.book) (hooks_of c.work-left.result.0)
     (g.W.Write.contents c.args.writer.now) c.in-Err.refusal c.from.result (ap on_shelf same) c.work-left.ensures.hooks

@@ -10,7 +10,7 @@ use Rattle.keep_reading.specs.Checks.{Files}
 use Rattle.keep_repo.specs.Repository.{Repository}
 use Rattle.keep_shelf.specs.declared.key.Key.TheVariants.{Live, Trash}
 use Rattle.keep_damage.specs.Asked.{IsAsked, asked_live, live_of, passed}
-use Rattle.keep_damage.specs.declared.half.Pass.TheVariants.{Look, Write}
+use Rattle.keep_damage.specs.declared.half.Half.TheVariants.{Look, Write}
 use Rattle.keep_damage.proofs.asked.asked.Goals as goal
 
 pub returns : goal.returns

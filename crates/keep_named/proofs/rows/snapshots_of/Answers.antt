@@ -2,12 +2,12 @@ use Rattle.std.proofs.Common.{◌≡◌, Bool, List, Ordering, IsPermutation, is
 use Rattle.std.proofs.lemmas.Fn.{always_returns_same}
 use Rattle.std.proofs.lemmas.List.Sorted.{IsPermutation-map, ranks_by}
 use Rattle.keep_named.specs.Rows.{RowData, moment_cmp, row_view, rows_in, rows_of}
-use Rattle.keep_named.specs.declared.listed_snapshot.SnapshotRow.{SnapshotRow}
+use Rattle.keep_named.specs.declared.listed_snapshot.ListedSnapshot.{ListedSnapshot}
 use Rattle.keep_named.proofs.Ordered.{moment_total}
 use Rattle.keep_named.proofs.rows.snapshots_of.Goals as goal
 
 -- the closure answers by the order
-compared : (r : Ordering) (a b : SnapshotRow) → r ≡ moment_cmp (row_view a) (row_view b) → is_lt r ≡ is_lt (moment_cmp (row_view a) (row_view b))
+compared : (r : Ordering) (a b : ListedSnapshot) → r ≡ moment_cmp (row_view a) (row_view b) → is_lt r ≡ is_lt (moment_cmp (row_view a) (row_view b))
 compared r a b h = ap is_lt h
 
 same_permuted : (all new : List RowData) (old : List RowData) → old ≡ all → IsPermutation old new → IsPermutation all new
@@ -22,6 +22,6 @@ returns-clause-same c =
 
 pub returns-clause-sorted : goal.returns-clause-sorted
 returns-clause-sorted c =
-    let Lt : SnapshotRow → SnapshotRow → Bool = λ a b. is_lt (moment_cmp (row_view a) (row_view b)) in
+    let Lt : ListedSnapshot → ListedSnapshot → Bool = λ a b. is_lt (moment_cmp (row_view a) (row_view b)) in
     c.in_ok-sort_by.ensures.sorted Lt (ranks_by moment_total row_view)
     (always_returns_same _ _ _ (λ a r f' h. (compared r a.0.now a.1.0.now (search rules), search rules)))

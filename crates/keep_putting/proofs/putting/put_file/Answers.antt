@@ -9,4 +9,4 @@ returns-in-Err-clause-done g c =
 
 pub returns-clause-careful : goal.returns-clause-careful
 returns-clause-careful g c = λ own.
-    both _ _ _ (c.fill.ensures.careful own) (c.settle.ensures.careful (file_is_own _ _ _ c.args.place.now c.in-Ok.ensures.filled))
+    both _ _ _ (c.fill.ensures.careful own) (c.set_attributes.ensures.careful (file_is_own _ _ _ c.args.place.now c.in-Ok.ensures.filled))

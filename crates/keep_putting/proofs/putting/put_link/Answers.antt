@@ -8,4 +8,4 @@ returns-clause-careful g c = λ own.
     let place = c.args.place.now in
     let to = c.args.to.now in
     both _ _ _ (did _ _ (MakeLink place to) c.in_default.ensures own)
-    (c.settle_link.ensures.careful (link_is_own _ _ place to c.in_default.ensures))
+    (c.set_link_attributes.ensures.careful (link_is_own _ _ place to c.in_default.ensures))

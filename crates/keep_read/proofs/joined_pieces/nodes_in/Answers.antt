@@ -1,13 +1,13 @@
 use Rattle.std.proofs.Common.{◌≢◌, Option, map, sym, ap, ◌∙◌, rules}
 use Rattle.std.specs.Option.{option_map}
-use Rattle.keep_reach.specs.declared.reached_blobs.Found.{Found}
+use Rattle.keep_reach.specs.declared.reached_blobs.ReachedBlob.{ReachedBlob}
 use Rattle.keep_catalog.specs.declared.reach_error.ReachError.TheVariants.{Memory}
 use Rattle.keep_catalog.specs.declared.spot.Spot.{Spot}
 use Rattle.keep_tree.specs.Tree.{node_view}
 use Rattle.keep_read.proofs.Below.{bad_nodes, good_nodes, no_nodes}
 use Rattle.keep_read.proofs.joined_pieces.nodes_in.Goals as goal
 
-abbrev spot_of : Option Found → Option Spot
+abbrev spot_of : Option ReachedBlob → Option Spot
 spot_of found = option_map (λ f. f.spot) found
 
 pub returns-in_default : goal.returns-in_default

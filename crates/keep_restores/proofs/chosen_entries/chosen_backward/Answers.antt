@@ -2,7 +2,7 @@ use Rattle.std.proofs.Common.{◌≡◌, Bor, List, [], ◌∷◌, map, option_m
 use Rattle.std.proofs.lemmas.List.{reverse-append}
 use Rattle.keep_nodes.specs.Choosing.{lent_view}
 use Rattle.keep_nodes.specs.Entries.{entry_view}
-use Rattle.keep_nodes.specs.declared.path_node.Entry.{Entry}
+use Rattle.keep_nodes.specs.declared.path_node.PathNode.{PathNode}
 use Rattle.keep_restores.proofs.Onto.{one_more}
 use Rattle.keep_restores.specs.Choosing.{chosen_onto, first}
 use Rattle.keep_tree.specs.Parsing.{pattern_view}
@@ -15,7 +15,7 @@ loop-entry-preserved-in_ok-push c =
     let last = c.in-Some.entry in
     let behind = map lent_view (reverse c.loop-entry.found.items) in
     let grown : map lent_view (reverse c.push.new.self.items) ≡ lent_view last ∷ behind =
-    ap (λ (l : List (Bor Entry)). map lent_view (reverse l)) c.in_ok-push.ensures.items
+    ap (λ (l : List (Bor PathNode)). map lent_view (reverse l)) c.in_ok-push.ensures.items
     ∙ ap (map lent_view) (reverse-append c.loop-entry.found.items (last ∷ [])) in
     let step = one_more patterns c.loop-entry.rest.now front last.now behind _ (option_map lent_view c.loop-entry.next) true
     c.in-Some.ensures.cases.0 (sym c.if-is_chosen.true ∙ c.in_ok-is_chosen.ensures) c.loop-entry.invariant.next c.loop-entry.invariant.same in

@@ -6,7 +6,7 @@ pub returns : goal.returns
 returns c = record {
   safe = tagging_safe (record {
     apart = c.orders_tell_apart.ensures.names;
-    settling = c.what_is_settled_can_be_made.ensures;
+    settling = c.what_is_stored_can_be_made.ensures;
     sorted = c.sorted_lists_are_well_formed.ensures;
     read = c.snapshots_read_back.ensures.read;
     written = c.snapshots_read_back.ensures.written;

@@ -11,7 +11,7 @@ returns c = given_so (record {
   stands = c.built_packs_are_honest.ensures.stands;
   within = c.headers_are_read.ensures.within;
   index = c.written_indexes_read_back.ensures.written;
-  settles = c.each_built_file_is_settled.ensures;
+  settles = c.each_built_file_is_stored.ensures;
   reused = c.recorded_uses_give_their_blobs.ensures;
   supports = c.built_files_support_their_blobs.ensures;
 })

@@ -9,8 +9,8 @@ returns c = repair_safe (record {
   places = c.what_a_repair_lists.ensures.places;
   fits = c.what_a_repair_lists.ensures.fits;
   written = c.written_indexes_read_back.ensures.written;
-  settling = c.what_is_settled_can_be_made.ensures;
-  settles = c.each_built_file_is_settled.ensures;
+  settling = c.what_is_stored_can_be_made.ensures;
+  settles = c.each_built_file_is_stored.ensures;
   sorted = c.sorted_lists_are_well_formed.ensures;
   safe = c.reindexing_is_safe.ensures;
 })

@@ -12,8 +12,8 @@ returns c = sweep_safe (record {
   joined_fits = c.what_is_joined_is_listed.ensures.fits;
   written = c.written_indexes_read_back.ensures.written;
   read = c.written_indexes_read_back.ensures.read;
-  settling = c.what_is_settled_can_be_made.ensures;
-  settles = c.each_built_file_is_settled.ensures;
+  settling = c.what_is_stored_can_be_made.ensures;
+  settles = c.each_built_file_is_stored.ensures;
   sorted = c.sorted_lists_are_well_formed.ensures;
   safe = c.reindexing_is_safe.ensures;
 })

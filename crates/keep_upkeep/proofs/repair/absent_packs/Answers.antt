@@ -3,7 +3,7 @@ use Rattle.std.proofs.lemmas.List.{take_all}
 use Rattle.keep_names.proofs.Orders.{name_exact, name_total}
 use Rattle.keep_catalog.specs.Files.{packs_view}
 use Rattle.keep_plan.proofs.Outcomes.{if_ok}
-use Rattle.keep_plan.proofs.Settled.{keys_are}
+use Rattle.keep_plan.proofs.StoredFiles.{keys_are}
 use Rattle.keep_upkeep.specs.Repair.{absent_listed, other_listings}
 use Rattle.keep_upkeep.proofs.AbsentPacks.{AreAmong, listing_more}
 use Rattle.keep_upkeep.proofs.LeavingIndexes.{Read}

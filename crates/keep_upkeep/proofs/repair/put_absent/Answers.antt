@@ -5,7 +5,7 @@ use Rattle.keep_names.specs.Orders.{name_cmp}
 use Rattle.keep_names.specs.declared.file_name.FileName.{FileName}
 use Rattle.keep_index.specs.Index.{pack_view}
 use Rattle.keep_index.specs.declared.index.IndexedPack.{IndexedPack}
-use Rattle.keep_plan.specs.Settling.{is_there}
+use Rattle.keep_plan.specs.Storing.{is_there}
 use Rattle.keep_upkeep.specs.Repair.{absent_among}
 use Rattle.keep_upkeep.proofs.AbsentPacks.{AreAmong, or_none, put_more}
 use Rattle.keep_upkeep.proofs.repair.put_absent.Goals as goal

@@ -7,7 +7,7 @@ use Rattle.keep_names.proofs.Orders.{name_total}
 use Rattle.keep_names.specs.Orders.{name_cmp}
 use Rattle.keep_repo.specs.Facet.{Stored}
 use Rattle.keep_plan.proofs.Sets.{one_more}
-use Rattle.keep_plan.proofs.Settled.{filled_there}
+use Rattle.keep_plan.proofs.StoredFiles.{filled_there}
 use Rattle.keep_upkeep.proofs.repair.put_if_absent.Goals as goal
 
 pub returns : goal.returns

@@ -1,6 +1,6 @@
 use Rattle.std.proofs.Common.{◌≡◌, ◌++◌, map, sym, ap, ◌∙◌}
 use Rattle.keep_names.specs.declared.blob.BlobType.TheVariants.{Content, Tree}
-use Rattle.keep_plan.specs.Settling.{settled}
+use Rattle.keep_plan.specs.Storing.{stored_built}
 use Rattle.keep_plan.proofs.Outcomes.{if_ok}
 use Rattle.keep_build.specs.Blobs.{names_once}
 use Rattle.keep_build.specs.Packs.{packs_of}
@@ -21,10 +21,10 @@ pub returns : goal.returns
 unfolding stored_with
 returns c =
     let r = c.args.repo.now in
-    if_ok _ _ c.settle.result
+    if_ok _ _ c.store_built.result
     (λ stored so named offered keeps.
     let pieces = ap (map blob_view) c.deref.ensures.value ∙ keeps.pieces.blobs_are in
     let trees = ap (map blob_view) c.deref-2.ensures.value ∙ keeps.trees.blobs_are in
     let files : c.in_ok-files.files.items ≡ built r offered = c.in_ok-files.ensures ∙ (λ i. packs_and_index (packs_of (pieces i) ++ packs_of (trees i))) in
-    so (named ++ names_once offered) keeps.reuses ∙ ap (settled r (named ++ names_once offered)) files)
-    c.settle.ensures
+    so (named ++ names_once offered) keeps.reuses ∙ ap (stored_built r (named ++ names_once offered)) files)
+    c.store_built.ensures

@@ -23,6 +23,6 @@ returns c =
     let repo : c.self.inside.repo.now ≡ c.args.self.now = search rules in
     let kept : (l : Listing) → list_any (is_at (listing_cmp l)) (listings_in c.in_ok-listings.listings.now) ≡ lists_in c.self.inside.repo.now c.args.blob l =
     λ l. sym (ap (λ s. has s l) some) ∙ c.tables-tables.ensures.listed c.args.blob l ∙ ap (λ (r : Repository). lists_in r c.args.blob l) (sym repo) in
-    c.first_open.ensures.first
-    ∙ first_chosen c.self.inside.repo.now c.args.blob (listings_in c.in_ok-listings.listings.now) kept c.first_open.ensures.ordered
+    c.first_usable.ensures.first
+    ∙ first_chosen c.self.inside.repo.now c.args.blob (listings_in c.in_ok-listings.listings.now) kept c.first_usable.ensures.ordered
     ∙ ap (λ (r : Repository). chosen_listing r c.args.blob) repo

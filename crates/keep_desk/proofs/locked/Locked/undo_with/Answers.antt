@@ -30,19 +30,19 @@ returns-in-Err-clause-taken_back g c = record {
   );
 }
 
-pub returns-in-Err-taken-clause-taken_back : goal.returns-in-Err-taken-clause-taken_back
-returns-in-Err-taken-clause-taken_back g c =
+pub returns-in-Err-taken_with-clause-taken_back : goal.returns-in-Err-taken_with-clause-taken_back
+returns-in-Err-taken_with-clause-taken_back g c =
     let opening = g.B.Naming.opening in
     let n = c.args.n in
     let on = c.catch_up.new.self.journal in
     let j = (state_of opening on).events in
-    let asked = refuses (taken_refusal j n) (λ (numbers : Vec ℕ Global). AreTaken j n numbers.items) c.in-Err-taken.refusal c.in-Err-taken.ensures.taken in
-    let told = c.refused-in-Err-taken.result in
+    let asked = refuses (taken_refusal j n) (λ (numbers : Vec ℕ Global). AreTaken j n numbers.items) c.in-Err-taken_with.refusal c.in-Err-taken_with.ensures.taken in
+    let told = c.refused-in-Err-taken_with.result in
     record {
       on = on;
       begins = subst (λ (es : List Event). IsPrefix c.args.pass.now.seen es) c.in_default.ensures.seen c.catch_up.ensures.begins;
-      tells = inl (asks_nothing opening n on told.numbers.items told.stopped c.in-Err-taken.refusal c.catch_up.new.pass.seen
-          c.refused-in-Err-taken.ensures.numbers c.refused-in-Err-taken.ensures.stopped asked c.in_default.ensures.seen);
+      tells = inl (asks_nothing opening n on told.numbers.items told.stopped c.in-Err-taken_with.refusal c.catch_up.new.pass.seen
+          c.refused-in-Err-taken_with.ensures.numbers c.refused-in-Err-taken_with.ensures.stopped asked c.in_default.ensures.seen);
     }
 
 pub returns-in-Err-change_once-clause-taken_back : goal.returns-in-Err-change_once-clause-taken_back

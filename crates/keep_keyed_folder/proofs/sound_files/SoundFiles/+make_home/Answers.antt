@@ -39,7 +39,7 @@ returns-in_err-make_folder-clause-left g t c =
 pub returns-then-self-clause-closed : goal.returns-then-self-clause-closed
 returns-then-self-clause-closed g t c =
     let seen = g.T.FileTree.seen in
-    subst IsClosed (sym c.settle.ensures.stands)
+    subst IsClosed (sym c.sync_holder.ensures.stands)
     (closed_done (seen c.make_home.new.self.tree) (seen c.make_folder.new.self) (Made c.in-Some.home.now) c.in_ok-make_folder.ensures.can c.in_ok-make_folder.ensures.ok c.in_ok-make_home.ensures.closed)
 
 pub returns-then-self-clause-left : goal.returns-then-self-clause-left
@@ -49,34 +49,34 @@ returns-then-self-clause-left g t c =
     let asked = (seen c.has_folder.new.self).stands in
     let homed = (seen c.make_home.new.self.tree).stands in
     let made = (seen c.make_folder.new.self).stands in
-    let after = (seen c.settle.new.self.tree).stands in
+    let after = (seen c.sync_holder.new.self.tree).stands in
     let path = c.args.path.now in
     let first = widened_same before asked path (ap (λ (s : Seen). s.stands) c.in_ok-has_folder.ensures.ok) in
     let next = widened_above asked homed path c.in-Some.home.now c.in-Some.ensures.home c.in_ok-make_home.ensures.left in
     let third = widened_made homed made path c.in-Some.home.now c.in-Some.ensures.home c.in_ok-make_folder.ensures.can.0 (ap (λ (s : Seen). s.stands) c.in_ok-make_folder.ensures.ok) in
-    let last = widened_same made after path c.settle.ensures.stands in
+    let last = widened_same made after path c.sync_holder.ensures.stands in
     widened_then before asked after path first (widened_then asked homed after path next (widened_then homed made after path third last))
 
 pub returns-then-self-clause-home : goal.returns-then-self-clause-home
 returns-then-self-clause-home g t c =
     let seen = g.T.FileTree.seen in
     let homed = (seen c.make_home.new.self.tree).stands in
-    home_made homed (seen c.settle.new.self.tree).stands c.args.path.now c.in-Some.home.now c.in-Some.ensures.home c.in-Some.ensures.only
-    (c.settle.ensures.stands ∙ ap (λ (s : Seen). s.stands) c.in_ok-make_folder.ensures.ok)
+    home_made homed (seen c.sync_holder.new.self.tree).stands c.args.path.now c.in-Some.home.now c.in-Some.ensures.home c.in-Some.ensures.only
+    (c.sync_holder.ensures.stands ∙ ap (λ (s : Seen). s.stands) c.in_ok-make_folder.ensures.ok)
 
 pub returns-then-self-clause-order : goal.returns-then-self-clause-order
 returns-then-self-clause-order g t c =
     let seen = g.T.FileTree.seen in
     let acts = λ (s : Seen). s.acts in
     let made = c.in_ok-make_home.ensures.order in
-    let synced = c.settle.ensures.synced c.in_ok-make_home.ensures.still_sound in
-    made_order (seen c.args.self.now.tree).acts (seen c.has_folder.new.self).acts (seen c.make_home.new.self.tree).acts (seen c.make_folder.new.self).acts (seen c.settle.new.self.tree).acts made.0 synced.0
-    c.in-Some.home.now c.settle.new.self.is_sound c.if-self.true made.1 synced.1 (ap acts c.in_ok-has_folder.ensures.ok) made.2 (ap acts c.in_ok-make_folder.ensures.ok) synced.2
+    let synced = c.sync_holder.ensures.synced c.in_ok-make_home.ensures.still_sound in
+    made_order (seen c.args.self.now.tree).acts (seen c.has_folder.new.self).acts (seen c.make_home.new.self.tree).acts (seen c.make_folder.new.self).acts (seen c.sync_holder.new.self.tree).acts made.0 synced.0
+    c.in-Some.home.now c.sync_holder.new.self.is_sound c.if-self.true made.1 synced.1 (ap acts c.in_ok-has_folder.ensures.ok) made.2 (ap acts c.in_ok-make_folder.ensures.ok) synced.2
 
 pub returns-else-self-clause-closed : goal.returns-else-self-clause-closed
 returns-else-self-clause-closed g t c =
     let seen = g.T.FileTree.seen in
-    subst IsClosed (sym c.settle.ensures.stands)
+    subst IsClosed (sym c.sync_holder.ensures.stands)
     (closed_done (seen c.make_home.new.self.tree) (seen c.make_folder.new.self) (Made c.in-Some.home.now) c.in_ok-make_folder.ensures.can c.in_ok-make_folder.ensures.ok c.in_ok-make_home.ensures.closed)
 
 pub returns-else-self-clause-left : goal.returns-else-self-clause-left
@@ -86,12 +86,12 @@ returns-else-self-clause-left g t c =
     let asked = (seen c.has_folder.new.self).stands in
     let homed = (seen c.make_home.new.self.tree).stands in
     let made = (seen c.make_folder.new.self).stands in
-    let after = (seen c.settle.new.self.tree).stands in
+    let after = (seen c.sync_holder.new.self.tree).stands in
     let path = c.args.path.now in
     let first = widened_same before asked path (ap (λ (s : Seen). s.stands) c.in_ok-has_folder.ensures.ok) in
     let next = widened_above asked homed path c.in-Some.home.now c.in-Some.ensures.home c.in_ok-make_home.ensures.left in
     let third = widened_made homed made path c.in-Some.home.now c.in-Some.ensures.home c.in_ok-make_folder.ensures.can.0 (ap (λ (s : Seen). s.stands) c.in_ok-make_folder.ensures.ok) in
-    let last = widened_same made after path c.settle.ensures.stands in
+    let last = widened_same made after path c.sync_holder.ensures.stands in
     widened_then before asked after path first (widened_then asked homed after path next (widened_then homed made after path third last))
 
 pub returns-in_default-clause-stops : goal.returns-in_default-clause-stops
@@ -130,11 +130,11 @@ returns-then-self-clause-stops g t c =
     let seen = g.T.FileTree.seen in
     let s0 = seen c.args.self.now.tree in
     let above = homed s0 (seen c.has_folder.new.self) (seen c.make_home.new.self.tree) c.args.path.now c.in-Some.home.now c.in_ok-has_folder.ensures.ok c.in-Some.ensures.home c.in_ok-make_home.ensures.stops in
-    making s0 (seen c.make_home.new.self.tree) (seen c.make_folder.new.self) (seen c.settle.new.self.tree) c.args.path.now c.in-Some.home.now c.settle.new.self.is_sound c.in-Some.ensures.home above c.in_ok-make_folder.ensures.can c.in_ok-make_folder.ensures.ok c.settle.ensures.stands (c.settle.ensures.synced c.in_ok-make_home.ensures.still_sound)
+    making s0 (seen c.make_home.new.self.tree) (seen c.make_folder.new.self) (seen c.sync_holder.new.self.tree) c.args.path.now c.in-Some.home.now c.sync_holder.new.self.is_sound c.in-Some.ensures.home above c.in_ok-make_folder.ensures.can c.in_ok-make_folder.ensures.ok c.sync_holder.ensures.stands (c.sync_holder.ensures.synced c.in_ok-make_home.ensures.still_sound)
 
 pub returns-else-self-clause-stops : goal.returns-else-self-clause-stops
 returns-else-self-clause-stops g t c =
     let seen = g.T.FileTree.seen in
     let s0 = seen c.args.self.now.tree in
     let above = homed s0 (seen c.has_folder.new.self) (seen c.make_home.new.self.tree) c.args.path.now c.in-Some.home.now c.in_ok-has_folder.ensures.ok c.in-Some.ensures.home c.in_ok-make_home.ensures.stops in
-    making s0 (seen c.make_home.new.self.tree) (seen c.make_folder.new.self) (seen c.settle.new.self.tree) c.args.path.now c.in-Some.home.now c.settle.new.self.is_sound c.in-Some.ensures.home above c.in_ok-make_folder.ensures.can c.in_ok-make_folder.ensures.ok c.settle.ensures.stands (c.settle.ensures.synced c.in_ok-make_home.ensures.still_sound)
+    making s0 (seen c.make_home.new.self.tree) (seen c.make_folder.new.self) (seen c.sync_holder.new.self.tree) c.args.path.now c.in-Some.home.now c.sync_holder.new.self.is_sound c.in-Some.ensures.home above c.in_ok-make_folder.ensures.can c.in_ok-make_folder.ensures.ok c.sync_holder.ensures.stands (c.sync_holder.ensures.synced c.in_ok-make_home.ensures.still_sound)

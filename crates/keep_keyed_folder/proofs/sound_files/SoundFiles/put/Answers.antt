@@ -131,7 +131,7 @@ returns-clause-closed g c =
     let bytes = c.args.bytes.now in
     let tmp = c.args.tmp.now in
     let closed3 = closed_done s2 s3 (Wrote tmp bytes) c.in_ok-write_new.ensures.can c.in_ok-write_new.ensures.ok c.in_ok-make_home.ensures.closed in
-    subst IsClosed (sym c.settle.ensures.stands) (closed_done s3 s4 (Renamed tmp path) c.in_ok-rename.ensures.can c.in_ok-rename.ensures.ok closed3)
+    subst IsClosed (sym c.sync_holder.ensures.stands) (closed_done s3 s4 (Renamed tmp path) c.in_ok-rename.ensures.can c.in_ok-rename.ensures.ok closed3)
 
 pub returns-clause-left : goal.returns-clause-left
 returns-clause-left g c =
@@ -140,7 +140,7 @@ returns-clause-left g c =
     let s1 = seen c.remove.new.self in
     let s2 = seen c.make_home.new.self.tree in
     let s3 = seen c.write_new.new.self in
-    let s5 = seen c.settle.new.self.tree in
+    let s5 = seen c.sync_holder.new.self.tree in
     let path = c.args.path.now in
     let bytes = c.args.bytes.now in
     let tmp = c.args.tmp.now in
@@ -148,7 +148,7 @@ returns-clause-left g c =
     let left2 = left_then s0.stands s1.stands s2.stands path tmp left1 (left_widened s1.stands s2.stands path tmp c.in_ok-make_home.ensures.left) in
     let left3 = left_then s0.stands s2.stands s3.stands path tmp left2 (left_tmp s2.stands s3.stands path tmp (Some (File bytes)) (ap (λ (s : Seen). s.stands) c.in_ok-write_new.ensures.ok)) in
     let there : s3.stands tmp ≡ Some (File bytes) = ap (λ (s : Seen). s.stands tmp) c.in_ok-write_new.ensures.ok ∙ put_at-here s2.stands tmp (Some (File bytes)) in
-    put_ends s0.stands s3.stands s5.stands path bytes tmp c.requires.apart left3 there (c.settle.ensures.stands ∙ ap (λ (s : Seen). s.stands) c.in_ok-rename.ensures.ok)
+    put_ends s0.stands s3.stands s5.stands path bytes tmp c.requires.apart left3 there (c.sync_holder.ensures.stands ∙ ap (λ (s : Seen). s.stands) c.in_ok-rename.ensures.ok)
 
 pub returns-clause-order : goal.returns-clause-order
 returns-clause-order g c =
@@ -158,18 +158,18 @@ returns-clause-order g c =
     let s2 = seen c.make_home.new.self.tree in
     let s3 = seen c.write_new.new.self in
     let s4 = seen c.rename.new.self in
-    let s5 = seen c.settle.new.self.tree in
+    let s5 = seen c.sync_holder.new.self.tree in
     let path = c.args.path.now in
     let bytes = c.args.bytes.now in
     let tmp = c.args.tmp.now in
     let made = c.in_ok-make_home.ensures.order in
-    let synced = c.settle.ensures.synced c.in_ok-make_home.ensures.still_sound in
+    let synced = c.sync_holder.ensures.synced c.in_ok-make_home.ensures.still_sound in
     let acts = λ (s : Seen). s.acts in
     record {
       made = made.0;
       synced = synced.0;
       making = made.1;
-      settled = synced.1;
+      holders_synced = synced.1;
       acts = put_acts s0.acts s1.acts s2.acts s3.acts s4.acts s5.acts made.0 synced.0 (Removed tmp) (Wrote tmp bytes) (Renamed tmp path) (ap acts c.in_ok-remove.ensures.ok) made.2 (ap acts c.in_ok-write_new.ensures.ok) (ap acts c.in_ok-rename.ensures.ok) synced.2;
     }
 
@@ -240,7 +240,7 @@ returns-clause-stops g c =
     let s2 = seen c.make_home.new.self.tree in
     let s3 = seen c.write_new.new.self in
     let s4 = seen c.rename.new.self in
-    let s5 = seen c.settle.new.self.tree in
+    let s5 = seen c.sync_holder.new.self.tree in
     let path = c.args.path.now in
     let bytes = c.args.bytes.now in
     let tmp = c.args.tmp.now in
@@ -251,4 +251,4 @@ returns-clause-stops g c =
     let keeps1 = cleared s0 s1 path bytes tmp c.in_ok-remove.ensures.ok in
     let keeps2 = widened s0 s1 s2 path bytes tmp keeps1 left1 c.in_ok-make_home.ensures.stops in
     let keeps3 = written s0 s2 s3 path bytes tmp keeps2 left2 c.in_ok-write_new.ensures.ok in
-    named s0 s3 s4 s5 path bytes tmp c.settle.new.self.is_sound keeps3 c.requires.apart left3 there c.in_ok-rename.ensures.ok c.settle.ensures.stands (c.settle.ensures.synced c.in_ok-make_home.ensures.still_sound)
+    named s0 s3 s4 s5 path bytes tmp c.sync_holder.new.self.is_sound keeps3 c.requires.apart left3 there c.in_ok-rename.ensures.ok c.sync_holder.ensures.stands (c.sync_holder.ensures.synced c.in_ok-make_home.ensures.still_sound)

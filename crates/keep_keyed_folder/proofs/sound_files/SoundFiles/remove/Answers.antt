@@ -14,6 +14,6 @@ returns-clause-stops g c =
     let seen = g.T.FileTree.seen in
     let s0 = seen c.args.self.now.tree in
     let s1 = seen c.remove.new.self in
-    let s2 = seen c.settle.new.self.tree in
+    let s2 = seen c.sync_holder.new.self.tree in
     let path = c.args.path.now in
-    removed s0 s1 s2 path c.settle.new.self.is_sound c.in_ok-remove.ensures.ok c.settle.ensures.stands (c.settle.ensures.synced c.requires.sound)
+    removed s0 s1 s2 path c.sync_holder.new.self.is_sound c.in_ok-remove.ensures.ok c.sync_holder.ensures.stands (c.sync_holder.ensures.synced c.requires.sound)
