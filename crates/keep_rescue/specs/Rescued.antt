@@ -5,7 +5,7 @@ use Rattle.keep_sources.specs.Took.{TookAll, skip_view}
 use Rattle.keep_sources.specs.declared.scope.Scope.{Scope}
 use Rattle.keep_sources.specs.declared.skipped.Skipped.{Skipped}
 use Rattle.keep_targets.specs.Call.{Call}
-use Rattle.keep_rescue.specs.Salvage.{SalvageData, begun, lost_view, putting, step}
+use Rattle.keep_rescue.specs.Salvage.{SalvageData, begun, lost_view, putting, steps}
 use Rattle.keep_rescue.specs.Seen.{seen_by}
 use Rattle.keep_rescue.specs.declared.rescued.Rescued as the_rescued
 use Rattle.keep_rescue.specs.declared.salvage.Salvage.{Salvage}
@@ -28,7 +28,7 @@ pub record IsFinished {T : Type 0} (calls_of : T → List Call) (seen : SalvageD
 -- a walk over the old folder gave a rescue what it met, and this is named of it
 pub record IsTaken (told : Told) (job : Scope) (before now : SalvageData) (skips skipped : List Skipped) : Type 0 where
   pub met : List Skipped
-  pub took : TookAll told step job before now skips met
+  pub took : TookAll told steps job before now skips met
   pub named : map skip_view skipped ≡ map skip_view met
 
 -- all that is wanted of the old folder was given to a rescue that had done nothing yet

@@ -1,5 +1,5 @@
 -- What a rescue makes of what a walk gives it.
-use Rattle.std.specs.Prelude.{ℕ, ◌-◌, List, [], ◌∷◌, ◌++◌, codes, length, take, slice_get, string_bytes, is_ok, Option, None, Some, if◌then◌else◌}
+use Rattle.std.specs.Prelude.{ℕ, ◌≡◌, ◌-◌, List, [], ◌∷◌, ◌++◌, codes, length, take, slice_get, string_bytes, is_ok, Option, None, Some, if◌then◌else◌}
 use Rattle.std.specs.Str.{bytes_eq}
 use Rattle.sha2.specs.Sha256.{sha256}
 use Rattle.keep_docs.specs.Config.{config_of}
@@ -35,7 +35,7 @@ abbrev pub path_below : Option (List ℕ) → List ℕ → List ℕ
 path_below (Some folder) name = folder ++ (codes "/" ++ name)
 path_below None name = name
 
--- the same below the folder that was opened last
+-- the path of a name below the folder that was opened last
 abbrev pub path_in : List (List ℕ) → List ℕ → List ℕ
 path_in folders name = path_below (slice_get folders (length folders - 1)) name
 
@@ -93,3 +93,7 @@ step s (EndedFile name sight) = without_bytes (ending s (path_in s.folders name)
 step s DroppedFile = without_bytes s
 step s (GotSame name content sight) = s
 step s (GotOther name sight) = losing s (path_in s.folders name) NoFile
+
+-- that is just what comes of it
+abbrev pub steps : SalvageData → Given → SalvageData → Type 0
+steps s given now = now ≡ step s given

@@ -72,7 +72,7 @@ impl<T: Target> Salvage<T> {
     }
 
     /// Makes what ended here anew, if it is whole.
-    fn settle(&mut self, path: String) -> Result<(), Stop>
+    fn finish_file(&mut self, path: String) -> Result<(), Stop>
         ensures { OnOk result (seen_by T.calls self.new
             ≡ spec.ending (seen_by T.calls self.old) (string_bytes path)) }
     {
@@ -112,14 +112,14 @@ impl<T: Target> Salvage<T> {
 }
 
 impl<T: Target> Receives for Salvage<T> {
-    ghost use Rattle.keep_rescue.specs.Salvage.{SalvageData, step};
+    ghost use Rattle.keep_rescue.specs.Salvage.{SalvageData, steps};
     ghost use Rattle.keep_rescue.specs.Seen.{seen_by};
 
     ghost Seen = { SalvageData };
 
     ghost seen = { seen_by T.calls };
 
-    ghost after = { step };
+    ghost gives = { steps };
 
     // A file is held until it ends, whatever its size.
     ghost holds = { λ _. 0 };
@@ -129,7 +129,7 @@ impl<T: Target> Receives for Salvage<T> {
         self.make_folder(path)
     }
 
-    fn close_folder(&mut self, _sight: &Stat) -> Result<(), Stop> {
+    fn close_folder(&mut self, _stat: &Stat) -> Result<(), Stop> {
         let _closed = self.folders.pop();
         Ok(())
     }
@@ -139,9 +139,9 @@ impl<T: Target> Receives for Salvage<T> {
         Ok(())
     }
 
-    fn end_file(&mut self, name: &str, _sight: &Stat) -> Result<(), Stop> {
+    fn end_file(&mut self, name: &str, _stat: &Stat) -> Result<(), Stop> {
         let path = path_below(self.alloc, &self.folders, name)?;
-        self.settle(path)?;
+        self.finish_file(path)?;
         self.bytes.clear();
         Ok(())
     }
@@ -151,11 +151,11 @@ impl<T: Target> Receives for Salvage<T> {
         Ok(())
     }
 
-    fn same_file(&mut self, _name: &str, _content: &[Id], _sight: &Stat) -> Result<(), Stop> {
+    fn same_file(&mut self, _name: &str, _content: &[Id], _stat: &Stat) -> Result<(), Stop> {
         Ok(())
     }
 
-    fn add_other(&mut self, name: &str, _sight: &Stat) -> Result<(), Stop> {
+    fn add_other(&mut self, name: &str, _stat: &Stat) -> Result<(), Stop> {
         let path = path_below(self.alloc, &self.folders, name)?;
         self.lose(path, Loss::NoFile)
     }
