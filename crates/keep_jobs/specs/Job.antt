@@ -18,7 +18,7 @@ use Rattle.keep_plan.specs.declared.plan_error.PlanError.{PlanError}
 use Rattle.keep_plan.specs.declared.plan_error.PlanError.TheVariants.{BadPattern}
 use Rattle.keep_repo.specs.Repository.{Repository}
 use Rattle.keep_rewrite.specs.Rewriting.{rewrite_change}
-use Rattle.keep_tree.specs.Parsing.{PatternData}
+use Rattle.keep_patterns.specs.Parsing.{PatternData}
 use Rattle.keep_upkeep.specs.Mark.{mark_change}
 use Rattle.keep_upkeep.specs.Repair.{repair_change}
 use Rattle.keep_upkeep.specs.Sweep.{sweep_change}

@@ -44,7 +44,7 @@ pub enum Task {
     Rewrite {
         /// Whether the old ones go.
         forget: bool,
-        /// As [`keep_tree::parse_pattern`] reads them.
+        /// As [`keep_patterns::parse_pattern`] reads them.
         patterns: Vec<String>,
     },
 }

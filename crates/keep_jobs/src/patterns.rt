@@ -2,10 +2,10 @@ ghost use Rattle.std.specs.Prelude.{map, ok_or, string_bytes};
 ghost use Rattle.keep_docs.specs.Doc.{Answers};
 ghost use Rattle.keep_jobs.specs.Patterns.{patterns_in};
 ghost use Rattle.keep_plan.specs.declared.plan_error.PlanError.TheVariants.{BadPattern, Memory};
-ghost use Rattle.keep_tree.specs.Parsing.{pattern_of, pattern_view};
+ghost use Rattle.keep_patterns.specs.Parsing.{pattern_of, pattern_view};
 
+use keep_patterns::{Pattern, PatternError, parse_pattern};
 use keep_plan::PlanError;
-use keep_tree::{Pattern, PatternError, parse_pattern};
 use std::alloc::Global;
 
 /// The patterns that the texts spell, if each spells one.

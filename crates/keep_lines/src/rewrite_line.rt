@@ -12,7 +12,7 @@ pub struct RewriteLine {
     pub filter: String,
     /// Whether the old snapshots go.
     pub forget: bool,
-    /// As [`keep_tree::parse_pattern`] reads them.
+    /// As [`keep_patterns::parse_pattern`] reads them.
     pub patterns: Vec<String>,
 }
 

@@ -6,8 +6,9 @@ use keep_nodes::{
     Difference, Lengths, PathNode, differences, matched, node_at, nodes_below, nodes_of, piece,
     whole_nodes_of,
 };
+use keep_patterns::parse_pattern;
 use keep_read::RestoreError;
-use keep_tree::{NodeKind, parse_pattern};
+use keep_tree::NodeKind;
 use std::alloc::AllocError;
 use std::fmt::Write;
 

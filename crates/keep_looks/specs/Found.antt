@@ -6,7 +6,7 @@ use Rattle.keep_names.specs.declared.id.Id.{Id}
 use Rattle.keep_docs.specs.Fields.{id_data}
 use Rattle.keep_repo.specs.Repository.{Repository}
 use Rattle.keep_journal.specs.Journal.{Journal}
-use Rattle.keep_tree.specs.Parsing.{PatternData}
+use Rattle.keep_patterns.specs.Parsing.{PatternData}
 use Rattle.keep_nodes.specs.Choosing.{matched}
 use Rattle.keep_nodes.specs.Entries.{EntryData}
 use Rattle.keep_named.specs.declared.listed_snapshot.ListedSnapshot.{ListedSnapshot}

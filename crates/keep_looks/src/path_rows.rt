@@ -1,7 +1,7 @@
 ghost use Rattle.std.specs.Prelude.{◌≡◌, ◌++◌, IfOk, OnOk, map};
 ghost use Rattle.keep_nodes.specs.Choosing.{lent_view};
 ghost use Rattle.keep_nodes.specs.Entries.{entry_view};
-ghost use Rattle.keep_tree.specs.Parsing.{pattern_view};
+ghost use Rattle.keep_patterns.specs.Parsing.{pattern_view};
 ghost use Rattle.keep_looks.specs.Found.{AreFound, AreRowsFound, path_data, path_of, paths_in};
 
 use crate::found_row::FoundRow;
@@ -11,7 +11,7 @@ use keep_journal::History;
 use keep_named::{ListedSnapshot, snapshots_of};
 use keep_names::Id;
 use keep_nodes::{PathNode, matched};
-use keep_tree::Pattern;
+use keep_patterns::Pattern;
 use keep_view::View;
 use std::alloc::{AllocError, Global};
 use std::slice;

@@ -2,8 +2,8 @@
 use Rattle.std.specs.Prelude.{ℕ, ◌==◌, Bool, ◌||◌, List, ◌++◌, map, filter, Option, codes}
 use Rattle.std.specs.List.{find, slice_split, starts_with}
 use Rattle.std.specs.Str.{bytes_eq, chars}
-use Rattle.keep_tree.specs.Parsing.{PatternData, after_slash, before_slash, is_slash}
-use Rattle.keep_tree.specs.Without.{is_matched}
+use Rattle.keep_patterns.specs.Parsing.{PatternData, after_slash, before_slash, is_slash}
+use Rattle.keep_patterns.specs.Without.{is_matched}
 use Rattle.keep_nodes.specs.Entries.{EntryData, entry_view}
 use Rattle.keep_nodes.specs.declared.path_node.PathNode.{PathNode}
 use denote.Ref.{Bor}

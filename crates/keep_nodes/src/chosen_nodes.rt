@@ -1,15 +1,15 @@
 ghost use Rattle.std.specs.Prelude.{◌≡◌, ◌||◌, ◌++◌, IfOk, map, option_map, codes};
 ghost use Rattle.std.specs.List.{slice_split};
 ghost use Rattle.std.specs.Str.{chars};
-ghost use Rattle.keep_tree.specs.Parsing.{pattern_view};
-ghost use Rattle.keep_tree.specs.Parsing as parsing;
-ghost use Rattle.keep_tree.specs.Without as without;
+ghost use Rattle.keep_patterns.specs.Parsing.{pattern_view};
+ghost use Rattle.keep_patterns.specs.Parsing as parsing;
+ghost use Rattle.keep_patterns.specs.Without as without;
 ghost use Rattle.keep_nodes.specs.Choosing as spec;
 ghost use Rattle.keep_nodes.specs.Choosing.{lent_view, names_in};
 ghost use Rattle.keep_nodes.specs.Entries.{entry_view};
 
 use crate::path_node::PathNode;
-use keep_tree::{Letters, Pattern, letters_of, matches_path};
+use keep_patterns::{Letters, Pattern, letters_of, matches_path};
 use std::alloc::{AllocError, Global};
 
 /// The node at just this path. Two nodes of a snapshot have two paths.

@@ -11,7 +11,8 @@ ghost use Rattle.keep_nodes.specs.Lent.{difference_view, paths_of};
 use crate::PathNode;
 use crate::by_path::{ByPath, by_path, node_at, put_all};
 use crate::difference::Difference;
-use keep_tree::{Tree, without, write_tree};
+use keep_patterns::without;
+use keep_tree::{Tree, write_tree};
 use std::alloc::{AllocError, Global};
 use std::slice;
 

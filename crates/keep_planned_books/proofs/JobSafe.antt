@@ -9,7 +9,7 @@ use Rattle.keep_names.specs.Orders.{blob_cmp}
 use Rattle.keep_names.specs.declared.blob.BlobId.{BlobId}
 use Rattle.keep_names.specs.declared.id.Id.{Id}
 use Rattle.keep_repo.specs.Repository.{Repository}
-use Rattle.keep_tree.specs.Parsing.{PatternData}
+use Rattle.keep_patterns.specs.Parsing.{PatternData}
 use Rattle.keep_change.specs.declared.change.Change.{Change}
 use Rattle.keep_plan.specs.declared.pick.Pick.{Pick}
 use Rattle.keep_catalog.specs.Orders.{blob_eq}

@@ -2,8 +2,9 @@ use keep_docs::{ConfigError, DocError};
 use keep_index::IndexError;
 use keep_names::BadId;
 use keep_pack::PackError;
+use keep_patterns::PatternError;
 use keep_snap::SnapError;
-use keep_tree::{PatternError, TreeError};
+use keep_tree::TreeError;
 use std::alloc::{AllocError, AllocFailed};
 use std::fmt;
 

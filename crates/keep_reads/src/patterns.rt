@@ -1,6 +1,7 @@
 use crate::byte_words::{cut_part, names_in, texts_in};
 use crate::no_reading::No;
-use keep_tree::{Letters, Node, Pattern, Rests, letters_of, matches_path, parse_pattern};
+use keep_patterns::{Letters, Pattern, Rests, letters_of, matches_path, parse_pattern};
+use keep_tree::Node;
 use std::alloc::{AllocError, Global};
 
 /// From where a pattern matches, and how many components it has.
@@ -60,7 +61,7 @@ pub(crate) fn without(alloc: Global, text: &str) -> Result<String, No> {
     let patterns = patterns_of(alloc, pattern)?;
     let path = texts_in(alloc, &names_in(alloc, path)?)?;
     let nodes = files_in(alloc, names)?;
-    let left = keep_tree::without(alloc, &nodes, &path, &patterns)?;
+    let left = keep_patterns::without(alloc, &nodes, &path, &patterns)?;
     Ok(names_of(alloc, &left)?)
 }
 

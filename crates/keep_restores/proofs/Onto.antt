@@ -6,7 +6,7 @@ use Rattle.keep_nodes.specs.Choosing.{names_in}
 use Rattle.keep_nodes.specs.Entries.{EntryData, entry_view}
 use Rattle.keep_nodes.specs.declared.path_node.PathNode.{PathNode}
 use Rattle.keep_restores.specs.Choosing.{chosen_before, chosen_onto, first, is_within, leads_to}
-use Rattle.keep_tree.specs.Parsing.{PatternData}
+use Rattle.keep_patterns.specs.Parsing.{PatternData}
 
 onto_last : (patterns : List PatternData) (entries : List EntryData) (last : EntryData) (behind : List EntryData)
     → chosen_onto patterns (entries ++ last ∷ []) behind ≡ chosen_onto patterns entries (chosen_before patterns last behind)

@@ -4,8 +4,8 @@ use Rattle.std.specs.List.{starts_with}
 use Rattle.std.specs.Str.{chars}
 use Rattle.keep_nodes.specs.Choosing.{names_in}
 use Rattle.keep_nodes.specs.Entries.{EntryData}
-use Rattle.keep_tree.specs.Parsing.{PatternData}
-use Rattle.keep_tree.specs.Without.{is_matched}
+use Rattle.keep_patterns.specs.Parsing.{PatternData}
+use Rattle.keep_patterns.specs.Without.{is_matched}
 
 -- whether one of the patterns matches so many first ones of these names, or fewer
 abbrev pub matches_first : List PatternData → List (List ℕ) → ℕ → Bool

@@ -15,7 +15,7 @@ use Rattle.keep_repo.specs.Repository.{Repository}
 use Rattle.keep_restores.specs.Choosing.{included}
 use Rattle.keep_targets.specs.Call.{Call}
 use Rattle.keep_targets.specs.declared.attributes.Owner.{Owner}
-use Rattle.keep_tree.specs.Parsing.{PatternData}
+use Rattle.keep_patterns.specs.Parsing.{PatternData}
 use Rattle.keep_restores.specs.Wanted.{IsWantedOf}
 
 -- the bytes of each piece at its chosen place

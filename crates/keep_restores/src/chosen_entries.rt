@@ -1,15 +1,15 @@
 ghost use Rattle.std.specs.Prelude.{◌≡◌, ◌||◌, [], IfOk, length, map, option_map, reverse, string_bytes};
 ghost use Rattle.std.specs.Str.{chars};
-ghost use Rattle.keep_tree.specs.Parsing as parsing;
-ghost use Rattle.keep_tree.specs.Parsing.{pattern_view};
-ghost use Rattle.keep_tree.specs.Without as without;
+ghost use Rattle.keep_patterns.specs.Parsing as parsing;
+ghost use Rattle.keep_patterns.specs.Parsing.{pattern_view};
+ghost use Rattle.keep_patterns.specs.Without as without;
 ghost use Rattle.keep_nodes.specs.Choosing.{lent_view, names_in};
 ghost use Rattle.keep_nodes.specs.Entries.{entry_view};
 ghost use Rattle.keep_restores.specs.Choosing as spec;
 ghost use Rattle.keep_restores.specs.Choosing.{chosen_onto, included};
 
 use keep_nodes::PathNode;
-use keep_tree::{Letters, Pattern, letters_of, matches_path};
+use keep_patterns::{Letters, Pattern, letters_of, matches_path};
 use std::alloc::{AllocError, Global};
 
 /// What is to be put back of the nodes of a snapshot, in their order: without patterns all of them. Else the nodes that

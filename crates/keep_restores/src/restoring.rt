@@ -7,7 +7,7 @@ ghost use Rattle.keep_read.specs.declared.restore_error.RestoreError as the_refu
 ghost use Rattle.keep_read.specs.declared.restore_error.RestoreError.TheVariants.{Reach};
 ghost use Rattle.keep_restores.specs.Restoring.{IsPutBack};
 ghost use Rattle.keep_restores.specs.declared.not_restored.NotRestored.TheVariants.{Put, Snapshot};
-ghost use Rattle.keep_tree.specs.Parsing.{pattern_view};
+ghost use Rattle.keep_patterns.specs.Parsing.{pattern_view};
 
 use crate::chosen_entries::chosen;
 use crate::not_restored::NotRestored;
@@ -15,9 +15,9 @@ use crate::stored_pieces::Stored;
 use crate::wanting::wanted_for;
 use keep_names::Id;
 use keep_nodes::whole_nodes_of;
+use keep_patterns::Pattern;
 use keep_putting::{Restored, put_back};
 use keep_targets::{Owner, Target};
-use keep_tree::Pattern;
 use keep_view::View;
 use std::alloc::Global;
 

@@ -7,11 +7,11 @@ use Rattle.std.specs.Str.{chars}
 use Rattle.keep_names.specs.BlobId.{tree_at}
 use Rattle.keep_names.specs.declared.id.Id.{Id}
 use Rattle.keep_repo.specs.Repository.{Repository}
-use Rattle.keep_tree.proofs.Decided.{left_decides, left_decides_matched}
-use Rattle.keep_tree.specs.Parsing.{PatternData}
-use Rattle.keep_tree.specs.Rests.{left_at}
 use Rattle.keep_tree.specs.Tree.{KindData, dir, file, other, NodeData}
-use Rattle.keep_tree.specs.Without.{is_matched, without}
+use Rattle.keep_patterns.proofs.Decided.{left_decides, left_decides_matched}
+use Rattle.keep_patterns.specs.Parsing.{PatternData}
+use Rattle.keep_patterns.specs.Rests.{left_at}
+use Rattle.keep_patterns.specs.Without.{is_matched, without}
 use Rattle.keep_catalog.specs.Naming.{named_by, named_in}
 use Rattle.keep_reach.specs.Reach.{first_of, refusal_at}
 use Rattle.keep_build.specs.Blobs.{BlobData, id_of, tree_blob}

@@ -18,11 +18,11 @@ use Rattle.keep_docs.specs.Fields.{others}
 use Rattle.keep_repo.specs.Repository.{Repository}
 use Rattle.keep_tree.proofs.Inverse.{IsTree-tree_of}
 use Rattle.keep_tree.specs.Names.{are_distinct}
-use Rattle.keep_tree.specs.Parsing.{PatternData}
 use Rattle.keep_tree.specs.Shape.{IsKind, IsNode, IsTree}
 use Rattle.keep_tree.specs.Tree.{KindData, dir, file, other, NodeData, names_of, own_keys}
-use Rattle.keep_tree.specs.Without.{without}
 use Rattle.keep_tree.specs.declared.tree.TreeError.{TreeError}
+use Rattle.keep_patterns.specs.Parsing.{PatternData}
+use Rattle.keep_patterns.specs.Without.{without}
 use Rattle.keep_catalog.specs.Naming.{nodes_chosen, nodes_read, nodes_under, read_tree_of}
 use Rattle.keep_catalog.specs.Places.{bytes_at, chosen_listing}
 use Rattle.keep_catalog.specs.declared.reach_error.ReachError.TheVariants.{BadTree}

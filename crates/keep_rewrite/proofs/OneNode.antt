@@ -4,11 +4,11 @@ use Rattle.std.proofs.lemmas.List.{append-nil}
 use Rattle.std.specs.List.{flat_map}
 use Rattle.std.specs.Str.{chars}
 use Rattle.keep_names.specs.declared.id.Id.{Id}
-use Rattle.keep_tree.specs.Parsing.{PatternData}
-use Rattle.keep_tree.specs.Rests.{left_at}
 use Rattle.keep_tree.specs.Tree.{NodeData}
-use Rattle.keep_tree.specs.Without.{is_matched}
-use Rattle.keep_tree.specs.declared.rest.Rest.{Rest}
+use Rattle.keep_patterns.specs.Parsing.{PatternData}
+use Rattle.keep_patterns.specs.Rests.{left_at}
+use Rattle.keep_patterns.specs.Without.{is_matched}
+use Rattle.keep_patterns.specs.declared.rest.Rest.{Rest}
 use Rattle.keep_catalog.specs.declared.reach_error.ReachError.{ReachError}
 use Rattle.keep_catalog.specs.declared.reach_error.ReachError.TheVariants as reach
 use Rattle.keep_plan.specs.Refusal.{of_reach}

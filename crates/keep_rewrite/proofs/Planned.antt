@@ -6,8 +6,8 @@ use Rattle.std.specs.List.Sorted.{IsStrictlySortedBy}
 use Rattle.keep_names.specs.Orders.{id_cmp}
 use Rattle.keep_names.specs.declared.id.Id.{Id}
 use Rattle.keep_repo.specs.Repository.{Repository, held}
-use Rattle.keep_tree.specs.Matching.{is_nil}
-use Rattle.keep_tree.specs.Parsing.{PatternData}
+use Rattle.keep_patterns.specs.Matching.{is_nil}
+use Rattle.keep_patterns.specs.Parsing.{PatternData}
 use Rattle.keep_snap.specs.Facts.{FactsData}
 use Rattle.keep_snap.specs.Snap.{SnapData}
 use Rattle.keep_change.specs.Change.{is_met}

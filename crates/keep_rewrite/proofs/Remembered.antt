@@ -13,10 +13,10 @@ use Rattle.keep_names.specs.Orders.{id_cmp}
 use Rattle.keep_names.specs.declared.blob.BlobType.{BlobType}
 use Rattle.keep_names.specs.declared.id.Id.{Id}
 use Rattle.keep_repo.specs.Repository.{Repository}
-use Rattle.keep_tree.proofs.Apart.{rests_apart}
-use Rattle.keep_tree.specs.Parsing.{PatternData}
-use Rattle.keep_tree.specs.RestOrder.{rests_cmp}
-use Rattle.keep_tree.specs.declared.rest.Rest.{Rest}
+use Rattle.keep_patterns.proofs.Apart.{rests_apart}
+use Rattle.keep_patterns.specs.Parsing.{PatternData}
+use Rattle.keep_patterns.specs.RestOrder.{rests_cmp}
+use Rattle.keep_patterns.specs.declared.rest.Rest.{Rest}
 use Rattle.keep_catalog.specs.Naming.{named_by}
 use Rattle.keep_reach.specs.Reach.{refusal_at}
 use Rattle.keep_build.specs.Blobs.{BlobData}

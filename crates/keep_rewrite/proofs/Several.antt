@@ -3,7 +3,7 @@ use Rattle.std.proofs.Common.{◌≡◌, Bool, true, false, cond, List, [], ◌�
 use Rattle.std.proofs.lemmas.List.{append-nil}
 use Rattle.std.specs.List.{flat_map}
 use Rattle.keep_repo.specs.Repository.{Repository}
-use Rattle.keep_tree.specs.Parsing.{PatternData}
+use Rattle.keep_patterns.specs.Parsing.{PatternData}
 use Rattle.keep_snap.specs.Facts.{FactsData}
 use Rattle.keep_reach.specs.Reach.{most_levels}
 use Rattle.keep_build.specs.Blobs.{BlobData}

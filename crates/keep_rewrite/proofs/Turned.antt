@@ -6,10 +6,10 @@ use Rattle.std.proofs.lemmas.Grind.{flat_map-append}
 use Rattle.std.specs.List.{flat_map, list_any}
 use Rattle.keep_names.specs.declared.id.Id.{Id}
 use Rattle.keep_repo.specs.Repository.{Repository}
-use Rattle.keep_tree.specs.Parsing.{PatternData}
 use Rattle.keep_tree.specs.Tree.{NodeData}
-use Rattle.keep_tree.specs.Without.{without}
-use Rattle.keep_tree.specs.declared.rest.Rest.{Rest}
+use Rattle.keep_patterns.specs.Parsing.{PatternData}
+use Rattle.keep_patterns.specs.Without.{without}
+use Rattle.keep_patterns.specs.declared.rest.Rest.{Rest}
 use Rattle.keep_build.specs.Blobs.{BlobData, id_of, tree_blob}
 use Rattle.keep_rewrite.specs.Finishing.{Finishes}
 use Rattle.keep_rewrite.specs.Leaving.{Path, finished, goes, kind_finished, loses, node_left, node_loses, nodes_finished, nodes_in, nodes_left, path_below, tree_left}

@@ -5,9 +5,9 @@ use Rattle.std.specs.Result.{result_ok}
 use Rattle.std.specs.Str.{chars}
 use Rattle.keep_names.specs.declared.id.Id.{Id}
 use Rattle.keep_repo.specs.Repository.{Repository}
-use Rattle.keep_tree.specs.Parsing.{PatternData}
 use Rattle.keep_tree.specs.Tree.{KindData, dir, file, other, NodeData}
-use Rattle.keep_tree.specs.Without.{is_matched, without}
+use Rattle.keep_patterns.specs.Parsing.{PatternData}
+use Rattle.keep_patterns.specs.Without.{is_matched, without}
 use Rattle.keep_catalog.specs.Naming.{nodes_under}
 use Rattle.keep_build.specs.Blobs.{BlobData, id_of, tree_blob}
 

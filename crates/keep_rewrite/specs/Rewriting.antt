@@ -8,8 +8,8 @@ use Rattle.keep_names.specs.declared.file_name.FileName.{FileName}
 use Rattle.keep_names.specs.declared.file_name.Kind.TheVariants.{Snapshot}
 use Rattle.keep_names.specs.declared.id.Id.{Id}
 use Rattle.keep_repo.specs.Repository.{Repository}
-use Rattle.keep_tree.specs.Matching.{is_nil}
-use Rattle.keep_tree.specs.Parsing.{PatternData}
+use Rattle.keep_patterns.specs.Matching.{is_nil}
+use Rattle.keep_patterns.specs.Parsing.{PatternData}
 use Rattle.keep_snap.specs.Facts.{FactsData}
 use Rattle.keep_snap.specs.Relabel.{retreed}
 use Rattle.keep_snap.specs.Snap.{SnapData}

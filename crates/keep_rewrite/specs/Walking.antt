@@ -9,10 +9,10 @@ use Rattle.keep_names.specs.BlobId.{tree_at}
 use Rattle.keep_names.specs.Orders.{id_cmp}
 use Rattle.keep_names.specs.declared.id.Id.{Id}
 use Rattle.keep_repo.specs.Repository.{Repository}
-use Rattle.keep_tree.specs.Parsing.{PatternData}
-use Rattle.keep_tree.specs.RestOrder.{rests_cmp}
-use Rattle.keep_tree.specs.Rests.{left_at}
-use Rattle.keep_tree.specs.declared.rest.Rest.{Rest}
+use Rattle.keep_patterns.specs.Parsing.{PatternData}
+use Rattle.keep_patterns.specs.RestOrder.{rests_cmp}
+use Rattle.keep_patterns.specs.Rests.{left_at}
+use Rattle.keep_patterns.specs.declared.rest.Rest.{Rest}
 use Rattle.keep_snap.specs.Facts.{FactsData}
 use Rattle.keep_catalog.specs.Naming.{named_by}
 use Rattle.keep_reach.specs.Reach.{refusal_at}

@@ -1,5 +1,5 @@
 use keep_names::{BlobType, Id};
-use keep_tree::Rests;
+use keep_patterns::Rests;
 use std::collections::BTreeMap;
 
 /// What is left of a tree.

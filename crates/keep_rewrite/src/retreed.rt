@@ -1,7 +1,7 @@
 ghost use Rattle.std.specs.Prelude.{◌≡◌, ◌++◌, [], ◌∷◌, None, map, IfErr, IfOk, OnOk};
 ghost use Rattle.keep_names.specs.BlobId.{tree_at};
 ghost use Rattle.keep_reach.specs.Snapshots.{refusal_from};
-ghost use Rattle.keep_tree.specs.Parsing.{pattern_view};
+ghost use Rattle.keep_patterns.specs.Parsing.{pattern_view};
 ghost use Rattle.keep_snap.specs.Facts.{facts_view};
 ghost use Rattle.keep_plan.specs.declared.plan_error.PlanError.TheVariants.{Memory};
 ghost use Rattle.keep_build.specs.Storing.{given};
@@ -12,10 +12,10 @@ ghost use Rattle.keep_rewrite.specs.Walking.{AreReached, IsRight, trees_of};
 use crate::left::Walked;
 use crate::rewrite_walk::Walk;
 use keep_names::{BlobType, Id};
+use keep_patterns::Rests;
 use keep_plan::PlanError;
 use keep_reach::levels;
 use keep_snap::SnapFacts;
-use keep_tree::Rests;
 use std::collections::BTreeMap;
 
 /// The names of the snapshots from which something goes, with the trees that are left, and the trees that are written

@@ -4,7 +4,7 @@ ghost use Rattle.keep_change.specs.Change.{is_met};
 ghost use Rattle.keep_change.specs.Form.{IsWellFormed};
 ghost use Rattle.keep_change.specs.declared.change.Change as the_change;
 ghost use Rattle.keep_plan.specs.declared.pick.Pick as the_pick;
-ghost use Rattle.keep_tree.specs.Parsing.{PatternData};
+ghost use Rattle.keep_patterns.specs.Parsing.{PatternData};
 ghost use Rattle.keep_rewrite.specs.Rewriting.{rewrite_change};
 
 /// The change of a rewrite can be committed: it is well formed, and the repository that it was planned on meets it.

@@ -3,9 +3,9 @@ ghost use Rattle.serde_json.specs.Written.{has_float};
 ghost use Rattle.keep_names.specs.BlobId.{tree_at};
 ghost use Rattle.keep_catalog.specs.Naming.{named_by, named_of};
 ghost use Rattle.keep_reach.specs.Reach.{first_of, refusal_at};
-ghost use Rattle.keep_tree.specs.Parsing.{pattern_view};
 ghost use Rattle.keep_tree.specs.Tree.{dir, node_view};
 ghost use Rattle.keep_tree.specs.Written.{tree_data};
+ghost use Rattle.keep_patterns.specs.Parsing.{pattern_view};
 ghost use Rattle.keep_build.specs.Blobs.{id_of, tree_blob};
 ghost use Rattle.keep_plan.specs.declared.plan_error.PlanError.TheVariants.{Memory};
 ghost use Rattle.keep_rewrite.specs.Finishing.{Finishes};
@@ -15,8 +15,9 @@ ghost use Rattle.keep_rewrite.specs.Walking.{IsLeft, IsRight, Leaves, trees_of};
 use crate::left::{Left, Walked};
 use keep_catalog::Catalog;
 use keep_names::{BlobType, Id, id_of};
+use keep_patterns::{Pattern, Rests, letters_of};
 use keep_plan::PlanError;
-use keep_tree::{Node, NodeKind, Pattern, Rests, Tree, letters_of, write_tree};
+use keep_tree::{Node, NodeKind, Tree, write_tree};
 use std::alloc::{AllocError, Global};
 
 /// A walk over the trees of a catalog that asks what goes by the patterns.

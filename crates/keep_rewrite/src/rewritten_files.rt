@@ -1,6 +1,6 @@
 ghost use Rattle.std.specs.Prelude.{◌≡◌, ◌++◌, [], ◌∷◌, map, Err, IfOk, Ok, OnOk, option_to_list, if◌then◌else◌};
 ghost use Rattle.keep_docs.specs.Doc.{Answers};
-ghost use Rattle.keep_tree.specs.Matching.{is_nil};
+ghost use Rattle.keep_patterns.specs.Matching.{is_nil};
 ghost use Rattle.keep_snap.specs.Snap.{snap_view};
 ghost use Rattle.keep_snap.specs.Written.{IsCarried};
 ghost use Rattle.keep_plan.specs.Storing.{absent_files, is_any_taken};

@@ -4,8 +4,8 @@ use keep_book::Book;
 use keep_looks::{NamedAdvice, snapshot_named};
 use keep_named::NamedError;
 use keep_names::Id;
+use keep_patterns::{Pattern, PatternError, parse_pattern};
 use keep_shelf::Shelf;
-use keep_tree::{Pattern, PatternError, parse_pattern};
 
 /// The snapshot that the text means: a first part of its id, `latest`, or `@N`.
 pub fn meant<S: Shelf>(run: &Run<'_>, book: &Book<S>, text: &str) -> Result<Id, Failure> {

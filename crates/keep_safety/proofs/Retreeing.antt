@@ -5,10 +5,10 @@ use Rattle.keep_names.specs.BlobId.{tree_at}
 use Rattle.keep_names.specs.declared.blob.BlobId.{BlobId}
 use Rattle.keep_names.specs.declared.id.Id.{Id}
 use Rattle.keep_repo.specs.Repository.{Repository}
-use Rattle.keep_tree.specs.Parsing.{PatternData}
 use Rattle.keep_tree.specs.Shape.{IsTree}
 use Rattle.keep_tree.specs.Tree.{KindData, dir, file, other, NodeData}
-use Rattle.keep_tree.specs.Without.{without}
+use Rattle.keep_patterns.specs.Parsing.{PatternData}
+use Rattle.keep_patterns.specs.Without.{without}
 use Rattle.keep_change.specs.declared.change.Change.{Change}
 use Rattle.keep_catalog.specs.Naming.{named_by, named_in, named_of}
 use Rattle.keep_reach.specs.Reach.{HasBlob, Names, first_of, refusal_at}

@@ -26,7 +26,7 @@ use Rattle.keep_snap.specs.Relabel.{retreed}
 use Rattle.keep_snap.specs.Shape.{IsSnap}
 use Rattle.keep_snap.specs.Snap as reading
 use Rattle.keep_snap.specs.Snap.{SnapData}
-use Rattle.keep_tree.specs.Parsing.{PatternData}
+use Rattle.keep_patterns.specs.Parsing.{PatternData}
 use Rattle.keep_change.specs.Filling.{has_name}
 use Rattle.keep_change.specs.Lists.{file_names}
 use Rattle.keep_change.specs.NamedBytes.{NamedBytes}

@@ -1,6 +1,6 @@
 use keep_names::BadId;
+use keep_patterns::PatternError;
 use keep_sources::Stop;
-use keep_tree::PatternError;
 use std::alloc::{AllocError, AllocFailed};
 use std::fmt;
 

@@ -5,8 +5,8 @@ use crate::source_entry::Entry;
 use crate::source_events::Events;
 use crate::source_words::{number_in, text_of, words_in};
 use keep_names::parse_id;
+use keep_patterns::parse_pattern;
 use keep_sources::{Known, Moment, Scope, StatKind, Taking};
-use keep_tree::parse_pattern;
 use std::alloc::Global;
 use std::collections::BTreeMap;
 

@@ -2,8 +2,8 @@
 use Rattle.std.specs.Prelude.{ℕ, Bool, List, map}
 use Rattle.std.specs.List.{slice_split}
 use Rattle.std.specs.Str.{chars}
-use Rattle.keep_tree.specs.Parsing.{PatternData, is_slash}
-use Rattle.keep_tree.specs.Without.{is_matched}
+use Rattle.keep_patterns.specs.Parsing.{PatternData, is_slash}
+use Rattle.keep_patterns.specs.Without.{is_matched}
 
 -- whether one of the patterns matches the path, whose names are what stands between its slashes
 abbrev pub is_excluded : List PatternData → List ℕ → Bool

@@ -4,7 +4,7 @@ use Rattle.std.specs.BTreeMap.{get_by_text}
 use Rattle.std.specs.List.{list_any}
 use Rattle.std.specs.Str.{bytes_eq}
 use Rattle.keep_names.specs.declared.id.Id.{Id}
-use Rattle.keep_tree.specs.Parsing.{PatternData, pattern_view}
+use Rattle.keep_patterns.specs.Parsing.{PatternData, pattern_view}
 use Rattle.keep_sources.specs.Excluding.{is_excluded}
 use Rattle.keep_sources.specs.declared.scope.Scope.{Scope}
 use Rattle.keep_sources.specs.declared.scope.Known.{Known}

@@ -2,10 +2,10 @@ ghost use Rattle.std.specs.Prelude.{◌≡◌, IfOk, map, false};
 ghost use Rattle.std.specs.List.{slice_split};
 ghost use Rattle.std.specs.Str.{chars};
 ghost use Rattle.keep_sources.specs.Excluding as spec;
-ghost use Rattle.keep_tree.specs.Parsing.{is_slash, pattern_view};
-ghost use Rattle.keep_tree.specs.Without.{is_matched};
+ghost use Rattle.keep_patterns.specs.Parsing.{is_slash, pattern_view};
+ghost use Rattle.keep_patterns.specs.Without.{is_matched};
 
-use keep_tree::{Letters, Pattern, letters_of, matches_path};
+use keep_patterns::{Letters, Pattern, letters_of, matches_path};
 use std::alloc::{AllocError, Global};
 
 /// Whether one of the patterns matches the path.

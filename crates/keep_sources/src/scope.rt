@@ -1,6 +1,6 @@
 use crate::stat::Moment;
 use keep_names::Id;
-use keep_tree::Pattern;
+use keep_patterns::Pattern;
 use std::collections::BTreeMap;
 
 /// A file as an earlier backup has it.

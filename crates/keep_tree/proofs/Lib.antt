@@ -1,11 +1,4 @@
-pub mod Apart
-pub mod Decided
 pub mod Depth
 pub mod Distinct
-pub mod Ends
-pub mod Few
 pub mod Inverse
-pub mod Left
 pub mod ReadBack
-pub mod Spelling
-pub mod Tails

@@ -1,11 +1,4 @@
-pub mod Matching
 pub mod Names
-pub mod Parsing
-pub mod RestOrder
-pub mod Rests
 pub mod Shape
-pub mod Steps
 pub mod Tree
-pub mod Walks
-pub mod Without
 pub mod Written

@@ -1,5 +1,5 @@
 use Rattle.std.proofs.Common.{◌≡◌, ◌++◌, drop, map, option_map, string_bytes}
-use Rattle.keep_tree.specs.Parsing.{pattern_view}
+use Rattle.keep_patterns.specs.Parsing.{pattern_view}
 use Rattle.keep_jobs.specs.Patterns.{patterns_in}
 use Rattle.keep_jobs.proofs.patterns.patterns_of.Given as goal
 

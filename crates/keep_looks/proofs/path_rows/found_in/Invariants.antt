@@ -1,7 +1,7 @@
 use Rattle.std.proofs.Common.{◌≡◌, map, take}
 use Rattle.std.specs.List.{flat_map}
 use Rattle.keep_named.specs.declared.listed_snapshot.ListedSnapshot.{ListedSnapshot}
-use Rattle.keep_tree.specs.Parsing.{pattern_view}
+use Rattle.keep_patterns.specs.Parsing.{pattern_view}
 use Rattle.keep_looks.specs.Found.{path_data, paths_of}
 use Rattle.keep_looks.specs.Shown.{unlisted_of}
 use Rattle.keep_looks.proofs.path_rows.found_in.Given as goal

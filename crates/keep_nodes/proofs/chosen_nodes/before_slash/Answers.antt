@@ -1,6 +1,6 @@
 use Rattle.std.proofs.Common.{None, Some, lit<}
 use Rattle.std.proofs.lemmas.Str.Pattern.{strip_suffix_char}
-use Rattle.keep_tree.proofs.Spelling.{closed, unclosed}
+use Rattle.keep_patterns.proofs.Spelling.{closed, unclosed}
 use Rattle.keep_nodes.proofs.chosen_nodes.before_slash.Goals as goal
 
 pub returns-in-Some : goal.returns-in-Some

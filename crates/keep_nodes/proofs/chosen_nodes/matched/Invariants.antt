@@ -1,5 +1,5 @@
 use Rattle.std.proofs.Common.{◌≡◌, map, take}
-use Rattle.keep_tree.specs.Parsing.{pattern_view}
+use Rattle.keep_patterns.specs.Parsing.{pattern_view}
 use Rattle.keep_nodes.specs.Choosing as spec
 use Rattle.keep_nodes.specs.Choosing.{lent_view}
 use Rattle.keep_nodes.specs.Entries.{entry_view}

@@ -3,7 +3,7 @@ use Rattle.std.proofs.lemmas.Iterator.Consumers.{map_from_collect}
 use Rattle.std.proofs.lemmas.Iterator.Splits.{YieldsList-from_str_split}
 use Rattle.std.specs.List.{slice_split}
 use Rattle.std.specs.declared.alloc.AllocError.{AllocError}
-use Rattle.keep_tree.specs.Parsing as spec
+use Rattle.keep_patterns.specs.Parsing as spec
 use Rattle.keep_nodes.proofs.chosen_nodes.parts_of.Goals as goal
 
 pub returns : goal.returns

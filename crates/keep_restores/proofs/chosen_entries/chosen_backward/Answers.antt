@@ -5,7 +5,7 @@ use Rattle.keep_nodes.specs.Entries.{entry_view}
 use Rattle.keep_nodes.specs.declared.path_node.PathNode.{PathNode}
 use Rattle.keep_restores.proofs.Onto.{one_more}
 use Rattle.keep_restores.specs.Choosing.{chosen_onto, first}
-use Rattle.keep_tree.specs.Parsing.{pattern_view}
+use Rattle.keep_patterns.specs.Parsing.{pattern_view}
 use Rattle.keep_restores.proofs.chosen_entries.chosen_backward.Goals as goal
 
 pub loop-entry-preserved-in_ok-push : goal.loop-entry-preserved-in_ok-push

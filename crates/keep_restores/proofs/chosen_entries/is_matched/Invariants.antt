@@ -1,6 +1,6 @@
 use Rattle.std.proofs.Common.{◌≡◌, map, drop}
-use Rattle.keep_tree.specs.Parsing.{pattern_view}
-use Rattle.keep_tree.specs.Without as spec
+use Rattle.keep_patterns.specs.Parsing.{pattern_view}
+use Rattle.keep_patterns.specs.Without as spec
 use Rattle.keep_restores.proofs.chosen_entries.is_matched.Given as goal
 
 abbrev pub invariant-loop-pattern : goal.invariant-loop-pattern

@@ -1,5 +1,5 @@
 use Rattle.std.proofs.Common.{◌≡◌, ◌≤◌, length, map}
-use Rattle.keep_tree.specs.Parsing.{pattern_view}
+use Rattle.keep_patterns.specs.Parsing.{pattern_view}
 use Rattle.keep_restores.specs.Choosing.{matches_first}
 use Rattle.keep_restores.proofs.chosen_entries.matches_first.Given as goal
 

@@ -8,7 +8,7 @@ use Rattle.keep_repo.specs.Repository.{Repository}
 use Rattle.keep_restores.proofs.Lent.{lent, lent_views}
 use Rattle.keep_restores.specs.Choosing.{included}
 use Rattle.keep_restores.specs.Restoring.{pieces_in}
-use Rattle.keep_tree.specs.Parsing.{pattern_view}
+use Rattle.keep_patterns.specs.Parsing.{pattern_view}
 use Rattle.keep_restores.specs.Wanted.{IsWantedOf}
 use Rattle.keep_restores.proofs.restoring.restore.Goals as goal
 

@@ -1,7 +1,7 @@
 use Rattle.std.proofs.Common.{ℕ, true, false, List, [], ◌∷◌, ◌++◌, map, sym, ap, subst, ◌∙◌}
 use Rattle.std.proofs.lemmas.List.{append-nil}
 use Rattle.keep_names.specs.declared.id.Id.{Id}
-use Rattle.keep_tree.specs.Parsing.{pattern_view}
+use Rattle.keep_patterns.specs.Parsing.{pattern_view}
 use Rattle.keep_snap.specs.Facts.{facts_view}
 use Rattle.keep_build.specs.Blobs.{BlobData}
 use Rattle.keep_rewrite.specs.Finishing.{Finishes}

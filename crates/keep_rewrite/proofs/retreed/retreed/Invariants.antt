@@ -1,5 +1,5 @@
 use Rattle.std.proofs.Common.{◌≡◌, ◌++◌, drop, map}
-use Rattle.keep_tree.specs.Parsing.{pattern_view}
+use Rattle.keep_patterns.specs.Parsing.{pattern_view}
 use Rattle.keep_snap.specs.Facts.{facts_view}
 use Rattle.keep_rewrite.specs.Rewriting.{retreed_of}
 use Rattle.keep_rewrite.specs.Walking.{AreReached, IsRight, trees_of}

@@ -1,6 +1,6 @@
 use Rattle.std.proofs.Common.{map, sym, ap, ◌∙◌}
 use Rattle.std.proofs.lemmas.Result.{err_from_is_err_and}
-use Rattle.keep_tree.specs.Parsing.{pattern_view}
+use Rattle.keep_patterns.specs.Parsing.{pattern_view}
 use Rattle.keep_snap.specs.Facts.{facts_view}
 use Rattle.keep_build.specs.Storing.{given}
 use Rattle.keep_rewrite.specs.Rewriting.{retreed_of, rewriting_of}

@@ -1,7 +1,7 @@
 use Rattle.std.proofs.Common.{◌≡◌, true, List, map, sym, ap, subst, ◌∙◌}
 use Rattle.std.proofs.lemmas.Result.{err_from_is_err_and}
 use Rattle.keep_repo.specs.Repository.{Repository, held}
-use Rattle.keep_tree.specs.Parsing.{pattern_view}
+use Rattle.keep_patterns.specs.Parsing.{pattern_view}
 use Rattle.keep_snap.specs.Facts.{FactsData, facts_view}
 use Rattle.keep_change.specs.Change.{is_met}
 use Rattle.keep_change.specs.Form.{IsWellFormed}

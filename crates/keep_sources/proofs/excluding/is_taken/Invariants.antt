@@ -1,6 +1,6 @@
 use Rattle.std.proofs.Common.{◌≡◌, map, drop}
-use Rattle.keep_tree.specs.Parsing.{pattern_view}
-use Rattle.keep_tree.specs.Without as without
+use Rattle.keep_patterns.specs.Parsing.{pattern_view}
+use Rattle.keep_patterns.specs.Without as without
 use Rattle.keep_sources.proofs.excluding.is_taken.Given as goal
 
 -- what is left decides

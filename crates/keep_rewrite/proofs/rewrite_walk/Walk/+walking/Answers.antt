@@ -7,12 +7,12 @@ use Rattle.std.specs.Vec.Iter.{into_iter_items}
 use Rattle.keep_names.specs.BlobId.{tree_at}
 use Rattle.keep_names.specs.declared.id.Id.{Id}
 use Rattle.keep_tree.proofs.ReadBack.{has_float-tree_data}
-use Rattle.keep_tree.specs.Parsing.{pattern_view}
-use Rattle.keep_tree.specs.Rests.{left_at}
 use Rattle.keep_tree.specs.Shape.{IsTree}
 use Rattle.keep_tree.specs.Tree.{KindData, dir, kind_view, node_view}
-use Rattle.keep_tree.specs.Without.{is_matched}
 use Rattle.keep_tree.specs.declared.node.Node.{Node}
+use Rattle.keep_patterns.specs.Parsing.{pattern_view}
+use Rattle.keep_patterns.specs.Rests.{left_at}
+use Rattle.keep_patterns.specs.Without.{is_matched}
 use Rattle.keep_catalog.specs.Naming.{named_by, named_in, nodes_under}
 use Rattle.keep_reach.specs.Reach.{first_of, refusal_at}
 use Rattle.keep_build.specs.Blobs.{BlobData}

@@ -1,7 +1,7 @@
 use Rattle.std.proofs.Common.{◌≡◌, ◌+◌, ◌-◌, ◌*◌, length, map}
 use Rattle.std.specs.Vec.Iter.{into_iter_items, into_iter_len}
-use Rattle.keep_tree.specs.Parsing.{pattern_view}
 use Rattle.keep_tree.specs.Tree.{node_view}
+use Rattle.keep_patterns.specs.Parsing.{pattern_view}
 use Rattle.keep_rewrite.specs.Leaving.{nodes_in}
 use Rattle.keep_rewrite.specs.Walking.{trees_of}
 use Rattle.keep_rewrite.proofs.Turned.{IsAt}

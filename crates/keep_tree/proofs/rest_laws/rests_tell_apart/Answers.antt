@@ -1,5 +1,0 @@
-use Rattle.keep_tree.proofs.Apart.{rests_apart}
-use Rattle.keep_tree.proofs.rest_laws.rests_tell_apart.Goals as goal
-
-pub returns : goal.returns
-returns c = rests_apart
