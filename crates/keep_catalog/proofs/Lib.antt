@@ -8,6 +8,7 @@ pub mod Gathered
 pub mod Growing
 pub mod Halfway
 pub mod Hashes
+pub mod HashNotes
 pub mod Ids
 pub mod Least
 pub mod Relisted

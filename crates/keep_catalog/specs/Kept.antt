@@ -1,5 +1,5 @@
 -- What a catalog keeps of the files of a repository. All but `snap_at` is of private invariants alone.
-use Rattle.std.specs.Prelude.{◌≡◌, ⊤, ℕ, Bool, false, List, [], ◌∷◌, Option, None, Some, is_some}
+use Rattle.std.specs.Prelude.{◌≡◌, ⊤, ℕ, Bool, false, List, [], ◌∷◌, map, Option, None, Some, is_some}
 use Rattle.std.specs.BTreeMap.{BTreeMap, IsOrdered, is_at}
 use Rattle.std.specs.BTreeMap as tree
 use Rattle.std.specs.FinMap as finite
@@ -17,7 +17,7 @@ use Rattle.keep_change.specs.NamedBytes.{NamedBytes}
 use Rattle.keep_change.specs.Result.{put_files, take_files}
 use Rattle.keep_catalog.specs.Files.{snap_in, why_unread}
 use Rattle.keep_catalog.specs.Orders.{listing_cmp, packed_blob_cmp, same_name}
-use Rattle.keep_catalog.specs.Places.{at, is_among, is_honest, is_stored, listed_in}
+use Rattle.keep_catalog.specs.Places.{at, id_at, is_among, is_honest, is_stored, listed_in}
 use Rattle.keep_catalog.specs.declared.listings.Listings.{Listings}
 use Rattle.keep_catalog.specs.declared.listings.Listings.TheVariants.{More, One}
 use Rattle.keep_catalog.specs.declared.spot.Listing.{Listing}
@@ -70,6 +70,10 @@ abbrev pub IsHashedIn : Repository → Stored → Type 0
 IsHashedIn r stored =
     (p : PackedBlob) (honest : Bool)
     → tree.get packed_blob_cmp stored p ≡ Some (Some honest) → is_honest r p.blob p.spot ≡ honest
+
+-- these are the ids of the bytes at these places, one for one
+abbrev pub HaveIds : Repository → List PackedBlob → List Id → Type 0
+HaveIds r places ids = map (id_at r) places ≡ map Some ids
 
 -- just the listings of the indexes are kept
 abbrev pub IsListedIn : Repository → Listed → Type 0

@@ -80,9 +80,17 @@ slice_of offset count bytes =
 unfoldable pub bytes_at : Repository → Spot → Option (List ℕ)
 bytes_at r spot = option_and_then (slice_of spot.offset spot.length) (file_in r Pack spot.pack)
 
+-- the SHA-256 of bytes, as an id
+abbrev pub id_of : List ℕ → Id
+id_of bytes = record { 0 = sha256 bytes }
+
 -- whether bytes have this SHA-256
 abbrev pub has_id : Id → List ℕ → Bool
-has_id id bytes = id_eq (record { 0 = sha256 bytes }) id
+has_id id bytes = id_eq (id_of bytes) id
+
+-- the id of the bytes at the place
+abbrev pub id_at : Repository → PackedBlob → Option Id
+id_at r p = option_map id_of (bytes_at r p.spot)
 
 -- whether the bytes at the spot have the blob's id
 abbrev pub is_honest : Repository → BlobId → Spot → Bool

@@ -1,35 +1,31 @@
-ghost use Rattle.keep_catalog.specs.Kept.{IsHashedIn, IsStoredIn};
+ghost use Rattle.std.specs.Prelude.{◌≡◌, IfOk, map};
+ghost use Rattle.keep_names.specs.Sha256.{sha256};
 
-use crate::bytes_there::has_hash;
-use crate::spot::PackedBlob;
-use crate::stored::Stored;
-use keep_repo::Repo;
+use keep_names::{Id, id_of};
 use std::alloc::{AllocError, Global};
 
-/// Hashes each place that wasn't hashed before. Where memory runs out, some are.
-pub(crate) fn hash_places(alloc: Global, repo: &Repo, stored: &mut Stored) -> Result<(), AllocError>
-    requires stored { IsStoredIn repo.now stored.old }
-    requires hashed { IsHashedIn repo.now stored.old }
-    ensures stored { IsStoredIn repo.now stored.new }
-    ensures hashed { IsHashedIn repo.now stored.new }
-{
-    let places: Vec<PackedBlob> = stored.keys().copied().collect(alloc)?;
-    for place in &places {
-        hash_place(repo, stored, *place)?;
-    }
-    Ok(())
+/// Who hashes many pieces of bytes, a batch at a time.
+pub trait Hashing {
+    /// Tells how many bytes the batches to come have together, at most.
+    fn begin(&mut self, bytes: u64);
+
+    /// The SHA-256 of each piece of a batch, in their order.
+    fn ids(&mut self, alloc: Global, pieces: &[&[u8]]) -> Result<Vec<Id>, AllocError>
+        ensures { IfOk result (λ ids. map (λ id. id.0) ids.items ≡ map (λ piece. sha256 piece.now) pieces.now) };
 }
 
-/// Hashes a place of a header, unless it was before.
-fn hash_place(repo: &Repo, stored: &mut Stored, place: PackedBlob) -> Result<(), AllocError>
-    requires stored { IsStoredIn repo.now stored.old }
-    requires hashed { IsHashedIn repo.now stored.old }
-    ensures stored { IsStoredIn repo.now stored.new }
-    ensures hashed { IsHashedIn repo.now stored.new }
-{
-    if let Some(None) = stored.get(&place).copied() {
-        let is_honest = has_hash(repo, place);
-        stored.insert(place, Some(is_honest))?;
+/// Hashes one piece after another, and tells nobody.
+#[derive(Clone, Copy, Drop)]
+pub struct OneByOne;
+
+impl Hashing for OneByOne {
+    fn begin(&mut self, _bytes: u64) {}
+
+    fn ids(&mut self, alloc: Global, pieces: &[&[u8]]) -> Result<Vec<Id>, AllocError> {
+        let mut ids = Vec::with_capacity(alloc, pieces.len())?;
+        for piece in pieces {
+            ids.push(id_of(piece))?;
+        }
+        Ok(ids)
     }
-    Ok(())
 }

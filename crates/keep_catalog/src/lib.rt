@@ -1,6 +1,7 @@
 //! What the files of a repository say together: where its blobs are, and what each of them names.
 #![tactic(auto)]
 
+mod batches;
 mod bytes_there;
 mod catalog;
 mod catalog_error;
@@ -22,6 +23,7 @@ mod wrong;
 
 pub use catalog::Catalog;
 pub use catalog_error::CatalogError;
+pub use hashing::{Hashing, OneByOne};
 pub use live_repo::LiveRepo;
 pub use named_blobs::Named;
 pub use place_laws::{

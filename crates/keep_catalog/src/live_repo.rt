@@ -8,9 +8,10 @@ ghost use Rattle.keep_catalog.specs.Files.{unread_in};
 ghost use Rattle.keep_catalog.specs.Kept.{AreNew, AreThere, IsKept, with_files, without_files};
 ghost use Rattle.keep_catalog.specs.declared.catalog_error.CatalogError.TheVariants as the_error;
 
+use crate::batches::hash_places;
 use crate::catalog::Catalog;
 use crate::catalog_error::CatalogError;
-use crate::hashing::hash_places;
+use crate::hashing::Hashing;
 use crate::tables::Tables;
 use keep_change::{Change, StoredFile, Turn};
 use keep_repo::Repo;
@@ -76,13 +77,13 @@ impl LiveRepo {
         }
     }
 
-    /// Hashes each blob of each pack that wasn't hashed before, if the files were read. Where memory runs out, some
-    /// are.
-    pub fn hash_all(&mut self)
+    /// Hands in each blob of each pack that wasn't hashed before, to be hashed, if the files were read. Where memory
+    /// runs out, some are. What was hashed is remembered.
+    pub fn hash_all<H: Hashing>(&mut self, hashing: &mut H)
         ensures { self.new ≡ self.old }
     {
         if let Some(tables) = &mut self.tables {
-            let _ = hash_places(self.alloc, &self.repo, &mut tables.stored);
+            let _ = hash_places(self.alloc, &self.repo, &mut tables.stored, hashing);
         }
     }
 
