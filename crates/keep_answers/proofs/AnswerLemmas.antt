@@ -12,12 +12,12 @@ use Rattle.keep_jobs.specs.Job.{JobData, has_bad_edit, job_change, settings_view
 use Rattle.keep_lines.specs.Command.{Asks}
 use Rattle.keep_lines.specs.Line.{IsLine}
 use Rattle.keep_lines.specs.Mistake.{IsMistake}
-use Rattle.keep_lines.specs.Reply.{sizes_of}
 use Rattle.keep_lines.specs.declared.command.Command.{Command}
 use Rattle.keep_lines.specs.declared.command.LineError.{LineError}
 use Rattle.keep_lines.specs.declared.command.LineError.TheVariants.{Bad, Memory}
 use Rattle.keep_lines.specs.declared.mistake.Mistake.{Mistake}
-use Rattle.keep_lines.specs.declared.reply_lines.Sizes.{Sizes}
+use Rattle.keep_replies.specs.Reply.{sizes_of}
+use Rattle.keep_replies.specs.declared.reply_lines.Sizes.{Sizes}
 use Rattle.keep_plan.specs.declared.plan_error.PlanError.{PlanError}
 use Rattle.keep_plan.specs.declared.plan_error.PlanError.TheVariants as plan_error
 use Rattle.keep_answers.specs.Answer.{AnswersTo, Asked, Committed, Done, JobAnswered, Shows, commit_of, replied, shown_by}

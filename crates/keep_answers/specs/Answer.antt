@@ -23,10 +23,10 @@ use Rattle.keep_plan.specs.declared.plan_error.PlanError.{PlanError}
 use Rattle.keep_lines.specs.Command.{Asks}
 use Rattle.keep_lines.specs.Line.{IsLine, IsPassedOver}
 use Rattle.keep_lines.specs.Mistake.{IsMistake}
-use Rattle.keep_lines.specs.Reply.{sizes_of, told_text}
 use Rattle.keep_lines.specs.Revision.{request_of}
 use Rattle.keep_lines.specs.declared.command.Command.{Command}
 use Rattle.keep_lines.specs.declared.mistake.Mistake.{Mistake}
+use Rattle.keep_replies.specs.Reply.{sizes_of, told_text}
 use Rattle.keep_answers.specs.Arming.{ArmsVeto, ArmsWatch}
 use Rattle.keep_answers.specs.Cascading.{Cascaded}
 use Rattle.keep_answers.specs.Files.{added_file, dropped_file}

@@ -20,10 +20,10 @@ use Rattle.keep_read.specs.Refusals.{restore_text}
 use Rattle.keep_read.specs.Restored.{RestoredData}
 use Rattle.keep_read.specs.declared.finding.Finding.{Finding}
 use Rattle.keep_read.specs.declared.restore_error.RestoreError.{RestoreError}
-use Rattle.keep_lines.specs.Reply.{bad_line_text, committed_text, no_text, taken_text}
-use Rattle.keep_lines.specs.Telling.{armed_text, counts_text, event_text, file_text, found_count, found_text, noted_text, restored_counts, restored_text, same_text, total_text}
 use Rattle.keep_lines.specs.Word.{hex_text}
-use Rattle.keep_lines.specs.declared.reply_lines.Sizes.{Sizes}
+use Rattle.keep_replies.specs.Reply.{bad_line_text, committed_text, no_text, taken_text}
+use Rattle.keep_replies.specs.Telling.{armed_text, counts_text, event_text, file_text, found_count, found_text, noted_text, restored_counts, restored_text, same_text, total_text}
+use Rattle.keep_replies.specs.declared.reply_lines.Sizes.{Sizes}
 use Rattle.keep_answers.specs.Known.{line}
 use Rattle.keep_answers.specs.Files.{bytes_in}
 use Rattle.keep_answers.specs.declared.arming.Unarmed.{Unarmed}

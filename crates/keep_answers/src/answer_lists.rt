@@ -10,12 +10,12 @@ use crate::halt::Halt;
 use crate::output::put_line;
 use keep_hooks::ArmedWatch;
 use keep_journal::{History, Notice};
-use keep_lines::{
-    Counts, EventLine, FileLine, FindingLine, FoundCount, RestoredCounts, RestoredFile, TotalLine,
-    print_hex,
-};
+use keep_lines::print_hex;
 use keep_names::{FileName, Kind};
 use keep_read::{Finding, RestoredFiles};
+use keep_replies::{
+    Counts, EventLine, FileLine, FindingLine, FoundCount, RestoredCounts, RestoredFile, TotalLine,
+};
 use keep_repo::Repo;
 use std::alloc::Global;
 use std::io::Write;

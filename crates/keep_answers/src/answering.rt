@@ -21,10 +21,11 @@ use crate::reply_text::{
 use crate::session::Session;
 use keep_book::Book;
 use keep_jobs::{Kit, resolve};
-use keep_lines::{Command, Compared, JobLine, LineError, Noted, Revision, parse};
+use keep_lines::{Command, JobLine, LineError, Revision, parse};
 use keep_names::{FileName, Id, Kind};
 use keep_plan::PlanError;
 use keep_read::{audit, restore};
+use keep_replies::{Compared, Noted};
 use keep_repo::Repo;
 use keep_shelf::Shelf;
 use std::io::Write;

@@ -1,6 +1,6 @@
 ghost use Rattle.std.specs.Prelude.{◌≡◌, ◌≢◌, Err};
 ghost use Rattle.std.specs.Result.{result_map_both};
-ghost use Rattle.keep_lines.specs.Reply.{told_text};
+ghost use Rattle.keep_replies.specs.Reply.{told_text};
 ghost use Rattle.keep_read.specs.Restored.{restored_view};
 ghost use Rattle.keep_answers.specs.Known.{Puts, WritesLines};
 ghost use Rattle.keep_answers.specs.State as states;
@@ -12,9 +12,9 @@ use crate::halt::Halt;
 use crate::output::put_line;
 use keep_book::TakenBack;
 use keep_ledger::{Refusal, Told};
-use keep_lines::{Accepted, Armed, Committed, Refused, Sizes, TakenNumbers};
 use keep_plan::PlanError;
 use keep_read::{Finding, RestoreError, RestoredFiles};
+use keep_replies::{Accepted, Armed, Committed, Refused, Sizes, TakenNumbers};
 use std::alloc::{AllocError, Global};
 use std::io::Write;
 

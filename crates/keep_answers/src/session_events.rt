@@ -4,7 +4,7 @@ ghost use Rattle.keep_book.specs.Cascade.{Cascades};
 ghost use Rattle.keep_change.specs.declared.change.Change.{Change};
 ghost use Rattle.keep_jobs.specs.Job.{has_bad_edit, job_change, job_view, settings_view};
 ghost use Rattle.keep_journal.specs.declared.request.Request.TheVariants as request;
-ghost use Rattle.keep_lines.specs.Reply.{sizes_of};
+ghost use Rattle.keep_replies.specs.Reply.{sizes_of};
 ghost use Rattle.keep_plan.specs.declared.plan_error.PlanError.TheVariants as plan_error;
 ghost use Rattle.keep_answers.specs.Answer.{commit_of, shown_by};
 ghost use Rattle.keep_answers.specs.declared.halt.Halt.TheVariants.{Untold};
@@ -17,8 +17,8 @@ use keep_book::{Book, TakenBack};
 use keep_change::{Change, Planned};
 use keep_jobs::{Job, plan};
 use keep_ledger::{Refusal, Request, Told};
-use keep_lines::Sizes;
 use keep_plan::{Filter, PlanError};
+use keep_replies::Sizes;
 use keep_shelf::Shelf;
 
 impl Session {

@@ -8,11 +8,9 @@ pub mod Mistake
 pub mod Policies
 pub mod Question
 pub mod RawFile
-pub mod Reply
 pub mod Revision
 pub mod RewriteLine
 pub mod Said
 pub mod TagLine
-pub mod Telling
 pub mod Word
 pub mod WordList

@@ -4,9 +4,9 @@ use Rattle.std.specs.Prelude.{List, ◌∷◌, ℕ, IfOk}
 use Rattle.keep_repo.specs.Repository.{Repository}
 use Rattle.keep_sound.specs.Met.{AddsPart}
 use Rattle.keep_ledger.specs.LedgerState.{LedgerState}
-use Rattle.keep_lines.specs.Reply.{told_text}
 use Rattle.keep_lines.specs.Revision.{request_of}
 use Rattle.keep_lines.specs.declared.revision.Revision.{Revision}
+use Rattle.keep_replies.specs.Reply.{told_text}
 use Rattle.keep_jobs.specs.Job.{JobData, job_change}
 use Rattle.keep_answers.specs.Answer.{Asked, JobAnswered, shown_by}
 use Rattle.keep_answers.specs.Cascading.{Cascaded}

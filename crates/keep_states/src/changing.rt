@@ -4,7 +4,7 @@ use crate::state_words;
 use crate::stop::Stop;
 use keep_change::{Change, Outline, Turn, What};
 use keep_ledger::{Refusal, Request, Told};
-use keep_lines::{Accepted, Refused};
+use keep_replies::{Accepted, Refused};
 use keep_repo::Repo;
 use std::alloc::{AllocError, Global};
 use std::fmt::Write;

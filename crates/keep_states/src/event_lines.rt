@@ -4,7 +4,7 @@ use crate::state::State;
 use crate::state_words;
 use crate::stop::Stop;
 use keep_ledger::Request;
-use keep_lines::Counts;
+use keep_replies::Counts;
 use std::alloc::AllocError;
 use std::fmt::Write;
 

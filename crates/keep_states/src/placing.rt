@@ -2,8 +2,9 @@ use crate::state::State;
 use crate::state_words;
 use crate::stop::Stop;
 use keep_catalog::{Catalog, CatalogError, ReachError, Spot, Unread};
-use keep_lines::{Refused, print_hex};
+use keep_lines::print_hex;
 use keep_names::{BlobId, BlobType, Id};
+use keep_replies::Refused;
 use std::alloc::{AllocError, Global};
 use std::fmt::Write;
 

@@ -2,9 +2,9 @@ use crate::placing::type_word;
 use crate::state_words;
 use crate::stop::Stop;
 use keep_catalog::{Catalog, ReachError};
-use keep_lines::Refused;
 use keep_names::Id;
 use keep_reach::Reached;
+use keep_replies::Refused;
 use std::alloc::{AllocError, Global};
 use std::fmt::Write;
 

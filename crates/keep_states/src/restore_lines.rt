@@ -2,9 +2,10 @@ use crate::placing::type_word;
 use crate::state::State;
 use crate::state_words;
 use crate::stop::Stop;
-use keep_lines::{FoundCount, Refused, RestoredCounts, RestoredFile, print_hex};
+use keep_lines::print_hex;
 use keep_names::Id;
 use keep_read::{Finding, RestoredFiles, audit, restore};
+use keep_replies::{FoundCount, Refused, RestoredCounts, RestoredFile};
 use std::alloc::{AllocError, Global};
 use std::fmt::Write;
 

@@ -1,8 +1,8 @@
 use Rattle.std.proofs.Common.{Err, ap, subst, ◌∙◌}
 use Rattle.std.proofs.lemmas.Result.{err_from_is_err_and}
 use Rattle.keep_book.specs.Armed.{Responds}
-use Rattle.keep_lines.specs.Reply.{told_text}
 use Rattle.keep_lines.specs.Revision.{request_of}
+use Rattle.keep_replies.specs.Reply.{told_text}
 use Rattle.keep_answers.proofs.AnswerLemmas.{AnswersMeant-puts, AnswersMeant-untold, Asked-by}
 use Rattle.keep_answers.specs.Meaning.{Revise}
 use Rattle.keep_answers.specs.State.{state_of}

@@ -4,8 +4,8 @@ use Rattle.std.specs.Fmt.{decimal}
 use Rattle.std.specs.List.{flat_map}
 use Rattle.keep_change.specs.declared.change.Change.{Change}
 use Rattle.keep_journal.specs.declared.request.Told.{Told}
-use Rattle.keep_lines.specs.declared.reply_lines.Committed.{Committed}
-use Rattle.keep_lines.specs.declared.reply_lines.Sizes.{Sizes}
+use Rattle.keep_replies.specs.declared.reply_lines.Committed.{Committed}
+use Rattle.keep_replies.specs.declared.reply_lines.Sizes.{Sizes}
 
 -- an accepted request: `ok N at K`
 abbrev pub told_text : Told → List ℕ

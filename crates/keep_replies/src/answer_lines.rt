@@ -1,5 +1,5 @@
 ghost use Rattle.std.specs.Prelude.{◌≡◌};
-ghost use Rattle.keep_lines.specs.Telling.{what_text};
+ghost use Rattle.keep_replies.specs.Telling.{what_text};
 
 use keep_change::What;
 use keep_names::FileName;
@@ -15,7 +15,7 @@ pub struct Counts {
 
 impl fmt::Display for Counts {
     ghost use Rattle.std.specs.Prelude.{Some};
-    ghost use Rattle.keep_lines.specs.Telling.{counts_text};
+    ghost use Rattle.keep_replies.specs.Telling.{counts_text};
 
     ghost output = { λ counts. Some (counts_text counts.files counts.marks) };
 
@@ -35,7 +35,7 @@ pub struct FileLine {
 
 impl fmt::Display for FileLine {
     ghost use Rattle.std.specs.Prelude.{Some};
-    ghost use Rattle.keep_lines.specs.Telling.{file_text};
+    ghost use Rattle.keep_replies.specs.Telling.{file_text};
 
     ghost output = { λ file. Some (file_text file.name file.length file.marked) };
 
@@ -56,7 +56,7 @@ pub struct EventLine {
 
 impl fmt::Display for EventLine {
     ghost use Rattle.std.specs.Prelude.{Some};
-    ghost use Rattle.keep_lines.specs.Telling.{event_text};
+    ghost use Rattle.keep_replies.specs.Telling.{event_text};
 
     ghost output = { λ event. Some (event_text event.at event.what event.change) };
 
@@ -84,7 +84,7 @@ pub struct Noted<'a>(pub &'a str);
 
 impl fmt::Display for Noted<'_> {
     ghost use Rattle.std.specs.Prelude.{Some};
-    ghost use Rattle.keep_lines.specs.Telling.{noted_text};
+    ghost use Rattle.keep_replies.specs.Telling.{noted_text};
 
     ghost output = { λ noted. Some (noted_text noted.0.now) };
 
@@ -102,7 +102,7 @@ pub struct Compared<'a> {
 
 impl fmt::Display for Compared<'_> {
     ghost use Rattle.std.specs.Prelude.{Some};
-    ghost use Rattle.keep_lines.specs.Telling.{same_text};
+    ghost use Rattle.keep_replies.specs.Telling.{same_text};
 
     ghost output = { λ compared. Some (same_text compared.name.now compared.same) };
 
@@ -121,7 +121,7 @@ pub struct RestoredFile<'a> {
 
 impl fmt::Display for RestoredFile<'_> {
     ghost use Rattle.std.specs.Prelude.{Some};
-    ghost use Rattle.keep_lines.specs.Telling.{restored_text};
+    ghost use Rattle.keep_replies.specs.Telling.{restored_text};
 
     ghost output = { λ file. Some (restored_text file.path.now file.hex.now) };
 
@@ -140,7 +140,7 @@ pub struct RestoredCounts {
 
 impl fmt::Display for RestoredCounts {
     ghost use Rattle.std.specs.Prelude.{Some};
-    ghost use Rattle.keep_lines.specs.Telling.{restored_counts};
+    ghost use Rattle.keep_replies.specs.Telling.{restored_counts};
 
     ghost output = { λ counts. Some (restored_counts counts.files counts.skipped) };
 
@@ -156,7 +156,7 @@ pub struct FindingLine<'a>(pub &'a Finding);
 
 impl fmt::Display for FindingLine<'_> {
     ghost use Rattle.std.specs.Prelude.{Some};
-    ghost use Rattle.keep_lines.specs.Telling.{found_text};
+    ghost use Rattle.keep_replies.specs.Telling.{found_text};
 
     ghost output = { λ found. Some (found_text found.0.now) };
 
@@ -180,7 +180,7 @@ pub struct FoundCount(pub usize);
 
 impl fmt::Display for FoundCount {
     ghost use Rattle.std.specs.Prelude.{Some};
-    ghost use Rattle.keep_lines.specs.Telling.{found_count};
+    ghost use Rattle.keep_replies.specs.Telling.{found_count};
 
     ghost output = { λ count. Some (found_count count.0) };
 
@@ -195,7 +195,7 @@ pub struct Armed<'a>(pub &'a str);
 
 impl fmt::Display for Armed<'_> {
     ghost use Rattle.std.specs.Prelude.{Some};
-    ghost use Rattle.keep_lines.specs.Telling.{armed_text};
+    ghost use Rattle.keep_replies.specs.Telling.{armed_text};
 
     ghost output = { λ armed. Some (armed_text armed.0.now) };
 
@@ -213,7 +213,7 @@ pub struct TotalLine<'a> {
 
 impl fmt::Display for TotalLine<'_> {
     ghost use Rattle.std.specs.Prelude.{Some};
-    ghost use Rattle.keep_lines.specs.Telling.{total_text};
+    ghost use Rattle.keep_replies.specs.Telling.{total_text};
 
     ghost output = { λ line. Some (total_text line.name.now line.total) };
 

@@ -1,7 +1,7 @@
 use Rattle.std.proofs.Common.{take}
 use Rattle.std.specs.Fmt.{HasWritten, IsPlainFormatter}
-use Rattle.keep_lines.specs.Reply.{taken_text}
-use Rattle.keep_lines.proofs.reply_lines.TakenNumbersDisplay.fmt.Given as goal
+use Rattle.keep_replies.specs.Reply.{taken_text}
+use Rattle.keep_replies.proofs.reply_lines.TakenNumbersDisplay.fmt.Given as goal
 
 abbrev pub invariant-loop-number : goal.invariant-loop-number
 invariant-loop-number g l =

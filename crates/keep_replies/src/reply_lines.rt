@@ -10,7 +10,7 @@ pub struct Accepted(pub Told);
 
 impl fmt::Display for Accepted {
     ghost use Rattle.std.specs.Prelude.{Some};
-    ghost use Rattle.keep_lines.specs.Reply.{told_text};
+    ghost use Rattle.keep_replies.specs.Reply.{told_text};
 
     ghost output = { λ accepted. Some (told_text accepted.0) };
 
@@ -30,7 +30,7 @@ pub struct Sizes {
 }
 
 impl Sizes {
-    ghost use Rattle.keep_lines.specs.Reply.{sizes_of};
+    ghost use Rattle.keep_replies.specs.Reply.{sizes_of};
 
     pub fn of(change: &Change) -> Sizes
         ensures { result ≡ sizes_of change.now }
@@ -46,7 +46,7 @@ impl Sizes {
 
 impl fmt::Display for Sizes {
     ghost use Rattle.std.specs.Prelude.{Some};
-    ghost use Rattle.keep_lines.specs.Reply.{sizes_text};
+    ghost use Rattle.keep_replies.specs.Reply.{sizes_text};
 
     ghost output = { λ sizes. Some (sizes_text sizes) };
 
@@ -70,7 +70,7 @@ pub struct Committed {
 
 impl fmt::Display for Committed {
     ghost use Rattle.std.specs.Prelude.{Some};
-    ghost use Rattle.keep_lines.specs.Reply.{committed_text};
+    ghost use Rattle.keep_replies.specs.Reply.{committed_text};
 
     ghost output = { λ committed. Some (committed_text committed) };
 
@@ -85,7 +85,7 @@ pub struct TakenNumbers<'a>(pub &'a [u64]);
 
 impl fmt::Display for TakenNumbers<'_> {
     ghost use Rattle.std.specs.Prelude.{Some};
-    ghost use Rattle.keep_lines.specs.Reply.{taken_text};
+    ghost use Rattle.keep_replies.specs.Reply.{taken_text};
 
     ghost output = { λ taken. Some (taken_text taken.0.now) };
 
@@ -104,7 +104,7 @@ pub struct Refused<E>(pub E);
 
 impl<E: fmt::Display> fmt::Display for Refused<E> {
     ghost use Rattle.std.specs.Option.{option_map};
-    ghost use Rattle.keep_lines.specs.Reply.{no_text};
+    ghost use Rattle.keep_replies.specs.Reply.{no_text};
 
     ghost output = { λ refused. option_map no_text (E.output refused.0) };
 
@@ -119,7 +119,7 @@ pub struct BadLine(pub u64);
 
 impl fmt::Display for BadLine {
     ghost use Rattle.std.specs.Prelude.{Some};
-    ghost use Rattle.keep_lines.specs.Reply.{bad_line_text};
+    ghost use Rattle.keep_replies.specs.Reply.{bad_line_text};
 
     ghost output = { λ bad. Some (bad_line_text bad.0) };
 
