@@ -53,7 +53,7 @@ fn taken<S: Shelf>(
     let tags = texts_of(run, words.tags.as_slice())?;
     let job = job_of(run, words, facts.paths.as_slice(), known)?;
     let source = HostSource::new(run.rt, "/")?;
-    let source = CountedSource::new(source, Meter::new(run.rt, "backup"));
+    let source = CountedSource::new(source, Meter::new(run.rt, "backup", "files"));
     let wish = Wish {
         job: &job,
         facts,

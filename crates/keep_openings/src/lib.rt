@@ -4,9 +4,13 @@
 
 mod advice;
 mod copying;
+mod counted_folder;
+mod counted_tree;
 mod refusal;
 mod unopened;
 
 pub use copying::copied;
+pub use counted_folder::open_counted;
+pub use counted_tree::CountedTree;
 pub use refusal::refusal_of;
 pub use unopened::Unopened;

@@ -29,7 +29,7 @@ impl<S: Source> Source for CountedSource<'_, S> {
 
     fn open(&mut self, path: &str, seen: &Stat) -> Result<(), Why> {
         self.source.open(path, seen)?;
-        self.meter.count_file();
+        self.meter.count_item();
         Ok(())
     }
 
@@ -74,7 +74,7 @@ impl<T: Target> Target for CountedTarget<'_, T> {
     fn make_file(&mut self, path: &str) -> Result<(), TargetError> {
         let made = self.target.make_file(path);
         if made.is_ok() {
-            self.meter.count_file();
+            self.meter.count_item();
         }
         made
     }

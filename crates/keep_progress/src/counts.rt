@@ -7,18 +7,21 @@ use std::alloc::{AllocError, Global};
 /// What work has come to.
 #[derive(Clone, Copy)]
 pub struct Counts {
-    pub files: u64,
+    pub items: u64,
     pub bytes: u64,
+    /// How many bytes it is to come to, where that is known.
+    pub total: Option<u64>,
 }
 
 impl Counts {
-    /// With one more file.
-    pub fn with_file(self) -> Counts
-        ensures { result ≡ spec.with_file self }
+    /// With one more item.
+    pub fn with_item(self) -> Counts
+        ensures { result ≡ spec.with_item self }
     {
         Counts {
-            files: self.files.saturating_add(1),
+            items: self.items.saturating_add(1),
             bytes: self.bytes,
+            total: self.total,
         }
     }
 
@@ -27,20 +30,33 @@ impl Counts {
         ensures { result ≡ spec.with_bytes self more }
     {
         Counts {
-            files: self.files,
+            items: self.items,
             bytes: self.bytes.saturating_add(more as u64),
+            total: self.total,
         }
     }
 }
 
-/// What is said of work that came to this in so many milliseconds.
-pub fn line(alloc: Global, verb: &str, counts: Counts, millis: u64) -> Result<String, AllocError>
-    ensures { IfOk result (λ text. string_bytes text ≡ spec.line verb.now counts millis) }
+/// What is said of work that came to so many items of this unit, and so many bytes, in so many milliseconds.
+pub fn line(
+    alloc: Global,
+    verb: &str,
+    unit: &str,
+    counts: Counts,
+    millis: u64,
+) -> Result<String, AllocError>
+    ensures { IfOk result (λ text. string_bytes text ≡ spec.line verb.now unit.now counts millis) }
 {
-    let files = counts.files;
+    let items = counts.items;
     let bytes = size(alloc, counts.bytes)?;
     let rate = size(alloc, rate(counts.bytes, millis))?;
-    format!(in alloc; "{verb}: {files} files, {bytes}, {rate}/s")
+    match counts.total {
+        None => format!(in alloc; "{verb}: {items} {unit}, {bytes}, {rate}/s"),
+        Some(total) => {
+            let total = size(alloc, total)?;
+            format!(in alloc; "{verb}: {items} {unit}, {bytes} of {total}, {rate}/s")
+        }
+    }
 }
 
 /// How many bytes that is in a second.

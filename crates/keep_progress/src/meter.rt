@@ -11,6 +11,8 @@ const TURN: u128 = 250;
 pub struct Meter<'a> {
     rt: &'a HostRuntime,
     verb: &'static str,
+    /// What is counted beside bytes.
+    unit: &'static str,
     /// Whether anything is said.
     is_heard: bool,
     began: Duration,
@@ -20,31 +22,43 @@ pub struct Meter<'a> {
 
 impl<'a> Meter<'a> {
     ghost use Rattle.std.specs.Prelude.{◌≡◌};
-    ghost use Rattle.keep_progress.specs.Line.{with_bytes, with_file};
+    ghost use Rattle.keep_progress.specs.Line.{with_bytes, with_item};
 
-    /// Nothing is counted yet of the work that goes by this verb.
-    pub fn new(rt: &'a HostRuntime, verb: &'static str) -> Meter<'a> {
+    /// Nothing is counted yet of the work that goes by this verb, in items of this unit.
+    pub fn new(rt: &'a HostRuntime, verb: &'static str, unit: &'static str) -> Meter<'a> {
         let began = now(rt);
         Meter {
             rt,
             verb,
+            unit,
             is_heard: rt.stderr().is_terminal(),
             began,
             said: began,
-            counts: Counts { files: 0, bytes: 0 },
+            counts: Counts {
+                items: 0,
+                bytes: 0,
+                total: None,
+            },
         }
     }
 
-    /// One more file.
-    pub(crate) fn count_file(&mut self)
-        ensures { self.new.counts ≡ with_file self.old.counts }
+    /// The work is to come to so many bytes.
+    pub fn expect(&mut self, bytes: u64)
+        ensures { self.new.counts ≡ record self.old.counts { total = Some bytes } }
     {
-        self.counts = self.counts.with_file();
+        self.counts.total = Some(bytes);
+    }
+
+    /// One more item.
+    pub fn count_item(&mut self)
+        ensures { self.new.counts ≡ with_item self.old.counts }
+    {
+        self.counts = self.counts.with_item();
         self.say();
     }
 
     /// So many more bytes.
-    pub(crate) fn count_bytes(&mut self, more: usize)
+    pub fn count_bytes(&mut self, more: usize)
         ensures { self.new.counts ≡ with_bytes self.old.counts more }
     {
         self.counts = self.counts.with_bytes(more);
@@ -68,7 +82,7 @@ impl<'a> Meter<'a> {
     /// Writes the line in the place of the one before it. Where it can't be written, the work goes on.
     fn write(&self, took: Duration) -> Result<(), AllocError> {
         let millis = u64::try_from(took.as_millis()).unwrap_or(u64::MAX);
-        let text = line(self.rt.alloc(), self.verb, self.counts, millis)?;
+        let text = line(self.rt.alloc(), self.verb, self.unit, self.counts, millis)?;
         let _written = eprint!(self.rt; "\r{text}\u{1b}[K");
         Ok(())
     }
@@ -82,6 +96,7 @@ impl Drop for Meter<'_> {
         let Meter {
             rt: _,
             verb: _,
+            unit: _,
             is_heard: _,
             began: _,
             said: _,

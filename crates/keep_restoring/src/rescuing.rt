@@ -20,7 +20,7 @@ pub fn rescue_folder(run: &Run<'_>, target: &str) -> Result<(), Failure> {
     }
     let fresh = fresh_config(run)?;
     let source = HostSource::new(run.rt, folder)?;
-    let source = CountedSource::new(source, Meter::new(run.rt, "rescue"));
+    let source = CountedSource::new(source, Meter::new(run.rt, "rescue", "files"));
     let made = match open_target(run.rt, target) {
         Ok(made) => made,
         Err(refusal) => {

@@ -26,7 +26,7 @@ pub fn restore_snapshot<S: Shelf>(
     };
     let folder = words.target;
     let mut target = match open_target(run.rt, folder) {
-        Ok(target) => CountedTarget::new(target, Meter::new(run.rt, "restore")),
+        Ok(target) => CountedTarget::new(target, Meter::new(run.rt, "restore", "files")),
         Err(refusal) => {
             let cause = format!(in run.alloc; "cannot restore to {folder}: {refusal}")?;
             return Err(Failure::Refused(cause));
