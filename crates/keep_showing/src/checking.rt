@@ -1,17 +1,24 @@
 ghost use Rattle.keep_book.specs.Armed.{HasSums};
 
 use keep_book::Book;
+use keep_catalog::Hashing;
 use keep_names::Id;
 use keep_read::{Finding, audit};
 use keep_rows::FindingRow;
 use keep_run::{Failure, Run, print_rows};
 use keep_shelf::Shelf;
 
-/// `keep check`: all that is wrong. There is something where it fails.
-pub fn check<S: Shelf>(run: &Run<'_>, book: &mut Book<S>) -> Result<(), Failure>
+/// `keep check`: all that is wrong. There is something where it fails. Blobs are hashed first, by this, which is let go
+/// before anything is printed.
+pub fn check<S: Shelf, H: Hashing + Drop>(
+    run: &Run<'_>,
+    book: &mut Book<S>,
+    mut hashing: H,
+) -> Result<(), Failure>
     requires { HasSums book.old }
 {
-    book.hash_all();
+    book.hash_all(&mut hashing);
+    drop(hashing);
     let findings = audit(run.alloc, &book.ledger().view())?;
     let mut rows = Vec::new(run.alloc);
     for finding in &findings {

@@ -1,5 +1,6 @@
 ghost use Rattle.keep_book.specs.Armed.{HasSums};
 
+use crate::hashing::HostHashing;
 use keep_backing::backup;
 use keep_book::Book;
 use keep_outcomes::show;
@@ -18,7 +19,7 @@ pub(crate) fn look<S: Shelf>(
     requires { HasSums book.old }
 {
     match command {
-        Command::Check { .. } => check(run, book),
+        Command::Check { .. } => check(run, book, HostHashing::new(run.rt)),
         Command::History { last } => history(run, book, *last),
         Command::Show { change } => show(run, book, *change),
         Command::Graph { change, dot } => graph(run, book, *change, *dot),

@@ -4,6 +4,7 @@
 mod answer;
 mod dispatch;
 mod folder_opening;
+mod hashing;
 mod looking;
 mod script;
 mod yes_or_no;
