@@ -1,8 +1,10 @@
 -- What becomes of files that a planner builds.
-use Rattle.std.specs.Prelude.{◌≡◌, Bool, true, false, not, ◌||◌, List, [], ◌∷◌, ◌++◌, map, filter, All, IsSome, None, Some, is_some}
+use Rattle.std.specs.Prelude.{◌≡◌, Bool, true, false, not, ◌||◌, List, [], ◌∷◌, ◌++◌, map, filter, All, IsSome, Option, None, Some, is_some, option_map}
 use Rattle.std.specs.FinMap as finite
-use Rattle.std.specs.List.{list_any}
+use Rattle.std.specs.List.{find, list_any}
 use Rattle.std.specs.List.Sorted.{IsStrictlySortedBy}
+use Rattle.std.specs.Option.{option_map_or}
+use Rattle.std.specs.Str.{bytes_eq}
 use Rattle.keep_names.specs.FileName.{named}
 use Rattle.keep_names.specs.Orders.{id_cmp, name_cmp}
 use Rattle.keep_names.specs.declared.blob.BlobId.{BlobId}
@@ -51,6 +53,14 @@ is_any_taken r files = list_any (λ file. is_there r file.name) files || is_any_
 abbrev pub names_there : Repository → List NamedBytes → List FileName
 names_there r files = filter (is_there r) (file_names files)
 
+-- whether there is a file of this one's name with other bytes
+abbrev pub is_there_otherwise : Repository → NamedBytes → Bool
+is_there_otherwise r file = option_map_or (λ bytes. not (bytes_eq bytes file.bytes)) (finite.get r.files file.name) false
+
+-- the name of the first of the files that is there with other bytes
+abbrev pub first_differing : Repository → List NamedBytes → Option FileName
+first_differing r files = option_map (λ file. file.name) (find (is_there_otherwise r) files)
+
 -- the packs among the files
 abbrev pub packs_among : List NamedBytes → List Id
 packs_among files = ids_among Pack (file_names files)
@@ -65,13 +75,15 @@ unmarked_of r packs = filter (is_unmarked r) packs
 
 -- What becomes of these built files, where these blobs are used where they are. The files that are absent are
 -- added, and the marks of the packs among them cleared. To be present are the other files, and the packs and
--- indexes of the chosen places of the blobs; to be unmarked are the other packs, and those of the places.
+-- indexes of the chosen places of the blobs; to be unmarked are the other packs, and those of the places. The first of
+-- the files that is there with other bytes is named.
 unfoldable pub stored_built : Repository → List BlobId → List NamedBytes → Stored
 stored_built r used built = record {
   adds = absent_files r built;
   clears = marks_on r (packs_among built);
   present = in_order name_cmp (reused_files r used ++ names_there r built);
   unmarked = in_order id_cmp (reused_packs r used ++ unmarked_of r (packs_among built));
+  differing = first_differing r built;
 }
 
 -- What is stored can be made of the repository, as part of a change: each list is in order, the adds are named

@@ -12,6 +12,7 @@ ghost use Rattle.keep_names.specs.declared.file_name.FileName as the_name;
 ghost use Rattle.keep_names.specs.declared.id.Id as the_id;
 ghost use Rattle.keep_change.specs.Marks.{pack_mark};
 ghost use Rattle.keep_plan.specs.Storing.{absent_files, absent_of, is_any_taken, marks_on, names_there, packs_among, unmarked_of};
+ghost use Rattle.keep_plan.specs.Storing as spec;
 ghost use Rattle.keep_plan.specs.Marks.{AreMarks};
 
 use keep_change::{PackMark, StoredFile};
@@ -91,6 +92,26 @@ fn split_file(
     }
     adds.insert(name, file)?;
     Ok(())
+}
+
+/// The name of the first of the files that the repository has with other bytes. None is hashed.
+pub(crate) fn first_differing(repo: &Repo, files: &[StoredFile]) -> Option<FileName>
+    ensures { result ≡ spec.first_differing repo.now files.now }
+{
+    files
+        .iter()
+        .find(|file| is_there_otherwise(repo, file))
+        .map(|file| file.name())
+}
+
+/// Whether the repository has a file of this one's name with other bytes.
+fn is_there_otherwise(repo: &Repo, file: &StoredFile) -> bool
+    ensures { result ≡ spec.is_there_otherwise repo.now file.now }
+{
+    match repo.get(file.name()) {
+        Some(bytes) => bytes.as_slice() != file.bytes().as_slice(),
+        None => false,
+    }
 }
 
 /// The marks on the packs among the files, by pack. The other packs are put among those that must not be

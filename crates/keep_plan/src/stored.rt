@@ -3,7 +3,7 @@ ghost use Rattle.keep_names.specs.declared.blob.BlobId as the_blob;
 ghost use Rattle.keep_plan.specs.Reuse.{RestOn};
 ghost use Rattle.keep_plan.specs.Storing.{stored_built};
 
-use crate::built_files::{ids_in, names_in, split_files, split_marks};
+use crate::built_files::{first_differing, ids_in, names_in, split_files, split_marks};
 use crate::reuses::Reuses;
 use keep_change::{Listed, PackMark, StoredFile};
 use keep_names::{FileName, Id};
@@ -21,6 +21,8 @@ pub struct Stored {
     pub present: Listed<FileName>,
     /// The packs, built or of blobs that are used where they are, that have no mark.
     pub unmarked: Listed<Id>,
+    /// The first of the built files that is there with other bytes: it was damaged. It is among `present` too.
+    pub differing: Option<FileName>,
 }
 
 /// What becomes of files that were built, beside the uses of blobs where they are.
@@ -37,6 +39,7 @@ pub fn store_built(
         mut present,
         mut unmarked,
     } = reuses;
+    let differing = first_differing(repo, &built);
     let clears = split_marks(alloc, repo, &built, &mut unmarked)?;
     let adds = split_files(alloc, repo, built, &mut present)?;
     let present = names_in(alloc, present)?;
@@ -46,5 +49,6 @@ pub fn store_built(
         clears: Listed::from_vec(clears),
         present: Listed::from_vec(present),
         unmarked: Listed::from_vec(unmarked),
+        differing,
     })
 }
