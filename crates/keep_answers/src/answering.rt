@@ -20,6 +20,7 @@ use crate::reply_text::{
 };
 use crate::session::Session;
 use keep_book::Book;
+use keep_catalog::OneByOne;
 use keep_jobs::{Kit, resolve};
 use keep_lines::{Command, JobLine, LineError, Revision, parse};
 use keep_names::{FileName, Id, Kind};
@@ -214,7 +215,7 @@ impl Session {
             Topic::History => write_history(alloc, book.ledger().history(), writer),
             Topic::Totals => write_totals(alloc, book.totals(), writer),
             Topic::Audit => {
-                book.hash_all();
+                book.hash_all(&mut OneByOne);
                 write_audit(alloc, audit(alloc, &book.ledger().view()), writer)
             }
         }

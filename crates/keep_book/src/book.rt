@@ -3,6 +3,7 @@ ghost use Rattle.keep_book.specs.Names.{HaveNoNameTwice};
 
 use crate::hooks::{Hooks, has_veto, has_watch};
 use crate::not_armed::NotArmed;
+use keep_catalog::Hashing;
 use keep_change::Planned;
 use keep_hooks::{ArmedWatch, Veto, Watch};
 use keep_ledger::{Ledger, NotOpened, Refusal, Request, Told};
@@ -63,11 +64,11 @@ impl<S: Shelf> Book<S> {
     }
 
     /// `Ledger::hash_all`.
-    pub fn hash_all(&mut self)
+    pub fn hash_all<H: Hashing>(&mut self, hashing: &mut H)
         requires { HasSums self.old }
         ensures { IsUnchanged self.old self.new }
     {
-        self.ledger.hash_all();
+        self.ledger.hash_all(hashing);
     }
 
     /// Whether a veto or a watch of this name is armed. No two of them have one name.

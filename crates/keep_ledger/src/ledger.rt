@@ -16,7 +16,7 @@ ghost use Rattle.keep_ledger.specs.Sums.{AreSums};
 
 use crate::not_opened::NotOpened;
 use crate::reply::Refusal;
-use keep_catalog::LiveRepo;
+use keep_catalog::{Hashing, LiveRepo};
 use keep_hooks::Guard;
 use keep_journal::{History, Request, Told};
 use keep_moves::{Move, settle};
@@ -131,12 +131,12 @@ impl<S: Shelf> Ledger<S> {
         self.live.repo()
     }
 
-    /// Hashes each blob of the live repository that wasn't hashed before, if its files were read. Where memory runs
-    /// out, some are.
-    pub fn hash_all(&mut self)
+    /// Hands in each blob of the live repository that wasn't hashed before, to be hashed, if its files were read. Where
+    /// memory runs out, some are. What was hashed is remembered.
+    pub fn hash_all<H: Hashing>(&mut self, hashing: &mut H)
         ensures { self.new ≡ self.old }
     {
-        self.live.hash_all();
+        self.live.hash_all(hashing);
     }
 
     /// The live repository, the snapshots that it knows, and the number of the last event. It
