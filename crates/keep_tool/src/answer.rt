@@ -1,5 +1,6 @@
 ghost use Rattle.keep_book.specs.Armed.{HasSums};
 
+use crate::hashing::HostHashing;
 use crate::looking::look;
 use crate::yes_or_no::agrees;
 use keep_book::Book;
@@ -24,6 +25,7 @@ pub(crate) fn answer<S: Shelf>(
         Ok(None) => look(run, book, command),
         Ok(Some(deed)) => {
             confirm(run, book, command)?;
+            hash_first(run, book, command);
             let came = perform(run.alloc, book, run.settings(), deed);
             require_told(run, book)?;
             tell_came(run, book.ledger().history(), command, came)
@@ -45,6 +47,16 @@ fn named<S: Shelf>(
     match words.snapshot {
         Some(text) => Ok(Some(meant(run, book, text)?)),
         None => Ok(None),
+    }
+}
+
+/// Has all blobs hashed at once where the command asks of nearly each whether its bytes are its own, which is remembered.
+fn hash_first<S: Shelf>(run: &Run<'_>, book: &mut Book<S>, command: &Command<'_>)
+    requires { HasSums book.old }
+    ensures { HasSums book.new }
+{
+    if let Command::Mark | Command::Prune { .. } = command {
+        book.hash_all(&mut HostHashing::new(run.rt, "mark"));
     }
 }
 

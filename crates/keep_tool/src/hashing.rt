@@ -16,10 +16,11 @@ pub(crate) struct HostHashing<'a> {
 }
 
 impl<'a> HostHashing<'a> {
-    pub(crate) fn new(rt: &'a HostRuntime) -> HostHashing<'a> {
+    /// For work that goes by this verb.
+    pub(crate) fn new(rt: &'a HostRuntime, verb: &'static str) -> HostHashing<'a> {
         HostHashing {
             rt,
-            meter: Meter::new(rt, "check", "blobs"),
+            meter: Meter::new(rt, verb, "blobs"),
         }
     }
 }

@@ -19,7 +19,7 @@ pub(crate) fn look<S: Shelf>(
     requires { HasSums book.old }
 {
     match command {
-        Command::Check { .. } => check(run, book, HostHashing::new(run.rt)),
+        Command::Check { .. } => check(run, book, HostHashing::new(run.rt, "check")),
         Command::History { last } => history(run, book, *last),
         Command::Show { change } => show(run, book, *change),
         Command::Graph { change, dot } => graph(run, book, *change, *dot),

@@ -23,5 +23,5 @@ returns g c =
     let chain = h.1 in
     let pieces = c.args.pieces.now in
     ap (λ (ids : List Id). map (λ (id : Id). id.0) ids)
-        (h.2 ∙ slice-map chain.0 pieces (chain.1 ∙ slice) id_at h.0 chain.2)
+    (h.2 ∙ slice-map chain.0 pieces (chain.1 ∙ slice) id_at h.0 chain.2)
     ∙ bytes-of-ids pieces)
