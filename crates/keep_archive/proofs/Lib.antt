@@ -1,5 +1,6 @@
 pub mod Claims
 pub mod Cuts
+pub mod Differing
 pub mod Fronts
 pub mod Given
 pub mod Made

@@ -2,6 +2,7 @@
 use Rattle.std.specs.Prelude.{ℕ, Bool, false, nat_le, List, [], ◌∷◌, ◌++◌, length, ◌&&◌, Option, None, Some, option_map, is_none, Result, Ok, Err, if◌then◌else◌}
 use Rattle.std.specs.List.{find}
 use Rattle.keep_names.specs.declared.blob.BlobId.{BlobId}
+use Rattle.keep_names.specs.declared.file_name.FileName.{FileName}
 use Rattle.keep_names.specs.declared.id.Id.{Id}
 use Rattle.keep_repo.specs.Repository.{Repository}
 use Rattle.keep_change.specs.declared.change.Change.{Change}
@@ -16,11 +17,19 @@ use Rattle.keep_build.specs.Blobs.{BlobData, id_of, tree_blob}
 use Rattle.keep_build.specs.Stored.{stored_of, stored_with}
 use Rattle.keep_archive.specs.Archive.{ArchiveData, PlaceData}
 use Rattle.keep_archive.specs.Steps.{full_refusal}
+use Rattle.keep_archive.specs.declared.not_planned.NotPlanned.{NotPlanned}
+use Rattle.keep_archive.specs.declared.not_planned.NotPlanned.TheVariants.{Differs, Unplanned}
 
 -- what is due of an archive, which is none where it is shut
-abbrev pub of_open : {X : Type 0} → (ArchiveData → Result X PlanError) → Option ArchiveData → Result X PlanError
-of_open due None = Err Memory
+abbrev pub of_open : {X : Type 0} → (ArchiveData → Result X NotPlanned) → Option ArchiveData → Result X NotPlanned
+of_open due None = Err (Unplanned Memory)
 of_open due (Some a) = due a
+
+-- what is planned, unless one of the files that were built for it is there with other bytes: the first of those is named
+abbrev pub unless_differing : {X : Type 0} → Option FileName → Result X PlanError → Result X NotPlanned
+unless_differing differing (Err error) = Err (Unplanned error)
+unless_differing (Some file) (Ok planned) = Err (Differs file)
+unless_differing None (Ok planned) = Ok planned
 
 -- ---- a part
 
@@ -49,6 +58,14 @@ part_if_any stored = if is_idle stored then None else Some (part_of stored)
 -- the change that stores what is held, as far as it has no place
 abbrev pub part_change : Repository → ArchiveData → Result (Option Change) PlanError
 part_change r a = unless (unread_first r) (Ok (part_if_any (stored_of r a.blobs.held)))
+
+-- the first of the packs and the index that are built for a part, which is there with other bytes
+abbrev pub part_differing : Repository → ArchiveData → Option FileName
+part_differing r a = (stored_of r a.blobs.held).differing
+
+-- the part, unless one of those is
+abbrev pub part_due : Repository → ArchiveData → Result (Option Change) NotPlanned
+part_due r a = unless_differing (part_differing r a) (part_change r a)
 
 -- ---- the last change
 
@@ -88,3 +105,11 @@ last_change r facts tags a =
     unless (unclosed a.place)
     (unless (bad_time facts)
     (planned_of r facts tags (last_stored r a)))
+
+-- the first of the packs and the index that are built for it, which is there with other bytes
+abbrev pub last_differing : Repository → ArchiveData → Option FileName
+last_differing r a = (stored_with r a.blobs.named (last_blobs a)).differing
+
+-- the last change, unless one of those is
+abbrev pub last_due : Repository → FactsData → List (List ℕ) → ArchiveData → Result Change NotPlanned
+last_due r facts tags a = unless_differing (last_differing r a) (last_change r facts tags a)

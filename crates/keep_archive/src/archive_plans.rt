@@ -4,10 +4,12 @@ ghost use Rattle.keep_plan.specs.declared.plan_error.PlanError.TheVariants as th
 ghost use Rattle.keep_backup.specs.Backup.{facts_view};
 ghost use Rattle.keep_archive.specs.Archive.{going_view};
 ghost use Rattle.keep_archive.specs.Plans.{part_of};
+ghost use Rattle.keep_archive.specs.declared.not_planned.NotPlanned.TheVariants.{Unplanned};
 ghost use Rattle.keep_archive.specs.Plans as spec;
 
 use crate::archive::Archive;
 use crate::going::Going;
+use crate::not_planned::NotPlanned;
 use crate::part_storing::{store_held, store_last};
 use keep_backup::{BackupFacts, change_with, has_bad_time, snapshot_file};
 use keep_change::{Change, Planned};
@@ -22,20 +24,21 @@ impl Archive {
     ghost use Rattle.keep_change.specs.Change.{is_met};
     ghost use Rattle.keep_change.specs.Form.{IsWellFormed};
     ghost use Rattle.keep_archive.specs.Archive.{archive_view};
-    ghost use Rattle.keep_archive.specs.Plans.{last_change, of_open, part_change};
+    ghost use Rattle.keep_archive.specs.Plans.{last_due, of_open, part_due};
 
     /// The change that stores what is held, as far as it has no place: it adds packs and their index alone. None where
-    /// nothing is to be stored. `Unread` where a file of the repository can't be read.
-    pub fn plan_part(&self, alloc: Global, view: &View) -> Result<Option<Planned>, PlanError>
-        ensures change { Answers the_error.Memory (option_map (λ planned. planned.change))
-            (of_open (part_change view.now.repo) (archive_view self.now)) result }
+    /// nothing is to be stored. `Unread` where a file of the repository can't be read, and then `Differs` of the first of
+    /// the packs and the index that is there with other bytes.
+    pub fn plan_part(&self, alloc: Global, view: &View) -> Result<Option<Planned>, NotPlanned>
+        ensures change { Answers (Unplanned the_error.Memory) (option_map (λ planned. planned.change))
+            (of_open (part_due view.now.repo) (archive_view self.now)) result }
         ensures seen { IfOk result (λ part. IfSome part (λ planned. planned.seen ≡ view.now.length)) }
         ensures well_formed { IfOk result (λ part. IfSome part (λ planned. IsWellFormed planned.change)) }
         ensures met { IfOk result (λ part. IfSome part
             (λ planned. is_met (repository.held view.now.repo) planned.change ≡ true)) }
     {
         let Some(going) = &self.going else {
-            return Err(PlanError::Memory);
+            return Err(NotPlanned::Unplanned(PlanError::Memory));
         };
         let Some(change) = part(alloc, view, going)? else {
             return Ok(None);
@@ -50,23 +53,24 @@ impl Archive {
     /// and adds the snapshot, with these tags.
     ///
     /// The refusals in their order: `BadPath` where a folder below the root is open, `BadTime`, `Unread`, `Full`,
-    /// `MissingBlob` of the first blob that was stored or named and has no place any more, `SnapshotThere`.
+    /// `MissingBlob` of the first blob that was stored or named and has no place any more, `SnapshotThere`, `Differs` of
+    /// the first of the packs and the index that is there with other bytes.
     pub fn plan_backup(
         &self,
         alloc: Global,
         view: &View,
         facts: &BackupFacts,
         tags: &[String],
-    ) -> Result<Planned, PlanError>
-        ensures change { Answers the_error.Memory (λ planned. planned.change)
-            (of_open (last_change view.now.repo (facts_view facts.now) (map string_bytes tags.now))
+    ) -> Result<Planned, NotPlanned>
+        ensures change { Answers (Unplanned the_error.Memory) (λ planned. planned.change)
+            (of_open (last_due view.now.repo (facts_view facts.now) (map string_bytes tags.now))
             (archive_view self.now)) result }
         ensures seen { IfOk result (λ planned. planned.seen ≡ view.now.length) }
         ensures well_formed { IfOk result (λ planned. IsWellFormed planned.change) }
         ensures met { IfOk result (λ planned. is_met (repository.held view.now.repo) planned.change ≡ true) }
     {
         let Some(going) = &self.going else {
-            return Err(PlanError::Memory);
+            return Err(NotPlanned::Unplanned(PlanError::Memory));
         };
         let change = last(alloc, view, going, facts, tags)?;
         Ok(Planned {
@@ -77,10 +81,13 @@ impl Archive {
 }
 
 /// The change of a part.
-fn part(alloc: Global, view: &View, going: &Going) -> Result<Option<Change>, PlanError>
-    ensures { Answers the_error.Memory (λ part. part) (spec.part_change view.now.repo (going_view going.now)) result }
+fn part(alloc: Global, view: &View, going: &Going) -> Result<Option<Change>, NotPlanned>
+    ensures { Answers (Unplanned the_error.Memory) (λ part. part) (spec.part_due view.now.repo (going_view going.now)) result }
 {
     let stored = store_held(alloc, view, &going.blobs.held)?;
+    if let Some(file) = stored.differing {
+        return Err(NotPlanned::Differs(file));
+    }
     if is_idle(&stored) {
         return Ok(None);
     }
@@ -94,20 +101,23 @@ fn last(
     going: &Going,
     facts: &BackupFacts,
     tags: &[String],
-) -> Result<Change, PlanError>
-    ensures { Answers the_error.Memory (λ change. change) (spec.last_change view.now.repo
+) -> Result<Change, NotPlanned>
+    ensures { Answers (Unplanned the_error.Memory) (λ change. change) (spec.last_due view.now.repo
         (facts_view facts.now) (map string_bytes tags.now) (going_view going.now)) result }
 {
     if !going.place.around.is_empty() {
-        return Err(PlanError::BadPath);
+        return Err(NotPlanned::Unplanned(PlanError::BadPath));
     }
     if has_bad_time(facts) {
-        return Err(PlanError::BadTime);
+        return Err(NotPlanned::Unplanned(PlanError::BadTime));
     }
     let (tree, stored) = store_last(alloc, view, going)?;
     let snapshot = snapshot_file(alloc, facts, tags, tree)?;
     if view.repo().facet_filled(Facet::File(snapshot.name())) {
-        return Err(PlanError::SnapshotThere);
+        return Err(NotPlanned::Unplanned(PlanError::SnapshotThere));
+    }
+    if let Some(file) = stored.differing {
+        return Err(NotPlanned::Differs(file));
     }
     let change = change_with(alloc, stored, snapshot)?;
     Ok(change)

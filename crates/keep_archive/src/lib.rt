@@ -12,9 +12,11 @@ mod carried;
 mod folder;
 mod going;
 mod held;
+mod not_planned;
 mod open_folders;
 mod part_storing;
 
 pub use archive::Archive;
 pub use backup_law::archives_plan_backups;
 pub use carried::Carried;
+pub use not_planned::NotPlanned;
