@@ -105,7 +105,8 @@ fn change_meeting<S: Shelf>(
     ensures refused { IfErr result (λ cause. ledger_of book.new ≡ ledger_of book.old) }
     ensures sums { HasSums book.new }
 {
-    let rule = Pick::Meeting(needs.copied()?);
+    let same = needs.copied()?;
+    let rule = Pick::Meeting(same);
     let ask: AskFacts = Box::new(alloc, move |facts: &SnapFacts| meets(facts, &needs))?;
     let filter = Filter::new(String::new(alloc), rule, ask);
     change_by(alloc, book, settings, filter, task, is_dry)
