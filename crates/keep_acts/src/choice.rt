@@ -70,7 +70,7 @@ fn change_all<S: Shelf>(
     change_by(alloc, book, settings, filter, task, is_dry)
 }
 
-/// The same of the one of this name.
+/// `change`, of the job that does the task to the snapshot of this name.
 fn change_named<S: Shelf>(
     alloc: Global,
     book: &mut Book<S>,
@@ -90,7 +90,7 @@ fn change_named<S: Shelf>(
     change_by(alloc, book, settings, filter, task, is_dry)
 }
 
-/// The same of those that meet all that is needed.
+/// `change`, of the job that does the task to the snapshots that meet all of these needs.
 fn change_meeting<S: Shelf>(
     alloc: Global,
     book: &mut Book<S>,
