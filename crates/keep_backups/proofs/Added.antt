@@ -8,8 +8,8 @@ use Rattle.keep_names.specs.declared.blob.BlobId.{BlobId}
 use Rattle.keep_names.specs.declared.id.Id.{Id}
 use Rattle.keep_archive.specs.Archive.{ArchiveData, AroundData, BegunData, PlaceData}
 use Rattle.keep_archive.specs.Steps.{Closes, content_of, ended, holding, last_of, naming, opened, piece, with_node}
-use Rattle.keep_backup.specs.Blobs.{blob_id_of}
-use Rattle.keep_backup.specs.Walk.{id_of, pieces_of, tree_blob}
+use Rattle.keep_build.specs.Blobs.{blob_id_of, id_of, tree_blob}
+use Rattle.keep_backup.specs.Walk.{pieces_of}
 use Rattle.keep_catalog.specs.Naming.{named_in}
 use Rattle.keep_members.specs.Carried.{IsCarried}
 use Rattle.keep_quoted.specs.Quote.{quoted}

@@ -8,8 +8,7 @@ use Rattle.keep_names.specs.declared.blob.BlobId.{BlobId}
 use Rattle.keep_names.specs.declared.id.Id.{Id}
 use Rattle.keep_archive.specs.Archive.{BlobsData}
 use Rattle.keep_archive.specs.Steps.{holding, naming, piece}
-use Rattle.keep_backup.specs.Blobs.{BlobData, blob_id_of}
-use Rattle.keep_backup.specs.Walk.{id_of, tree_blob}
+use Rattle.keep_build.specs.Blobs.{BlobData, blob_id_of, id_of, tree_blob}
 use Rattle.keep_sources.specs.Given.{Given}
 use Rattle.keep_tree.specs.Tree.{NodeData}
 use Rattle.keep_backups.specs.Taken.{Gives, TakenData, kept_in}

@@ -12,7 +12,6 @@ use Rattle.keep_sources.specs.declared.skipped.Skipped.{Skipped}
 use Rattle.keep_backups.specs.Taken.{Gives, TakenData, kept_in, taken_in, taken_of}
 use Rattle.keep_backups.specs.Trees.{AreNodesOf, IsTreeOf}
 use Rattle.keep_backups.specs.declared.intake.Filled.{Filled}
-use Rattle.keep_backups.specs.declared.not_backed_up.NotBackedUp.{NotBackedUp}
 use Rattle.keep_backups.proofs.Added.{all_given}
 
 module _ (cut : ℕ) (pos : 0 < cut) where
@@ -62,7 +61,7 @@ retold told gives job given now skips named copies same (inr (why, lost, kept, s
 
 -- the same of what an intake gives back
 pub walked : (told : Told) (job : Scope) (start : TakenData) (archive back : Archive) (skips : List Skipped) (done : Result (Vec Skipped Global) Stop)
-    (result : Result Filled NotBackedUp) → IfOk done (λ skipped. TookAll told Gives job start (taken_of (archive_view archive)) skips skipped.items)
+    (result : Result Filled Stop) → IfOk done (λ skipped. TookAll told Gives job start (taken_of (archive_view archive)) skips skipped.items)
     → back ≡ archive → IfOk result (λ filled. filled.archive ≡ back) → IfOk result (λ filled. done ≡ Ok filled.skipped)
     → IfOk result (λ filled. TookAll told Gives job start (taken_of (archive_view filled.archive)) skips filled.skipped.items)
 walked told job start archive back skips done (Ok filled) took own same is =

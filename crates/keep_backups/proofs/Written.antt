@@ -9,8 +9,8 @@ use Rattle.keep_archive.specs.Archive.{BegunData, BlobsData}
 use Rattle.keep_archive.specs.Steps.{Writes, content_of, ended, holding, last_of, piece}
 use Rattle.keep_archive.proofs.Cuts.{both_written, none_written}
 use Rattle.keep_archive.proofs.Given.{cut_pieces}
-use Rattle.keep_backup.specs.Blobs.{blob_id_of}
-use Rattle.keep_backup.specs.Walk.{id_of, pieces_of}
+use Rattle.keep_build.specs.Blobs.{blob_id_of, id_of}
+use Rattle.keep_backup.specs.Walk.{pieces_of}
 use Rattle.keep_sources.specs.Given.{GivesAll, Wrote}
 use Rattle.keep_backups.specs.Taken.{Gives, TakenData}
 use Rattle.keep_backups.proofs.Kept.{Grows, ArePieces, are_pieces, still_pieces, step_place, step_holds, step_held}

@@ -4,7 +4,7 @@ use Rattle.serde_json.specs.Data.{Members}
 use Rattle.keep_archive.specs.Archive.{ArchiveData, BegunData, BlobsData, PlaceData}
 use Rattle.keep_archive.specs.Steps.{AddsOther, Closes, DropsFile, EndsFile, Opens, SamesFile, WritesFile}
 use Rattle.keep_archive.specs.Walked.{nothing}
-use Rattle.keep_backup.specs.Blobs.{blob_id_of}
+use Rattle.keep_build.specs.Blobs.{blob_id_of}
 use Rattle.keep_members.specs.Carried.{IsCarried}
 use Rattle.keep_names.specs.declared.blob.BlobId.{BlobId}
 use Rattle.keep_quoted.specs.Quote.{quoted}

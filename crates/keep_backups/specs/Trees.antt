@@ -1,7 +1,8 @@
 -- The nodes that a backup has of what its walk met.
 use Rattle.std.specs.Prelude.{◌≡◌, ◌⊎◌, ℕ, List, [], ◌∷◌, ◌++◌, map, All, Contains}
 use Rattle.std.specs.List.{flat_map}
-use Rattle.keep_backup.specs.Walk.{id_of, pieces_of, tree_blob}
+use Rattle.keep_backup.specs.Walk.{pieces_of}
+use Rattle.keep_build.specs.Blobs.{id_of, tree_blob}
 use Rattle.keep_catalog.specs.Naming.{named_in}
 use Rattle.keep_members.specs.Carried.{IsCarried}
 use Rattle.keep_names.specs.declared.blob.BlobId.{BlobId}

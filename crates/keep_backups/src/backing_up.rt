@@ -1,13 +1,16 @@
-ghost use Rattle.std.specs.Prelude.{◌≡◌, IfErr, IfOk, IfSome, Some, map, string_bytes};
+ghost use Rattle.std.specs.Prelude.{◌≡◌, IfErr, IfOk, IfSome, Ok, Some, map, string_bytes};
+ghost use Rattle.std.specs.Option.{unwrap_or};
 ghost use Rattle.keep_archive.specs.Archive.{ArchiveData, archive_view};
 ghost use Rattle.keep_backup.specs.Backup.{facts_view};
 ghost use Rattle.keep_book.specs.Armed.{HasSums, ledger_of};
 ghost use Rattle.keep_ledger.specs.Sums.{AreSums};
 ghost use Rattle.keep_sources.specs.Took.{TookAll, skip_view};
 ghost use Rattle.keep_sources.specs.Walked.{archive_of, skipped_of};
-ghost use Rattle.keep_backups.specs.Parts.{AddsSnapshot, BacksUp, StoresParts};
+ghost use Rattle.keep_backups.specs.Parts.{AddsSnapshot, BacksUp, IsCause, StoresParts};
 ghost use Rattle.keep_backups.specs.Taken.{Gives, kept_in, taken_of};
 ghost use Rattle.keep_backups.specs.Trees.{IsTreeOf};
+ghost use Rattle.keep_backups.specs.declared.not_backed_up.NotBackedUp.TheVariants.{Unplanned};
+ghost use Rattle.keep_plan.specs.declared.plan_error.PlanError.TheVariants.{Memory};
 
 use crate::backed_up::BackedUp;
 use crate::begun::Begun;
@@ -18,6 +21,7 @@ use crate::not_backed_up::NotBackedUp;
 use keep_backup::BackupFacts;
 use keep_book::Book;
 use keep_build::Cut;
+use keep_plan::PlanError;
 use keep_shelf::Shelf;
 use keep_sources::{Receives, Scope, Skipped, Source, Stop, Taking};
 use std::alloc::{AllocError, Global};
@@ -36,7 +40,8 @@ pub struct Wish<'a> {
 /// change that adds the snapshot, with these facts and tags. What isn't in the snapshot's tree, or not as it was seen, is
 /// named.
 ///
-/// Where no snapshot is added the parts that were committed stay.
+/// Where no snapshot is added the parts that were committed stay. No change is planned over a file that was built for it
+/// and is there with other bytes: the first such file is named.
 pub fn back_up<S: Shelf, R: Source>(
     alloc: Global,
     book: &mut Book<S>,
@@ -48,6 +53,7 @@ pub fn back_up<S: Shelf, R: Source>(
         (facts_view wish.now.facts.now) (map string_bytes wish.now.tags.now)
         (ledger_of book.old) (ledger_of book.new) done.skipped.items ∥₁) }
     ensures refused { IfErr result (λ _. ∥ StoresParts (ledger_of book.old) (ledger_of book.new) ∥₁) }
+    ensures cause { IfErr result (λ cause. ∥ IsCause (ledger_of book.new) cause ∥₁) }
     ensures sums { HasSums book.new }
 {
     let (given, filled) = filled::<Brand, Book<S>, R>(alloc, Given { book }, source, wish);
@@ -69,6 +75,7 @@ fn filled<'b, B: Begun, K: Keeps, R: Source>(
     ensures same_reference { result.0.book.ghost_name ≡ given.entry.book.ghost_name }
     ensures sums { let k = result.0.book.now in AreSums (K.ledger k).events (K.hooks k).watches (K.tallies k) }
     ensures parts { ∥ StoresParts B.before (K.ledger result.0.book.now) ∥₁ }
+    ensures cause { IfErr result.1 (λ cause. ∥ IsCause (K.ledger result.0.book.now) cause ∥₁) }
     ensures tree { IfOk result.1 (λ filled. IfSome (archive_view filled.archive) (λ archive.
         IsTreeOf R.told wish.now.job.now wish.now.cut.bytes (kept_in archive.blobs) archive.place.nodes
         filled.skipped.items)) }
@@ -76,11 +83,27 @@ fn filled<'b, B: Begun, K: Keeps, R: Source>(
     let Given { book } = given;
     let mut lent: Lent<'b, B, K> = Lent {
         book,
+        refusal: None,
         of: PhantomData,
     };
     let filled = fill(alloc, &mut lent, source, wish);
-    let Lent { book, of: _ } = lent;
-    (Given { book }, filled)
+    let Lent {
+        book,
+        refusal,
+        of: _,
+    } = lent;
+    (Given { book }, told(filled, refusal))
+}
+
+/// What was taken, or why not all of it was: that is kept, unless memory ran out.
+fn told(filled: Result<Filled, Stop>, refusal: Option<NotBackedUp>) -> Result<Filled, NotBackedUp>
+    ensures filled { IfOk result (λ all. filled ≡ Ok all) }
+    ensures cause { IfErr result (λ cause. cause ≡ unwrap_or refusal (Unplanned Memory)) }
+{
+    match filled {
+        Ok(filled) => Ok(filled),
+        Err(_) => Err(refusal.unwrap_or(NotBackedUp::Unplanned(PlanError::Memory))),
+    }
 }
 
 /// Commits the change that adds the snapshot.
@@ -96,6 +119,7 @@ fn add_snapshot<K: Keeps>(
         (facts_view wish.now.facts.now) (map string_bytes wish.now.tags.now)) }
     ensures skipped { IfOk result (λ done. done.skipped ≡ filled.skipped) }
     ensures refused { IfErr result (λ _. K.ledger book.new ≡ K.ledger book.old) }
+    ensures cause { IfErr result (λ cause. ∥ IsCause (K.ledger book.new) cause ∥₁) }
     ensures sums { AreSums (K.ledger book.new).events (K.hooks book.new).watches (K.tallies book.new) }
 {
     let Filled {
@@ -121,7 +145,7 @@ fn fill<B: Begun, K: Keeps, R: Source>(
     lent: &mut Lent<'_, B, K>,
     source: R,
     wish: &Wish<'_>,
-) -> Result<Filled, NotBackedUp>
+) -> Result<Filled, Stop>
     ensures same_reference { lent.new.book.ghost_name ≡ lent.old.book.ghost_name }
     ensures tree { IfOk result (λ filled. IfSome (archive_view filled.archive) (λ archive.
         IsTreeOf R.told wish.now.job.now wish.now.cut.bytes (kept_in archive.blobs) archive.place.nodes
@@ -137,7 +161,7 @@ fn walk<B: Begun, K: Keeps, R: Source>(
     alloc: Global,
     mut taking: Taking<R, Intake<'_, '_, B, K>>,
     job: &Scope,
-) -> Result<Filled, NotBackedUp>
+) -> Result<Filled, Stop>
     ensures { IfOk result (λ filled. TookAll R.told Gives job.now
         (taken_of (archive_view (archive_of taking.entry).archive)) (taken_of (archive_view filled.archive))
         (skipped_of taking.entry) filled.skipped.items) }

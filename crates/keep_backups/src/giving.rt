@@ -3,7 +3,6 @@ ghost use Rattle.std.specs.Prelude.{◌≡◌, OnOk};
 use crate::begun::Begun;
 use crate::intake::{Intake, name_of, others_of};
 use crate::keeps::Keeps;
-use crate::not_backed_up::NotBackedUp;
 use crate::type_name::type_name_of;
 use keep_names::Id;
 use keep_sources::{Receives, Stat, Stop};
@@ -70,13 +69,11 @@ impl<B: Begun, K: Keeps> Receives for Intake<'_, '_, B, K> {
     }
 
     fn store_part(&mut self) -> Result<(), Stop> {
-        match self.lent.store(self.alloc, &self.archive) {
-            Ok(is_change) => self.parts = self.parts.saturating_add(is_change as u64),
-            Err(cause) => return Err(self.stop(cause)),
-        }
+        let is_change = self.lent.store(self.alloc, &self.archive)?;
+        self.parts = self.parts.saturating_add(is_change as u64);
         match self.archive.let_go() {
             Ok(()) => Ok(()),
-            Err(error) => Err(self.stop(NotBackedUp::Unplanned(error))),
+            Err(error) => Err(self.lent.unplanned(error)),
         }
     }
 }

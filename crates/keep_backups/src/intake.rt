@@ -9,7 +9,6 @@ use crate::begun::Begun;
 use crate::keeps::Keeps;
 use crate::lent::Lent;
 use crate::node_members::members_of;
-use crate::not_backed_up::NotBackedUp;
 use keep_archive::{Archive, Carried};
 use keep_build::Cut;
 use keep_members::carried;
@@ -26,8 +25,6 @@ pub(crate) struct Intake<'a, 'b, B: Begun, K: Keeps> {
     pub(crate) archive: Archive,
     /// How many parts were committed.
     pub(crate) parts: u64,
-    /// Why no more is taken, if it isn't memory that ran out.
-    pub(crate) refusal: Option<NotBackedUp>,
 }
 
 /// All that was taken.
@@ -50,12 +47,11 @@ impl<'a, 'b, B: Begun, K: Keeps> Intake<'a, 'b, B, K> {
             lent,
             archive: Archive::new(alloc, cut),
             parts: 0,
-            refusal: None,
         }
     }
 
-    /// What was taken, or why not all of it was. That is kept, unless memory ran out.
-    pub(crate) fn filled(self, done: Result<Vec<Skipped>, Stop>) -> Result<Filled, NotBackedUp>
+    /// What was taken, where all of it was.
+    pub(crate) fn filled(self, done: Result<Vec<Skipped>, Stop>) -> Result<Filled, Stop>
         ensures archive { IfOk result (λ filled. filled.archive ≡ self.entry.archive) }
         ensures skipped { IfOk result (λ filled. done ≡ Ok filled.skipped) }
     {
@@ -64,7 +60,6 @@ impl<'a, 'b, B: Begun, K: Keeps> Intake<'a, 'b, B, K> {
             lent: _,
             archive,
             parts,
-            refusal,
         } = self;
         match done {
             Ok(skipped) => Ok(Filled {
@@ -72,16 +67,8 @@ impl<'a, 'b, B: Begun, K: Keeps> Intake<'a, 'b, B, K> {
                 parts,
                 skipped,
             }),
-            Err(_) => Err(refusal.unwrap_or(NotBackedUp::Unplanned(PlanError::Memory))),
+            Err(stop) => Err(stop),
         }
-    }
-
-    /// Nothing more is taken for this cause.
-    pub(crate) fn stop(&mut self, cause: NotBackedUp) -> Stop
-        ensures { self.new.archive ≡ self.old.archive }
-    {
-        self.refusal = Some(cause);
-        Stop::Refused
     }
 
     /// What the archive answered.
@@ -91,7 +78,7 @@ impl<'a, 'b, B: Begun, K: Keeps> Intake<'a, 'b, B, K> {
     {
         match done {
             Ok(()) => Ok(()),
-            Err(error) => Err(self.stop(NotBackedUp::Unplanned(error))),
+            Err(error) => Err(self.lent.unplanned(error)),
         }
     }
 }

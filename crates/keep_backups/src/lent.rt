@@ -1,6 +1,6 @@
 ghost use Rattle.std.specs.Prelude.{◌≡◌};
 ghost use Rattle.keep_ledger.specs.Sums.{AreSums};
-ghost use Rattle.keep_backups.specs.Parts.{IsPartOn, StoresParts};
+ghost use Rattle.keep_backups.specs.Parts.{IsCauseIfAny, IsPartOn, StoresParts};
 
 use crate::begun::Begun;
 use crate::keeps::Keeps;
@@ -8,6 +8,7 @@ use crate::not_backed_up::NotBackedUp;
 use keep_archive::Archive;
 use keep_change::Planned;
 use keep_plan::PlanError;
+use keep_sources::Stop;
 use std::alloc::Global;
 use std::marker::PhantomData;
 
@@ -20,39 +21,77 @@ pub(crate) struct Given<'b, K: Keeps> {
 #[derive(Drop)]
 pub(crate) struct Lent<'b, B: Begun, K: Keeps> {
     pub(crate) book: &'b mut K,
+    /// Why no more is taken, if it isn't memory that ran out.
+    pub(crate) refusal: Option<NotBackedUp>,
     pub(crate) of: PhantomData<B>,
     pub ghost same: { book.ghost_name ≡ B.name },
     pub ghost sums: { AreSums (K.ledger book.now).events (K.hooks book.now).watches (K.tallies book.now) },
     pub ghost parts: { ∥ StoresParts B.before (K.ledger book.now) ∥₁ },
+    pub ghost cause: { ∥ IsCauseIfAny (K.ledger book.now) refusal ∥₁ },
 }
 
 impl<'b, B: Begun, K: Keeps> Lent<'b, B, K> {
-    ghost use Rattle.std.specs.Prelude.{IfOk, IfSome};
+    ghost use Rattle.std.specs.Prelude.{IfErr, IfOk, IfSome, None, OnOk};
+    ghost use Rattle.keep_acts.specs.Shown.{shown_by};
+    ghost use Rattle.keep_archive.specs.Archive.{archive_view};
+    ghost use Rattle.keep_archive.specs.Plans.{part_differing};
+    ghost use Rattle.keep_backups.specs.Parts.{IsCause};
 
-    /// Commits what the archive holds, unless all of it is stored. It tells whether that was a change.
-    pub(crate) fn store(&mut self, alloc: Global, archive: &Archive) -> Result<bool, NotBackedUp> {
-        let Some(planned) = self.part(alloc, archive)? else {
-            return Ok(false);
-        };
-        self.commit(planned)?;
-        Ok(true)
+    /// Commits what the archive holds, unless all of it is stored. It tells whether that was a change. After a refusal
+    /// nothing is. Where it goes on, no file that was built for the part is there with other bytes.
+    pub(crate) fn store(&mut self, alloc: Global, archive: &Archive) -> Result<bool, Stop>
+        ensures { OnOk result (IfSome (archive_view archive.now)
+            (λ a. part_differing (shown_by (K.ledger self.old.book.now)).repo a ≡ None)) }
+    {
+        if self.refusal.is_some() {
+            return Err(Stop::Refused);
+        }
+        match self.part(alloc, archive) {
+            Ok(Some(planned)) => {
+                self.commit(planned)?;
+                Ok(true)
+            }
+            Ok(None) => Ok(false),
+            Err(cause) => Err(self.stop(cause)),
+        }
+    }
+
+    /// Nothing more is taken, as this isn't planned.
+    pub(crate) fn unplanned(&mut self, error: PlanError) -> Stop {
+        self.stop(NotBackedUp::Unplanned(error))
+    }
+
+    /// Nothing more is taken for this cause.
+    fn stop(&mut self, cause: NotBackedUp) -> Stop
+        requires { ∥ IsCause (K.ledger self.old.book.now) cause ∥₁ }
+    {
+        self.refusal = Some(cause);
+        Stop::Refused
     }
 
     /// The change that stores what the archive holds.
-    fn part(&self, alloc: Global, archive: &Archive) -> Result<Option<Planned>, PlanError>
-        ensures { IfOk result (λ part. IfSome part (λ planned. ∥ IsPartOn (K.ledger self.now.book.now) planned ∥₁)) }
+    fn part(&self, alloc: Global, archive: &Archive) -> Result<Option<Planned>, NotBackedUp>
+        ensures part { IfOk result (λ part. IfSome part (λ planned. ∥ IsPartOn (K.ledger self.now.book.now) planned ∥₁)) }
+        ensures none_differs { OnOk result (IfSome (archive_view archive.now)
+            (λ a. part_differing (shown_by (K.ledger self.now.book.now)).repo a ≡ None)) }
+        ensures cause { IfErr result (λ cause. ∥ IsCause (K.ledger self.now.book.now) cause ∥₁) }
     {
         let view = self.book.view();
-        archive.plan_part(alloc, &view)
+        let part = archive.plan_part(alloc, &view)?;
+        Ok(part)
     }
 
     /// Commits a part.
-    fn commit(&mut self, planned: Planned) -> Result<(), NotBackedUp>
+    fn commit(&mut self, planned: Planned) -> Result<(), Stop>
         requires part { ∥ IsPartOn (K.ledger self.old.book.now) planned ∥₁ }
+        requires going { self.old.refusal ≡ None }
     {
         match self.book.commit(planned) {
             Ok(_) => Ok(()),
-            Err(refusal) => Err(NotBackedUp::Refused(refusal)),
+            Err(refusal) => {
+                self.refusal = Some(NotBackedUp::Refused(refusal));
+                Err(Stop::Refused)
+            }
         }
     }
 }

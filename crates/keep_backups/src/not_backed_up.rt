@@ -1,6 +1,8 @@
 ghost use Rattle.std.specs.Prelude.{◌≡◌};
 
+use keep_archive::NotPlanned;
 use keep_ledger::Refusal;
+use keep_names::FileName;
 use keep_plan::PlanError;
 use std::alloc::AllocError;
 
@@ -10,6 +12,9 @@ use std::alloc::AllocError;
 pub enum NotBackedUp {
     /// What was given makes no backup, or a change of it isn't planned. Want of memory is this one's.
     Unplanned(PlanError),
+    /// A file that was built is there already with other bytes: it was damaged, and what the backup would store in it
+    /// couldn't be restored. Behind a drop of the file the backup can be done.
+    Differs(FileName),
     /// The book refused a change that was planned.
     Refused(Refusal),
 }
@@ -32,5 +37,18 @@ impl From<PlanError> for NotBackedUp {
 
     fn from(error: PlanError) -> NotBackedUp {
         NotBackedUp::Unplanned(error)
+    }
+}
+
+impl From<NotPlanned> for NotBackedUp {
+    ghost use Rattle.keep_backups.specs.Parts.{of_archive};
+
+    ghost from_gives = { λ refused cause. cause ≡ of_archive refused };
+
+    fn from(refused: NotPlanned) -> NotBackedUp {
+        match refused {
+            NotPlanned::Unplanned(error) => NotBackedUp::Unplanned(error),
+            NotPlanned::Differs(file) => NotBackedUp::Differs(file),
+        }
     }
 }

@@ -7,4 +7,5 @@ invariant_of-lent g c = record {
   same = c.requires.name;
   sums = c.requires.sums;
   parts = ∣ none_yet g.B.Begun.before (g.K.Keeps.ledger c.args.given.book.now) c.requires.before ∣₁;
+  cause = ∣ tt ∣₁;
 }
