@@ -29,7 +29,7 @@ pub enum Came {
 /// Does the deed, and nothing else.
 pub fn perform<S: Shelf>(alloc: Global, book: &mut Book<S>, settings: Settings, deed: Deed) -> Came
     requires { HasSums book.old }
-    ensures performs { Performs book.old (settings_view settings) (deed_view deed.entry) result book.new }
+    ensures performs { Performs book.old (settings_view settings) (deed_view deed) result book.new }
     ensures sums { HasSums book.new }
 {
     match deed {
