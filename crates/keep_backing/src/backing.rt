@@ -71,6 +71,13 @@ fn tell(run: &Run<'_>, came: Result<BackedUp, NotBackedUp>, is_dry: bool) -> Res
         Ok(done) => tell_backup(run, &done, is_dry),
         Err(NotBackedUp::Unplanned(error)) => Err(Failure::refused(run.alloc, &PlanAdvice(&error))),
         Err(NotBackedUp::Refused(refusal)) => Err(refused(run, 0, &refusal)),
+        Err(NotBackedUp::Differs(file)) => {
+            let cause = format!(in run.alloc;
+                "{file} is damaged, it has other bytes than the backup would store there: \
+                 echo drop {file} | keep script, then back up again"
+            )?;
+            Err(Failure::Refused(cause))
+        }
     }
 }
 
