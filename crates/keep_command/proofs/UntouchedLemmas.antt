@@ -1,5 +1,5 @@
 -- What is to be shown by the options that are given, and where memory runs out before anything is read or written.
-use Rattle.std.proofs.Common.{◌≡◌, ℕ, IfSome, List, Option, Some, None, Result, inr, refl, subst, sym}
+use Rattle.std.proofs.Common.{◌≡◌, ℕ, IfErr, IfSome, List, Option, Some, None, Result, Ok, Err, inr, refl, subst, sym}
 use Rattle.std.proofs.KnownBytes.{Keeps-refl}
 use Rattle.keep_shelf.specs.Shelved.{Shelved}
 use Rattle.keep_disk.specs.declared.folder_error.FolderError.{FolderError}
@@ -14,6 +14,11 @@ use Rattle.keep_command.specs.declared.ending.Ending.TheVariants.{Ran}
 
 pub nothing-done : (known old : Option (List ℕ)) → IsUntouched known known old old
 nothing-done known old = (Keeps-refl known, Keeps-refl old)
+
+-- an error behind which nothing was done
+pub refused-untouched : {T E : Type 0} (r : Result T E) (known old : Option (List ℕ)) → IfErr r (λ error. IsUntouched known known old old)
+refused-untouched (Ok value) known old = tt
+refused-untouched (Err error) known old = nothing-done known old
 
 -- whatever the options are
 pub without-memory : {S : Type 0} (shelved : S → Shelved) (gives : Option (List ℕ) → Result S FolderError → Type 0) (takes : LeftData → Type 0) (answers : Result CrewTally NoCrew → Type 0) (found : Option OptionsData) (known left old new : Option (List ℕ))

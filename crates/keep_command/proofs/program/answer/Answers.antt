@@ -1,6 +1,7 @@
 use Rattle.std.proofs.Common.{◌≡◌, ◌∙◌, ap, map, rules, string_bytes}
 use Rattle.keep_jobs.specs.Kits.{named_rule}
 use Rattle.keep_command.proofs.StoredLemmas.{are-filters, ends-by}
+use Rattle.keep_command.proofs.UntouchedLemmas.{refused-untouched}
 use Rattle.keep_options.specs.Option.{options_view}
 use Rattle.keep_command.specs.Running.{stored_filters}
 use Rattle.keep_command.specs.NamedShelf.{shelved_of}
@@ -18,3 +19,11 @@ returns-clause-ends g c =
     ends-by shelved_of (g.H.Shelves.gives c.args.shelves.now) (g.H.Shelves.takes c.args.shelves.now) (g.C.Crew.answers c.args.crew.now) c.answer_with.result (options_view c.args.terms.options) (map named_rule c.in_ok-filters.filters.items) host tag
     (g.R.Read.remaining c.args.reader.now) (g.R.Read.remaining c.answer_with.new.reader) (g.W.Write.contents c.args.writer.now) (g.W.Write.contents c.answer_with.new.writer)
     (search rules) (search rules) same c.answer_with.ensures.ends
+
+pub returns-in_err-new-3-clause-untouched : goal.returns-in_err-new-3-clause-untouched
+returns-in_err-new-3-clause-untouched g c =
+    refused-untouched c.from_residual-in_err-new-3.result (g.R.Read.remaining c.args.reader.now) (g.W.Write.contents c.args.writer.now)
+
+pub returns-in_err-from_str-3-clause-untouched : goal.returns-in_err-from_str-3-clause-untouched
+returns-in_err-from_str-3-clause-untouched g c =
+    refused-untouched c.from_residual-in_err-from_str-3.result (g.R.Read.remaining c.args.reader.now) (g.W.Write.contents c.args.writer.now)
