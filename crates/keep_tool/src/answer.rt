@@ -11,10 +11,12 @@ use keep_outcomes::{Way, tell_made, tell_outcome, tell_pruned, tell_taken};
 use keep_run::{Failure, Run, meant, numbers_text, refused, require_told};
 use keep_shelf::Shelf;
 use keep_words::Command;
+use std::thread::Threads;
 
 /// Does what the command asks of the book, and prints what came of it; or prints what is asked for.
 pub(crate) fn answer<S: Shelf>(
     run: &Run<'_>,
+    threads: &(impl Threads + Sync),
     book: &mut Book<S>,
     command: &Command<'_>,
 ) -> Result<(), Failure>
@@ -22,10 +24,10 @@ pub(crate) fn answer<S: Shelf>(
 {
     let named = named(run, book, command)?;
     match deed_of(run.alloc, command, named) {
-        Ok(None) => look(run, book, command),
+        Ok(None) => look(run, threads, book, command),
         Ok(Some(deed)) => {
             confirm(run, book, command)?;
-            hash_first(run, book, command);
+            hash_first(run, threads, book, command);
             let came = perform(run.alloc, book, run.settings(), deed);
             require_told(run, book)?;
             tell_came(run, book.ledger().history(), command, came)
@@ -51,12 +53,17 @@ fn named<S: Shelf>(
 }
 
 /// Has all blobs hashed at once where the command asks of nearly each whether its bytes are its own, which is remembered.
-fn hash_first<S: Shelf>(run: &Run<'_>, book: &mut Book<S>, command: &Command<'_>)
+fn hash_first<S: Shelf>(
+    run: &Run<'_>,
+    threads: &(impl Threads + Sync),
+    book: &mut Book<S>,
+    command: &Command<'_>,
+)
     requires { HasSums book.old }
     ensures { HasSums book.new }
 {
     if let Command::Mark | Command::Prune { .. } = command {
-        book.hash_all(&mut HostHashing::new(run.rt, "mark"));
+        book.hash_all(&mut HostHashing::new(run.rt, threads, "mark"));
     }
 }
 

@@ -7,7 +7,7 @@ use keep_progress::CountedFiles;
 use keep_run::{Failure, Run};
 use keep_shelf::Shelf;
 use keep_words::Command;
-use std::thread;
+use std::thread::{self, Threads};
 use std::time::Duration;
 
 /// How often a second the lock of a folder is asked for.
@@ -15,16 +15,20 @@ const TRIES: u64 = 10;
 
 /// Does what the command says over the repository's folder. One that only looks works on what stands there, taken into
 /// memory, and lets the folder go first. How far the opening is is said until there is a book.
-pub(crate) fn over_folder(run: &Run<'_>, command: &Command<'_>) -> Result<(), Failure> {
+pub(crate) fn over_folder(
+    run: &Run<'_>,
+    threads: &(impl Threads + Sync),
+    command: &Command<'_>,
+) -> Result<(), Failure> {
     let files = CountedFiles::new(run.rt);
     let mut shelf = open(run, &files)?;
     if !only_looks(command) {
-        return over_shelf(run, &files, shelf, command);
+        return over_shelf(run, threads, &files, shelf, command);
     }
     let copy = copied(run.alloc, &mut shelf);
     drop(shelf);
     match copy {
-        Ok(copy) => over_shelf(run, &files, copy, command),
+        Ok(copy) => over_shelf(run, threads, &files, copy, command),
         Err(error) => Err(unopened(run, &Unopened::Unread(error))),
     }
 }
@@ -46,6 +50,7 @@ fn only_looks(command: &Command<'_>) -> bool {
 /// Does what the command says over the book of what stands on the shelf, once it is open.
 fn over_shelf<S: Shelf>(
     run: &Run<'_>,
+    threads: &(impl Threads + Sync),
     files: &CountedFiles<'_>,
     shelf: S,
     command: &Command<'_>,
@@ -53,7 +58,7 @@ fn over_shelf<S: Shelf>(
     let opened = Book::open(run.alloc, shelf);
     files.end();
     match opened {
-        Ok(mut book) => answer(run, &mut book, command),
+        Ok(mut book) => answer(run, threads, &mut book, command),
         Err(given) => Err(unopened(run, &refusal_of(run.alloc, given))),
     }
 }

@@ -10,28 +10,32 @@ use std::thread::Threads;
 
 /// Hashes on all processors, and says how far it is.
 #[derive(Drop)]
-pub(crate) struct HostHashing<'a> {
-    rt: &'a HostRuntime,
+pub(crate) struct HostHashing<'a, T> {
+    threads: &'a T,
     meter: Meter<'a>,
 }
 
-impl<'a> HostHashing<'a> {
+impl<'a, T> HostHashing<'a, T> {
     /// For work that goes by this verb.
-    pub(crate) fn new(rt: &'a HostRuntime, verb: &'static str) -> HostHashing<'a> {
+    pub(crate) fn new(
+        rt: &'a HostRuntime,
+        threads: &'a T,
+        verb: &'static str,
+    ) -> HostHashing<'a, T> {
         HostHashing {
-            rt,
+            threads,
             meter: Meter::new(rt, verb, "blobs"),
         }
     }
 }
 
-impl Hashing for HostHashing<'_> {
+impl<T: Threads + Sync> Hashing for HostHashing<'_, T> {
     fn begin(&mut self, bytes: u64) {
         self.meter.expect(bytes);
     }
 
     fn ids(&mut self, alloc: Global, pieces: &[&[u8]]) -> Result<Vec<Id>, AllocError> {
-        let ids = ids_of(self.rt, alloc, pieces)?;
+        let ids = ids_of(self.threads, alloc, pieces)?;
         for piece in pieces {
             self.meter.count_item();
             self.meter.count_bytes(piece.len());

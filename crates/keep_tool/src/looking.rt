@@ -9,17 +9,19 @@ use keep_run::{Failure, Run};
 use keep_shelf::Shelf;
 use keep_showing::{check, compare, find, graph, history, list_nodes, list_snapshots};
 use keep_words::Command;
+use std::thread::Threads;
 
 /// Prints what the command asks for.
 pub(crate) fn look<S: Shelf>(
     run: &Run<'_>,
+    threads: &(impl Threads + Sync),
     book: &mut Book<S>,
     command: &Command<'_>,
 ) -> Result<(), Failure>
     requires { HasSums book.old }
 {
     match command {
-        Command::Check { .. } => check(run, book, HostHashing::new(run.rt, "check")),
+        Command::Check { .. } => check(run, book, HostHashing::new(run.rt, threads, "check")),
         Command::History { last } => history(run, book, *last),
         Command::Show { change } => show(run, book, *change),
         Command::Graph { change, dot } => graph(run, book, *change, *dot),
