@@ -81,10 +81,10 @@ fn run_command(
         now: now(rt),
         zone: &zone,
     };
-    match command {
-        Command::Script { file } => script(&run, file),
+    match &command {
+        Command::Script { file } => script(&run, *file),
         Command::Rescue { target, .. } => rescue_folder(&run, target),
-        command => over_folder(&run, threads, &command),
+        command => over_folder(&run, threads, command),
     }
 }
 

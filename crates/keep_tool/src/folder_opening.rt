@@ -1,9 +1,8 @@
 use crate::answer::answer;
 use keep_book::Book;
 use keep_disk::FolderError;
-use keep_folder::FolderShelf;
-use keep_openings::{CountedTree, Unopened, copied, open_counted, refusal_of};
-use keep_progress::CountedFiles;
+use keep_folder::{FolderShelf, HostTree, open_folder};
+use keep_openings::{Unopened, copied, refusal_of};
 use keep_run::{Failure, Run};
 use keep_shelf::Shelf;
 use keep_words::Command;
@@ -14,21 +13,20 @@ use std::time::Duration;
 const TRIES: u64 = 10;
 
 /// Does what the command says over the repository's folder. One that only looks works on what stands there, taken into
-/// memory, and lets the folder go first. How far the opening is is said until there is a book.
+/// memory, and lets the folder go first.
 pub(crate) fn over_folder(
     run: &Run<'_>,
     threads: &(impl Threads + Sync),
     command: &Command<'_>,
 ) -> Result<(), Failure> {
-    let files = CountedFiles::new(run.rt);
-    let mut shelf = open(run, &files)?;
+    let mut shelf = open(run)?;
     if !only_looks(command) {
-        return over_shelf(run, threads, &files, shelf, command);
+        return over_shelf(run, threads, shelf, command);
     }
     let copy = copied(run.alloc, &mut shelf);
     drop(shelf);
     match copy {
-        Ok(copy) => over_shelf(run, threads, &files, copy, command),
+        Ok(copy) => over_shelf(run, threads, copy, command),
         Err(error) => Err(unopened(run, &Unopened::Unread(error))),
     }
 }
@@ -47,37 +45,29 @@ fn only_looks(command: &Command<'_>) -> bool {
     }
 }
 
-/// Does what the command says over the book of what stands on the shelf, once it is open.
+/// Does what the command says over the book of what stands on the shelf.
 fn over_shelf<S: Shelf>(
     run: &Run<'_>,
     threads: &(impl Threads + Sync),
-    files: &CountedFiles<'_>,
     shelf: S,
     command: &Command<'_>,
 ) -> Result<(), Failure> {
-    let opened = Book::open(run.alloc, shelf);
-    files.end();
-    match opened {
+    match Book::open(run.alloc, shelf) {
         Ok(mut book) => answer(run, threads, &mut book, command),
         Err(given) => Err(unopened(run, &refusal_of(run.alloc, given))),
     }
 }
 
 /// The shelf of the repository's folder. While another run has it, this one waits.
-fn open<'f, 'a>(
-    run: &Run<'a>,
-    files: &'f CountedFiles<'a>,
-) -> Result<FolderShelf<CountedTree<'f, 'a>>, Failure> {
+fn open<'a>(run: &Run<'a>) -> Result<FolderShelf<HostTree<'a>>, Failure> {
     for _ in 0..run.wait.saturating_mul(TRIES) {
-        files.begin("open");
-        match open_counted(run.rt, files, run.folder) {
+        match open_folder(run.rt, run.folder) {
             Err(FolderError::Locked) => thread::sleep(run.rt, Duration::from_millis(1000 / TRIES)),
             Err(error) => return Err(unopened(run, &Unopened::Folder(error))),
             Ok(shelf) => return Ok(shelf),
         }
     }
-    files.begin("open");
-    match open_counted(run.rt, files, run.folder) {
+    match open_folder(run.rt, run.folder) {
         Ok(shelf) => Ok(shelf),
         Err(error) => Err(unopened(run, &Unopened::Folder(error))),
     }
