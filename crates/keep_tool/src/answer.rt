@@ -1,6 +1,5 @@
 ghost use Rattle.keep_book.specs.Armed.{HasSums};
 
-use crate::hashing::HostHashing;
 use crate::looking::look;
 use crate::yes_or_no::agrees;
 use keep_book::Book;
@@ -11,12 +10,10 @@ use keep_outcomes::{Way, tell_made, tell_outcome, tell_pruned, tell_taken};
 use keep_run::{Failure, Run, meant, numbers_text, refused, require_told};
 use keep_shelf::Shelf;
 use keep_words::Command;
-use std::thread::Threads;
 
 /// Does what the command asks of the book, and prints what came of it; or prints what is asked for.
 pub(crate) fn answer<S: Shelf>(
     run: &Run<'_>,
-    threads: &(impl Threads + Sync),
     book: &mut Book<S>,
     command: &Command<'_>,
 ) -> Result<(), Failure>
@@ -24,10 +21,9 @@ pub(crate) fn answer<S: Shelf>(
 {
     let named = named(run, book, command)?;
     match deed_of(run.alloc, command, named) {
-        Ok(None) => look(run, threads, book, command),
+        Ok(None) => look(run, book, command),
         Ok(Some(deed)) => {
             confirm(run, book, command)?;
-            hash_first(run, threads, book, command);
             let came = perform(run.alloc, book, run.settings(), deed);
             require_told(run, book)?;
             tell_came(run, book.ledger().history(), command, came)
@@ -49,21 +45,6 @@ fn named<S: Shelf>(
     match words.snapshot {
         Some(text) => Ok(Some(meant(run, book, text)?)),
         None => Ok(None),
-    }
-}
-
-/// Has all blobs hashed at once where the command asks of nearly each whether its bytes are its own, which is remembered.
-fn hash_first<S: Shelf>(
-    run: &Run<'_>,
-    threads: &(impl Threads + Sync),
-    book: &mut Book<S>,
-    command: &Command<'_>,
-)
-    requires { HasSums book.old }
-    ensures { HasSums book.new }
-{
-    if let Command::Mark | Command::Prune { .. } = command {
-        book.hash_all(&mut HostHashing::new(run.rt, threads, "mark"));
     }
 }
 

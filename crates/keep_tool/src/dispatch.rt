@@ -11,11 +11,10 @@ use keep_words::{Command, Words};
 use std::alloc::Global;
 use std::env::{self, VarError};
 use std::io::ErrorKind;
-use std::thread::Threads;
 use std::time::Clock;
 
-/// Does what the words of the process say, and hashes in these threads.
-pub(crate) fn keep(rt: &HostRuntime, threads: &(impl Threads + Sync)) -> Result<(), Failure> {
+/// Does what the words of the process say.
+pub(crate) fn keep(rt: &HostRuntime) -> Result<(), Failure> {
     let alloc = rt.alloc();
     let words: Vec<String> = match env::args(rt) {
         Ok(words) => words.collect(alloc)?,
@@ -24,7 +23,7 @@ pub(crate) fn keep(rt: &HostRuntime, threads: &(impl Threads + Sync)) -> Result<
     };
     let words: Vec<&str> = words.iter().map(|word| word.as_str()).collect(alloc)?;
     match read_words(alloc, words.as_slice()) {
-        Ok(words) => run_words(rt, threads, words),
+        Ok(words) => run_words(rt, words),
         Err(error) => {
             if error.print(rt).is_err() {
                 return Err(Failure::Unwritten);
@@ -39,11 +38,7 @@ pub(crate) fn keep(rt: &HostRuntime, threads: &(impl Threads + Sync)) -> Result<
 }
 
 /// Does what these words say.
-fn run_words(
-    rt: &HostRuntime,
-    threads: &(impl Threads + Sync),
-    words: Words<'_>,
-) -> Result<(), Failure> {
+fn run_words(rt: &HostRuntime, words: Words<'_>) -> Result<(), Failure> {
     let Words {
         repo,
         json,
@@ -52,7 +47,7 @@ fn run_words(
     } = words;
     match command {
         Command::Init { folder } => begin_at(rt, folder, json),
-        command => run_command(rt, threads, repo, json, wait, command),
+        command => run_command(rt, repo, json, wait, command),
     }
 }
 
@@ -60,7 +55,6 @@ fn run_words(
 /// its own.
 fn run_command(
     rt: &HostRuntime,
-    threads: &(impl Threads + Sync),
     repo: Option<&str>,
     is_json: bool,
     wait: u64,
@@ -84,7 +78,7 @@ fn run_command(
     match &command {
         Command::Script { file } => script(&run, *file),
         Command::Rescue { target, .. } => rescue_folder(&run, target),
-        command => over_folder(&run, threads, command),
+        command => over_folder(&run, command),
     }
 }
 

@@ -6,7 +6,7 @@ use keep_openings::{Unopened, copied, refusal_of};
 use keep_run::{Failure, Run};
 use keep_shelf::Shelf;
 use keep_words::Command;
-use std::thread::{self, Threads};
+use std::thread;
 use std::time::Duration;
 
 /// How often a second the lock of a folder is asked for.
@@ -14,19 +14,15 @@ const TRIES: u64 = 10;
 
 /// Does what the command says over the repository's folder. One that only looks works on what stands there, taken into
 /// memory, and lets the folder go first.
-pub(crate) fn over_folder(
-    run: &Run<'_>,
-    threads: &(impl Threads + Sync),
-    command: &Command<'_>,
-) -> Result<(), Failure> {
+pub(crate) fn over_folder(run: &Run<'_>, command: &Command<'_>) -> Result<(), Failure> {
     let mut shelf = open(run)?;
     if !only_looks(command) {
-        return over_shelf(run, threads, shelf, command);
+        return over_shelf(run, shelf, command);
     }
     let copy = copied(run.alloc, &mut shelf);
     drop(shelf);
     match copy {
-        Ok(copy) => over_shelf(run, threads, copy, command),
+        Ok(copy) => over_shelf(run, copy, command),
         Err(error) => Err(unopened(run, &Unopened::Unread(error))),
     }
 }
@@ -46,14 +42,9 @@ fn only_looks(command: &Command<'_>) -> bool {
 }
 
 /// Does what the command says over the book of what stands on the shelf.
-fn over_shelf<S: Shelf>(
-    run: &Run<'_>,
-    threads: &(impl Threads + Sync),
-    shelf: S,
-    command: &Command<'_>,
-) -> Result<(), Failure> {
+fn over_shelf<S: Shelf>(run: &Run<'_>, shelf: S, command: &Command<'_>) -> Result<(), Failure> {
     match Book::open(run.alloc, shelf) {
-        Ok(mut book) => answer(run, threads, &mut book, command),
+        Ok(mut book) => answer(run, &mut book, command),
         Err(given) => Err(unopened(run, &refusal_of(run.alloc, given))),
     }
 }

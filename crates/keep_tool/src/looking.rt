@@ -1,6 +1,6 @@
 ghost use Rattle.keep_book.specs.Armed.{HasSums};
 
-use crate::hashing::HostHashing;
+use crate::hashing::CountedHashing;
 use keep_backing::backup;
 use keep_book::Book;
 use keep_outcomes::show;
@@ -9,19 +9,17 @@ use keep_run::{Failure, Run};
 use keep_shelf::Shelf;
 use keep_showing::{check, compare, find, graph, history, list_nodes, list_snapshots};
 use keep_words::Command;
-use std::thread::Threads;
 
 /// Prints what the command asks for.
 pub(crate) fn look<S: Shelf>(
     run: &Run<'_>,
-    threads: &(impl Threads + Sync),
     book: &mut Book<S>,
     command: &Command<'_>,
 ) -> Result<(), Failure>
     requires { HasSums book.old }
 {
     match command {
-        Command::Check { .. } => check(run, book, HostHashing::new(run.rt, threads, "check")),
+        Command::Check { .. } => check(run, book, CountedHashing::new(run.rt)),
         Command::History { last } => history(run, book, *last),
         Command::Show { change } => show(run, book, *change),
         Command::Graph { change, dot } => graph(run, book, *change, *dot),

@@ -18,7 +18,7 @@ fn main(rt: HostRuntime) -> ExitCode {
     if fill_streams(&rt).is_err() {
         return ExitCode::from(1);
     }
-    match keep(&rt, &rt) {
+    match keep(&rt) {
         Ok(()) => ExitCode::SUCCESS,
         Err(failure) => ExitCode::from(tell(&rt, failure)),
     }
