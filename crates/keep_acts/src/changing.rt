@@ -2,9 +2,9 @@ ghost use Rattle.std.specs.Prelude.{◌≡◌, ◌≢◌, Err, IfErr, IfOk, true
 ghost use Rattle.keep_acts.specs.Shown.{shown_by};
 ghost use Rattle.keep_book.specs.Armed.{HasSums, ledger_of};
 ghost use Rattle.keep_docs.specs.Doc.{Answers};
-ghost use Rattle.keep_journal.specs.History.{length_of};
 ghost use Rattle.keep_jobs.specs.Job.{has_bad_edit, job_change, job_view, settings_view};
 ghost use Rattle.keep_plan.specs.declared.plan_error.PlanError.TheVariants as plan_error;
+ghost use Rattle.keep_view.specs.Planned.{IsPlannedOn};
 ghost use Rattle.keep_acts.specs.Changing.{Changes, Commits};
 ghost use Rattle.keep_acts.specs.declared.not_done.NotDone.TheVariants as the_cause;
 
@@ -74,7 +74,7 @@ fn planned_on<S: Shelf, F: HoldsFilter>(
 ) -> Result<Planned, PlanError>
     ensures change { Answers plan_error.Memory (λ planned. planned.change)
         (job_change (shown_by (ledger_of book.now)) (settings_view settings) (job_view F.rule job.now)) result }
-    ensures seen { IfOk result (λ planned. planned.seen ≡ length_of (ledger_of book.now).events) }
+    ensures planned { IfOk result (IsPlannedOn (shown_by (ledger_of book.now))) }
     ensures bad_edit { has_bad_edit (job_view F.rule job.now) ≡ true → result ≡ Err plan_error.BadEdit }
 {
     let planned = plan(alloc, &book.ledger().view(), settings, job)?;

@@ -1,5 +1,5 @@
 -- The changes that add or drop a file by itself, and the files that lines mean.
-use Rattle.std.specs.Prelude.{ℕ, List, [], ◌∷◌, false, filter, Option, Some}
+use Rattle.std.specs.Prelude.{ℕ, List, [], ◌∷◌, filter, Option, Some}
 use Rattle.std.specs.Option.{option_and_then, unwrap_or}
 use Rattle.std.specs.Ordering.{min_by_ordering}
 use Rattle.std.specs.List.{reduce}
@@ -12,6 +12,7 @@ use Rattle.keep_names.specs.declared.file_name.FileName.{FileName}
 use Rattle.keep_names.specs.declared.file_name.Kind.{Kind}
 use Rattle.keep_names.specs.contracts.file_name.KindPartialEq.TheImpl as the_kind_eq
 use Rattle.keep_repo.specs.Repository.{Repository}
+use Rattle.keep_change.specs.Change.{no_change}
 use Rattle.keep_change.specs.declared.change.Change.{Change}
 use Rattle.keep_change.specs.Lists.{file_names}
 use Rattle.keep_change.specs.NamedBytes.{NamedBytes}
@@ -20,17 +21,7 @@ use Rattle.keep_journal.specs.Journal.{Journal}
 
 -- the change that only adds these files and drops those
 abbrev pub change_with : List NamedBytes → List NamedBytes → Change
-change_with adds drops = record {
-  adds = adds;
-  drops = drops;
-  sets = [];
-  clears = [];
-  present = [];
-  absent = [];
-  marked = [];
-  unmarked = [];
-  strict = false;
-}
+change_with adds drops = record no_change { adds = adds; drops = drops }
 
 -- the change that adds a file of these bytes, under their SHA-256
 abbrev pub added_file : Kind → List ℕ → Change

@@ -1,10 +1,11 @@
 -- The changes of an archive: those of its parts, and the last one.
-use Rattle.std.specs.Prelude.{ℕ, Bool, false, nat_le, List, [], ◌∷◌, ◌++◌, length, ◌&&◌, Option, None, Some, option_map, is_none, Result, Ok, Err, if◌then◌else◌}
+use Rattle.std.specs.Prelude.{ℕ, Bool, nat_le, List, [], ◌∷◌, ◌++◌, length, ◌&&◌, Option, None, Some, option_map, is_none, Result, Ok, Err, if◌then◌else◌}
 use Rattle.std.specs.List.{find}
 use Rattle.keep_names.specs.declared.blob.BlobId.{BlobId}
 use Rattle.keep_names.specs.declared.file_name.FileName.{FileName}
 use Rattle.keep_names.specs.declared.id.Id.{Id}
 use Rattle.keep_repo.specs.Repository.{Repository}
+use Rattle.keep_change.specs.Change.{no_change}
 use Rattle.keep_change.specs.declared.change.Change.{Change}
 use Rattle.keep_catalog.specs.Places.{chosen_listing}
 use Rattle.keep_plan.specs.Refusal.{unless, unread_first}
@@ -35,16 +36,11 @@ unless_differing None (Ok planned) = Ok planned
 
 -- what is stored, as a change: it adds packs and their index alone
 abbrev pub part_of : Stored → Change
-part_of stored = record {
+part_of stored = record no_change {
   adds = stored.adds;
-  drops = [];
-  sets = [];
   clears = stored.clears;
   present = stored.present;
-  absent = [];
-  marked = [];
   unmarked = stored.unmarked;
-  strict = false;
 }
 
 -- whether nothing would be written

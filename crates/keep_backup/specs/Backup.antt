@@ -1,10 +1,11 @@
 -- What a backup changes (restic's design document, "Snapshots").
-use Rattle.std.specs.Prelude.{ℕ, List, [], ◌∷◌, ◌++◌, map, false, Option, None, Some, is_none, Result, Ok, Err, string_bytes, if◌then◌else◌}
+use Rattle.std.specs.Prelude.{ℕ, List, [], ◌∷◌, ◌++◌, map, Option, None, Some, is_none, Result, Ok, Err, string_bytes, if◌then◌else◌}
 use Rattle.serde_json.specs.Data.{no_members}
 use Rattle.serde_json.specs.Written.{compact_text}
 use Rattle.keep_names.specs.declared.file_name.Kind.TheVariants.{Snapshot}
 use Rattle.keep_names.specs.declared.id.Id.{Id}
 use Rattle.keep_repo.specs.Repository.{Repository}
+use Rattle.keep_change.specs.Change.{no_change}
 use Rattle.keep_change.specs.declared.change.Change.{Change}
 use Rattle.keep_change.specs.NamedBytes.{NamedBytes, file_of}
 use Rattle.keep_snap.specs.Snap.{SnapData}
@@ -75,16 +76,11 @@ stored_files_of r cut files =
 
 -- what is stored is added and recorded, and the snapshot is added
 abbrev pub change_of : Stored → NamedBytes → Change
-change_of stored snapshot = record {
+change_of stored snapshot = record no_change {
   adds = stored.adds ++ snapshot ∷ [];
-  drops = [];
-  sets = [];
   clears = stored.clears;
   present = stored.present;
-  absent = [];
-  marked = [];
   unmarked = stored.unmarked;
-  strict = false;
 }
 
 -- the change, unless the repository has the snapshot

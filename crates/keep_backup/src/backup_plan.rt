@@ -1,9 +1,7 @@
 ghost use Rattle.std.specs.Prelude.{◌≡◌, true, Err, IfOk, is_none, length, map};
 ghost use Rattle.keep_docs.specs.Doc.{Answers};
-ghost use Rattle.keep_repo.specs.Repository.{held};
-ghost use Rattle.keep_change.specs.Change.{is_met};
-ghost use Rattle.keep_change.specs.Form.{IsWellFormed};
 ghost use Rattle.keep_snap.specs.Time.{time_in};
+ghost use Rattle.keep_view.specs.Planned.{IsPlannedOn};
 ghost use Rattle.keep_backup.specs.Backup.{backup_change, facts_view, stored_files_of};
 ghost use Rattle.keep_backup.specs.Backup as spec;
 ghost use Rattle.keep_backup.specs.Files.{file_view, given_view, paths_seen};
@@ -14,6 +12,7 @@ use crate::path_walk::walk;
 use crate::paths::{PathFile, files_in_order};
 use crate::snapshot::{BackupFacts, snapshot_file};
 use keep_build::{Cut, Storing};
+use keep_catalog::OneByOne;
 use keep_change::{Change, Listed, Planned, StoredFile};
 use keep_names::Id;
 use keep_plan::{PlanError, Stored};
@@ -37,9 +36,7 @@ pub fn plan_backup(
 ) -> Result<Planned, PlanError>
     ensures change { Answers the_error.Memory (λ planned. planned.change)
         (backup_change view.now.repo (facts_view facts.now) cut.bytes (map given_view files.now)) result }
-    ensures seen { IfOk result (λ planned. planned.seen ≡ view.now.length) }
-    ensures well_formed { IfOk result (λ planned. IsWellFormed planned.change) }
-    ensures met { IfOk result (λ planned. is_met (held view.now.repo) planned.change ≡ true) }
+    ensures planned { IfOk result (IsPlannedOn view.now) }
     ensures bad_time { length files.now ≡ 0 → is_none (time_in (facts_view facts.now).time) ≡ true
         → result ≡ Err the_error.BadTime }
 {
@@ -61,9 +58,7 @@ fn plan_files(
 ) -> Result<Planned, PlanError>
     ensures change { Answers the_error.Memory (λ planned. planned.change)
         (backup_change view.now.repo (facts_view facts.now) cut.bytes (map given_view files.now)) result }
-    ensures seen { IfOk result (λ planned. planned.seen ≡ view.now.length) }
-    ensures well_formed { IfOk result (λ planned. IsWellFormed planned.change) }
-    ensures met { IfOk result (λ planned. is_met (held view.now.repo) planned.change ≡ true) }
+    ensures planned { IfOk result (IsPlannedOn view.now) }
 {
     let files = files_in_order(alloc, files)?;
     if has_bad_time(facts) {
@@ -103,7 +98,7 @@ fn store_files<'a>(
     let catalog = view.catalog(alloc)?;
     let mut storing = Storing::new(alloc, catalog);
     let tree = walk(alloc, files, cut, &mut storing)?;
-    let stored = storing.finish(alloc, view.repo())?;
+    let stored = storing.finish(alloc, view.repo(), &mut OneByOne)?;
     Ok((tree, stored))
 }
 

@@ -36,7 +36,7 @@ pub record Adds (cut : ℕ) (Are : List BlobId → List NodeData → Type 0) (be
   pub begun : after.begun ≡ idle cut
   pub grows : Grows before.kept after.kept
 
--- there are none
+-- no nodes were added
 abbrev pub NoNodes : List BlobId → List NodeData → Type 0
 NoNodes kept nodes = nodes ≡ []
 

@@ -22,6 +22,7 @@ use Rattle.keep_ledger.specs.declared.reply.Refusal.{Refusal}
 use Rattle.keep_names.specs.declared.file_name.FileName.{FileName}
 use Rattle.keep_sources.specs.Told.{Told}
 use Rattle.keep_sources.specs.declared.scope.Scope.{Scope}
+use Rattle.keep_view.specs.Planned.{IsPlannedOn}
 use Rattle.keep_backups.specs.Holding.{held_of}
 use Rattle.keep_backups.specs.Parts.{AddsSnapshot, BacksUp, IsCause, IsCauseIfAny, IsLastOn, IsPartOn, StoresParts, none, of_archive, one_more}
 use Rattle.keep_backups.specs.Taken.{kept_in, taken_in, taken_of}
@@ -45,9 +46,9 @@ is_part (Some a) now planned is seen = record { archive = a; part = is; seen = s
 -- what is planned is a part, if it is something
 pub is_part_if_any : (archive : Option ArchiveData) (now : LedgerState) (part : Option Planned)
     → of_open (part_due (shown_by now).repo) archive ≡ Ok (option_map (λ (planned : Planned). planned.change) part)
-    → IfSome part (λ planned. planned.seen ≡ length_of now.events) → IfSome part (λ planned. ∥ IsPartOn now planned ∥₁)
-is_part_if_any archive now (Some planned) is seen = ∣ is_part archive now planned is seen ∣₁
-is_part_if_any archive now None is seen = tt
+    → IfSome part (IsPlannedOn (shown_by now)) → IfSome part (λ planned. ∥ IsPartOn now planned ∥₁)
+is_part_if_any archive now (Some planned) is on = ∣ is_part archive now planned is on.seen ∣₁
+is_part_if_any archive now None is on = tt
 
 -- ---- files that are there with other bytes
 
@@ -70,7 +71,7 @@ part_cause (Some a) now (refused.Differs file) is = ∣ record {
   is = inl (named_so (part_differing (shown_by now).repo a) (part_change (shown_by now).repo a) file (is (not_memory file)));
 } ∣₁
 
--- or for the last change
+-- the file that is named differs for the last change
 pub last_cause : (archive : Option ArchiveData) (now : LedgerState) (facts : FactsData) (tags : List (List ℕ)) (why : NotPlanned)
     → (why ≢ refused.Unplanned Memory → of_open (last_due (shown_by now).repo facts tags) archive ≡ Err why) → ∥ IsCause now (of_archive why) ∥₁
 last_cause archive now facts tags (refused.Unplanned error) is = ∣ tt ∣₁
@@ -87,7 +88,7 @@ cause_told now kept (Ok made) is why = tt
 cause_told now None (Err cause) is why = subst (λ (c : NotBackedUp). ∥ IsCause now c ∥₁) (sym is) ∣ tt ∣₁
 cause_told now (Some own) (Err cause) is why = subst (λ (c : NotBackedUp). ∥ IsCause now c ∥₁) (sym is) why
 
--- and so is what was taken
+-- what holds of all that was taken holds of what is told
 pub all_told : {X E F : Type 0} (P : X → Type 0) (filled : Result X E) (result : Result X F) → IfOk result (λ all. filled ≡ Ok all) → IfOk filled P → IfOk result P
 all_told {X = X} {E = E} P filled (Ok all) is has = subst (λ (r : Result X E). IfOk r P) is has
 all_told P filled (Err cause) is has = tt

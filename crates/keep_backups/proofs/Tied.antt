@@ -43,7 +43,7 @@ is_tree_if cut pos told job start (Some a) before skips starts none took =
     let here = subst (λ (o : Option ArchiveData). TookAll told Gives job (taken_of o) (taken_in a) before skips) starts took in
     is_tree cut pos told job a skips (subst (λ (named : List Skipped). TookAll told Gives job (taken_in (nothing cut)) (taken_in a) named skips) none here)
 
--- the same where what is named was copied
+-- a copy of what a walk named tells as well what it took
 pub retold : {X : Type 0} (told : Told) (gives : X → Given → X → Type 0) (job : Scope) (given now : X) (skips named copies : List Skipped)
     → map skip_view copies ≡ map skip_view named → TookAll told gives job given now skips named → TookAll told gives job given now skips copies
 retold told gives job given now skips named copies same (inl (listing, listed, took)) = inl (
@@ -59,7 +59,7 @@ retold told gives job given now skips named copies same (inl (listing, listed, t
 )
 retold told gives job given now skips named copies same (inr (why, lost, kept, says)) = inr (why, lost, kept, same ∙ says)
 
--- the same of what an intake gives back
+-- an intake gives back all that a walk took
 pub walked : (told : Told) (job : Scope) (start : TakenData) (archive back : Archive) (skips : List Skipped) (done : Result (Vec Skipped Global) Stop)
     (result : Result Filled Stop) → IfOk done (λ skipped. TookAll told Gives job start (taken_of (archive_view archive)) skips skipped.items)
     → back ≡ archive → IfOk result (λ filled. filled.archive ≡ back) → IfOk result (λ filled. done ≡ Ok filled.skipped)

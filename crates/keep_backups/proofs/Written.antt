@@ -38,7 +38,7 @@ module _ (cut : ℕ) (pos : 0 < cut) where
     grows = λ blob h. h;
   }
 
-  -- whatever blobs were there before
+  -- what was written is written so whatever blobs were there before
   pub over : (bytes : List ℕ) (old made : BegunData) (blobs after others : BlobsData) (w : Writes bytes old made blobs after)
       → Writes bytes old made others (holding (map piece w.pieces) others)
   over bytes old made blobs after others w = record { pieces = w.pieces; cut_so = w.cut_so; cut = w.cut; content = w.content; holds = refl }
@@ -75,7 +75,7 @@ module _ (cut : ℕ) (pos : 0 < cut) where
       subst (λ (all : List ℕ). HasWritten cut all before after) (append_assoc bytes p (flat_map (λ (q : List ℕ). q) pieces))
       (wrote_all pieces (bytes ++ p) before next after (wrote_more bytes p before between next h one) more)
 
-  -- then its pieces are those of its bytes
+  -- the pieces of a file that was written are those of its bytes
   pub content_is : (bytes : List ℕ) (before after : TakenData) → HasWritten cut bytes before after → content_of after.begun ≡ map id_of (pieces_of cut bytes)
   content_is bytes before after h =
       let w = h.writes in

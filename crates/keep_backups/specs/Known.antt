@@ -6,12 +6,13 @@ use Rattle.keep_names.specs.declared.id.Id.{Id}
 use Rattle.keep_sources.specs.declared.scope.Known as known
 use Rattle.keep_tree.specs.Tree.{NodeData, KindData, dir, file, other}
 
--- its size, its time and its pieces
+-- what is known of a file: its size, its time and its pieces
 pub record KnownData : Type 0 where
   pub size : ℕ
   pub mtime : StampData
   pub content : List Id
 
+-- what a `Known` says
 abbrev pub known_view : known.Known → KnownData
 known_view k = record {
   size = k.size;
@@ -19,17 +20,18 @@ known_view k = record {
   content = k.content.items;
 }
 
--- these pieces, of a file that says its size and its time
+-- what is known of a file of these pieces, where it says its size and its time
 abbrev pub of_times : List Id → Option ℕ → Option StampData → Option KnownData
 of_times content None mtime = None
 of_times content (Some size) None = None
 of_times content (Some size) (Some mtime) = Some (record { size = size; mtime = mtime; content = content })
 
--- of a node: nothing where it is no file
+-- what is known of a node of this kind: nothing where it is no file
 abbrev pub of_kind : KindData → FoundData → Option KnownData
 of_kind (dir subtree) found = None
 of_kind (file content) found = of_times content found.size found.mtime
 of_kind (other type_name) found = None
 
+-- what is known of a node
 abbrev pub known_due : NodeData → Option KnownData
 known_due node = of_kind node.kind (found_in node.others)

@@ -40,7 +40,7 @@ pub record IsLastOn (now : LedgerState) (archive : ArchiveData) (facts : FactsDa
   pub last : last_due (shown_by now).repo facts tags archive ≡ Ok planned.change
   pub seen : planned.seen ≡ length_of now.events
 
--- just that change is committed
+-- a change that is planned on what the book shows and adds the snapshot of this archive is committed, and nothing else
 pub record AddsSnapshot (before after : LedgerState) (archive : ArchiveData) (facts : FactsData) (tags : List (List ℕ))
     : Type 0 where
   pub planned : Planned
@@ -70,7 +70,7 @@ IsCause now (Differs file) = IsFirstDiffering now file
 IsCause now (Unplanned error) = Unit {0}
 IsCause now (Refused refusal) = Unit {0}
 
--- the same where there may be none yet
+-- no cause is kept yet, or the one that is kept is why a backup isn't done
 abbrev pub IsCauseIfAny : LedgerState → Option NotBackedUp → Type 0
 IsCauseIfAny now None = Unit {0}
 IsCauseIfAny now (Some cause) = IsCause now cause

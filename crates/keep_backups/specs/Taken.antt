@@ -21,10 +21,11 @@ pub record TakenData : Type 0 where
   pub begun : BegunData
   pub kept : List BlobId
 
+-- what an open archive has of what it was given
 abbrev pub taken_in : ArchiveData → TakenData
 taken_in a = record { place = a.place; begun = a.begun; kept = kept_in a.blobs }
 
--- the same of an archive that may be shut: then it is nothing
+-- what an archive has of what it was given, and nothing where it is shut
 abbrev pub taken_of : Option ArchiveData → TakenData
 taken_of None = taken_in (nothing 0)
 taken_of (Some a) = taken_in a

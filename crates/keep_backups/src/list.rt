@@ -27,7 +27,7 @@ pub fn known_of(
     Ok(known)
 }
 
-/// Those of these nodes.
+/// The files of these nodes by their paths, as far as enough is known of them.
 fn known_in(alloc: Global, entries: &[PathNode]) -> Result<BTreeMap<String, Known>, AllocError> {
     let mut all = BTreeMap::new(alloc);
     for entry in entries {

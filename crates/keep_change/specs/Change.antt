@@ -1,5 +1,5 @@
 -- What a change asks of each facet, and what it makes of it.
-use Rattle.std.specs.Prelude.{Bool, true, false, ◌&&◌, List, ◌++◌, map, Option, Some, None, is_some, is_none, if◌then◌else◌}
+use Rattle.std.specs.Prelude.{Bool, true, false, ◌&&◌, List, [], ◌++◌, map, Option, Some, None, is_some, is_none, if◌then◌else◌}
 use Rattle.std.specs.List.{list_all, find}
 use Rattle.std.specs.Str.{bytes_eq}
 use Rattle.std.specs.Option.{option_map_or}
@@ -95,3 +95,17 @@ record_of ws facet = find (λ w. facet_eq w.facet facet) ws
 -- what each facet holds once these are written
 abbrev pub replaced : List Written → Holding → Holding
 replaced ws holding facet = option_map_or (λ w. w.after) (record_of ws facet) (holding facet)
+
+-- the change that asks for nothing and writes nothing
+abbrev pub no_change : Change
+no_change = record {
+  adds = [];
+  drops = [];
+  sets = [];
+  clears = [];
+  present = [];
+  absent = [];
+  marked = [];
+  unmarked = [];
+  strict = false;
+}

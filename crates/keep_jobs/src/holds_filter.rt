@@ -8,13 +8,11 @@ use std::alloc::Global;
 /// How a job holds its filter: lent for a line, owned by a worker.
 pub trait HoldsFilter {
     ghost use Rattle.std.specs.Prelude.{◌≡◌, Err, IfOk, true};
-    ghost use Rattle.keep_change.specs.Change.{is_met};
-    ghost use Rattle.keep_change.specs.Form.{IsWellFormed};
     ghost use Rattle.keep_docs.specs.Doc.{Answers};
     ghost use Rattle.keep_plan.specs.declared.pick.Pick.{Pick};
     ghost use Rattle.keep_jobs.specs.Job.{is_bad_task, task_change, task_view};
     ghost use Rattle.keep_plan.specs.declared.plan_error.PlanError.TheVariants as the_error;
-    ghost use Rattle.keep_repo.specs.Repository.{held};
+    ghost use Rattle.keep_view.specs.Planned.{IsPlannedOn};
 
     /// The rule that the filter answers by.
     ghost rule: { Self → Pick };
@@ -23,9 +21,7 @@ pub trait HoldsFilter {
     fn plan(&self, alloc: Global, view: &View, task: &Task) -> Result<Planned, PlanError>
         ensures change { Answers the_error.Memory (λ planned. planned.change)
             (task_change view.now.repo (rule self.now) (task_view task.now)) result }
-        ensures seen { IfOk result (λ planned. planned.seen ≡ view.now.length) }
-        ensures well_formed { IfOk result (λ planned. IsWellFormed planned.change) }
-        ensures met { IfOk result (λ planned. is_met (held view.now.repo) planned.change ≡ true) }
+        ensures planned { IfOk result (IsPlannedOn view.now) }
         ensures bad_edit { is_bad_task (task_view task.now) ≡ true → result ≡ Err the_error.BadEdit };
 }
 

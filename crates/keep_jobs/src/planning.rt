@@ -1,10 +1,8 @@
 ghost use Rattle.std.specs.Prelude.{◌≡◌, Err, IfOk, true};
-ghost use Rattle.keep_change.specs.Change.{is_met};
-ghost use Rattle.keep_change.specs.Form.{IsWellFormed};
 ghost use Rattle.keep_docs.specs.Doc.{Answers};
 ghost use Rattle.keep_jobs.specs.Job.{has_bad_edit, job_change, job_view, settings_view};
 ghost use Rattle.keep_plan.specs.declared.plan_error.PlanError.TheVariants as the_error;
-ghost use Rattle.keep_repo.specs.Repository.{held};
+ghost use Rattle.keep_view.specs.Planned.{IsPlannedOn};
 
 use crate::holds_filter::HoldsFilter;
 use crate::job::{Job, Settings};
@@ -25,9 +23,7 @@ pub fn plan<F: HoldsFilter>(
 ) -> Result<Planned, PlanError>
     ensures change { Answers the_error.Memory (λ planned. planned.change)
         (job_change view.now (settings_view settings) (job_view F.rule job.now)) result }
-    ensures seen { IfOk result (λ planned. planned.seen ≡ view.now.length) }
-    ensures well_formed { IfOk result (λ planned. IsWellFormed planned.change) }
-    ensures met { IfOk result (λ planned. is_met (held view.now.repo) planned.change ≡ true) }
+    ensures planned { IfOk result (IsPlannedOn view.now) }
     ensures bad_edit { has_bad_edit (job_view F.rule job.now) ≡ true → result ≡ Err the_error.BadEdit }
 {
     match job {

@@ -1,11 +1,9 @@
 ghost use Rattle.std.specs.Prelude.{◌≡◌, Err, IfOk, map, string_bytes, true};
-ghost use Rattle.keep_change.specs.Change.{is_met};
-ghost use Rattle.keep_change.specs.Form.{IsWellFormed};
 ghost use Rattle.keep_docs.specs.Doc.{Answers};
 ghost use Rattle.keep_jobs.specs.Job.{is_bad_task, rewriting, task_change, task_view};
 ghost use Rattle.keep_jobs.specs.Patterns.{patterns_in};
 ghost use Rattle.keep_plan.specs.declared.plan_error.PlanError.TheVariants as the_error;
-ghost use Rattle.keep_repo.specs.Repository.{held};
+ghost use Rattle.keep_view.specs.Planned.{IsPlannedOn};
 
 use crate::job::Task;
 use crate::patterns::patterns_of;
@@ -25,9 +23,7 @@ pub(crate) fn plan_task(
 ) -> Result<Planned, PlanError>
     ensures change { Answers the_error.Memory (λ planned. planned.change)
         (task_change view.now.repo filter.now.rule (task_view task.now)) result }
-    ensures seen { IfOk result (λ planned. planned.seen ≡ view.now.length) }
-    ensures well_formed { IfOk result (λ planned. IsWellFormed planned.change) }
-    ensures met { IfOk result (λ planned. is_met (held view.now.repo) planned.change ≡ true) }
+    ensures planned { IfOk result (IsPlannedOn view.now) }
     ensures bad_edit { is_bad_task (task_view task.now) ≡ true → result ≡ Err the_error.BadEdit }
 {
     match task {
@@ -47,9 +43,7 @@ fn rewrite(
 ) -> Result<Planned, PlanError>
     ensures change { Answers the_error.Memory (λ planned. planned.change)
         (rewriting view.now.repo filter.now.rule forget (patterns_in (map string_bytes texts.now))) result }
-    ensures seen { IfOk result (λ planned. planned.seen ≡ view.now.length) }
-    ensures well_formed { IfOk result (λ planned. IsWellFormed planned.change) }
-    ensures met { IfOk result (λ planned. is_met (held view.now.repo) planned.change ≡ true) }
+    ensures planned { IfOk result (IsPlannedOn view.now) }
 {
     let patterns = patterns_of(alloc, texts)?;
     plan_rewrite(alloc, view, filter, &patterns, forget)

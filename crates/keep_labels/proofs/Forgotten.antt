@@ -1,5 +1,5 @@
 -- A forget that is planned can be made.
-use Rattle.std.proofs.Common.{◌≡◌, ◌≢◌, Bool, true, false, ◌||◌, cond, List, [], not, Option, None, Some, Result, Ok, Err, refl, sym, ap, subst, ◌∙◌, true≢false, IfOk}
+use Rattle.std.proofs.Common.{◌≡◌, ◌≢◌, Bool, true, false, ◌||◌, cond, List, [], not, Option, None, Some, Result, Ok, Err, refl, sym, ap, subst, ◌∙◌, true≢false}
 use Rattle.std.proofs.lemmas.List.Elements.{All-nil}
 use Rattle.std.specs.List.Sorted.{IsStrictlySortedBy}
 use Rattle.keep_names.specs.Laws.{TellsApart}
@@ -99,9 +99,3 @@ module _ (r : Repository) (rule : Pick) (policy : PolicyData) where
       → Answers Memory (λ (p : Planned). p.change) (forgetting_of r policy taken) result → Answers Memory (λ (p : Planned). p.change) (forget_change r rule policy) result
   forget_answered taken result none same h =
       subst (λ (due : Result Change PlanError). Answers Memory (λ (p : Planned). p.change) due result) (forget_due taken none same) h
-
-  -- what holds of each change that is due, holds of an answer
-  pub answer_so : (P : Change → Type 0) → ((c : Change) → forget_change r rule policy ≡ Ok c → P c) → (result : Result Planned PlanError)
-      → Answers Memory (λ (p : Planned). p.change) (forget_change r rule policy) result → IfOk result (λ p. P p.change)
-  answer_so P so (Ok planned) h = so planned.change h
-  answer_so P so (Err error) h = tt

@@ -7,6 +7,7 @@ pub mod Kept
 pub mod Lists
 pub mod Numbered
 pub mod Once
+pub mod Planned
 pub mod Ranks
 pub mod Sorting
 pub mod Swapped

@@ -1,5 +1,5 @@
 -- An edit of tags that is planned can be made.
-use Rattle.std.proofs.Common.{◌≡◌, ◌≢◌, Bool, true, false, cond, List, [], ◌∷◌, not, IfOk, Option, None, Some, Result, Ok, Err, option_map, refl, sym, ap, subst, ◌∙◌, true≢false}
+use Rattle.std.proofs.Common.{◌≡◌, ◌≢◌, Bool, true, false, cond, List, [], ◌∷◌, not, Option, None, Some, Result, Ok, Err, option_map, refl, sym, ap, subst, ◌∙◌, true≢false}
 use Rattle.std.proofs.lemmas.List.Elements.{All-from_recursion}
 use Rattle.std.specs.List.{AllByRecursion, cons_option, filter_map}
 use Rattle.std.specs.List.Sorted.{IsStrictlySortedBy}
@@ -146,9 +146,3 @@ module _ (r : Repository) (rule : Pick) (edit : EditData) where
       → Answers Memory (λ (p : Planned). p.change) (tagging_of r edit (changed_by edit taken)) result → Answers Memory (λ (p : Planned). p.change) (tag_change r rule edit) result
   tag_answered taken result good none same h =
       subst (λ (due : Result Change PlanError). Answers Memory (λ (p : Planned). p.change) due result) (tag_due taken good none same) h
-
-  -- what holds of each change that is due, holds of an answer
-  pub tag_answer_so : (P : Change → Type 0) → ((c : Change) → tag_change r rule edit ≡ Ok c → P c) → (result : Result Planned PlanError)
-      → Answers Memory (λ (p : Planned). p.change) (tag_change r rule edit) result → IfOk result (λ p. P p.change)
-  tag_answer_so P so (Ok planned) h = so planned.change h
-  tag_answer_so P so (Err error) h = tt

@@ -1,11 +1,12 @@
 -- Changes that drop snapshots, and put others in their place.
-use Rattle.std.specs.Prelude.{List, [], Option, option_map, false}
+use Rattle.std.specs.Prelude.{List, Option, option_map}
 use Rattle.std.specs.FinMap as finite
 use Rattle.std.specs.List.{filter_map}
 use Rattle.keep_names.specs.FileName.{named}
 use Rattle.keep_names.specs.declared.file_name.Kind.TheVariants.{Snapshot}
 use Rattle.keep_names.specs.declared.id.Id.{Id}
 use Rattle.keep_repo.specs.Repository.{Repository}
+use Rattle.keep_change.specs.Change.{no_change}
 use Rattle.keep_change.specs.NamedBytes.{NamedBytes}
 use Rattle.keep_change.specs.declared.change.Change.{Change}
 
@@ -21,14 +22,4 @@ snapshot_files r ids = filter_map (snapshot_file r) ids
 
 -- these files are dropped and these added, and nothing else is done
 abbrev pub swapping : List NamedBytes → List NamedBytes → Change
-swapping drops adds = record {
-  adds = adds;
-  drops = drops;
-  sets = [];
-  clears = [];
-  present = [];
-  absent = [];
-  marked = [];
-  unmarked = [];
-  strict = false;
-}
+swapping drops adds = record no_change { adds = adds; drops = drops }

@@ -1,9 +1,7 @@
-ghost use Rattle.std.specs.Prelude.{◌≡◌, true, IfOk, map};
+ghost use Rattle.std.specs.Prelude.{◌≡◌, IfOk, map};
 ghost use Rattle.keep_docs.specs.Doc.{Answers};
-ghost use Rattle.keep_repo.specs.Repository.{held};
-ghost use Rattle.keep_change.specs.Change.{is_met};
-ghost use Rattle.keep_change.specs.Form.{IsWellFormed};
 ghost use Rattle.keep_snap.specs.Facts.{facts_view};
+ghost use Rattle.keep_view.specs.Planned.{IsPlannedOn};
 ghost use Rattle.keep_labels.specs.Forgetting as spec;
 ghost use Rattle.keep_labels.specs.Forgetting.{forget_change, forgetting_of};
 ghost use Rattle.keep_labels.specs.Keeping.{EachOnce, policy_view};
@@ -31,9 +29,7 @@ pub fn plan_forget(
 ) -> Result<Planned, PlanError>
     ensures change { Answers the_error.Memory (λ planned. planned.change)
         (forget_change view.now.repo filter.now.rule (policy_view policy.now)) result }
-    ensures seen { IfOk result (λ planned. planned.seen ≡ view.now.length) }
-    ensures well_formed { IfOk result (λ planned. IsWellFormed planned.change) }
-    ensures met { IfOk result (λ planned. is_met (held view.now.repo) planned.change ≡ true) }
+    ensures planned { IfOk result (IsPlannedOn view.now) }
 {
     a_planned_forget_can_be_made();
     let taken = taken(alloc, view, filter)?;

@@ -1,9 +1,7 @@
 ghost use Rattle.std.specs.Prelude.{◌≡◌, true, Err, IfOk, map};
 ghost use Rattle.keep_docs.specs.Doc.{Answers};
-ghost use Rattle.keep_repo.specs.Repository.{held};
-ghost use Rattle.keep_change.specs.Change.{is_met};
-ghost use Rattle.keep_change.specs.Form.{IsWellFormed};
 ghost use Rattle.keep_snap.specs.Facts.{facts_view};
+ghost use Rattle.keep_view.specs.Planned.{IsPlannedOn};
 ghost use Rattle.keep_labels.specs.Edits.{edit_view, is_bad_edit};
 ghost use Rattle.keep_labels.specs.Tagging as spec;
 ghost use Rattle.keep_labels.specs.Tagging.{changed_by, tag_change, tagging_of};
@@ -35,9 +33,7 @@ pub fn plan_tag(
 ) -> Result<Planned, PlanError>
     ensures change { Answers the_error.Memory (λ planned. planned.change)
         (tag_change view.now.repo filter.now.rule (edit_view edit.now)) result }
-    ensures seen { IfOk result (λ planned. planned.seen ≡ view.now.length) }
-    ensures well_formed { IfOk result (λ planned. IsWellFormed planned.change) }
-    ensures met { IfOk result (λ planned. is_met (held view.now.repo) planned.change ≡ true) }
+    ensures planned { IfOk result (IsPlannedOn view.now) }
     ensures bad_edit { is_bad_edit (edit_view edit.now) ≡ true → result ≡ Err the_error.BadEdit }
 {
     a_planned_tagging_can_be_made();

@@ -37,7 +37,7 @@ pub struct Needs {
 }
 
 impl Needs {
-    /// The same once more.
+    /// What they ask, once more.
     pub fn copied(&self) -> Result<Needs, AllocError>
         ensures { IfOk result (λ made. needs_view made ≡ needs_view self.now) }
     {

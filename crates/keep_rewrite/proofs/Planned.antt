@@ -18,6 +18,8 @@ use Rattle.keep_change.specs.declared.change.Planned.{Planned}
 use Rattle.keep_docs.specs.Doc.{Answers}
 use Rattle.keep_catalog.specs.Files.{snap_in}
 use Rattle.keep_reach.specs.Reach.{most_levels}
+use Rattle.keep_view.specs.Planned.{IsPlannedOn}
+use Rattle.keep_view.specs.Shown.{Shown}
 use Rattle.keep_reach.specs.Snapshots.{refusals_of}
 use Rattle.keep_catalog.specs.declared.reach_error.ReachError.{ReachError}
 use Rattle.keep_plan.specs.Taking.{taken_in}
@@ -74,6 +76,14 @@ module _ (r cat : Repository) (patterns : List PatternData) (forget : Bool) (tak
 
 -- ---- the answers
 
+-- an answer is planned on what is shown, where the change that is due can be made
+pub planned_so : (shown : Shown) (due : Result Change PlanError) → ((change : Change) → due ≡ Ok change → IsWellFormed change)
+    → ((change : Change) → due ≡ Ok change → is_met (held shown.repo) change ≡ true) → (result : Result Planned PlanError)
+    → Answers Memory (λ (p : Planned). p.change) due result → IfOk result (λ p. p.seen ≡ shown.length) → IfOk result (IsPlannedOn shown)
+planned_so shown due formed met (Ok planned) is seen =
+    record { well_formed = formed planned.change is; met = met planned.change is; seen = seen }
+planned_so shown due formed met (Err error) is seen = tt
+
 module _ (r : Repository) (rule : Pick) (patterns : List PatternData) (forget : Bool) where
   pub read_refused : (error : PlanError) → (error ≢ Memory → unread_first r ≡ Some error) → error ≢ Memory → rewrite_change r rule patterns forget ≡ Err error
   unfolding rewrite_change
@@ -100,12 +110,6 @@ module _ (r : Repository) (rule : Pick) (patterns : List PatternData) (forget : 
       → Answers Memory (λ (p : Planned). p.change) (rewrite_change r rule patterns forget) result
   answered taken result none same had h =
       subst (λ (d : Result Change PlanError). Answers Memory (λ (p : Planned). p.change) d result) (due taken none same had) h
-
-  -- what holds of each change that is due, holds of an answer
-  pub answer_so : (P : Change → Type 0) → ((c : Change) → rewrite_change r rule patterns forget ≡ Ok c → P c) → (result : Result Planned PlanError)
-      → Answers Memory (λ (p : Planned). p.change) (rewrite_change r rule patterns forget) result → IfOk result (λ p. P p.change)
-  answer_so P so (Ok planned) h = so planned.change h
-  answer_so P so (Err error) h = tt
 
   -- ---- a change that is due
 

@@ -1,5 +1,5 @@
 -- What a rewrite changes.
-use Rattle.std.specs.Prelude.{Bool, false, not, List, [], ◌++◌, filter, map, option_map, slice_get, Option, Result, Ok, Err, if◌then◌else◌}
+use Rattle.std.specs.Prelude.{Bool, not, List, [], ◌++◌, filter, map, option_map, slice_get, Option, Result, Ok, Err, if◌then◌else◌}
 use Rattle.std.specs.FinMap as finite
 use Rattle.std.specs.List.{filter_map, flat_map}
 use Rattle.serde_json.specs.Written.{compact_text}
@@ -14,6 +14,7 @@ use Rattle.keep_snap.specs.Facts.{FactsData}
 use Rattle.keep_snap.specs.Relabel.{retreed}
 use Rattle.keep_snap.specs.Snap.{SnapData}
 use Rattle.keep_snap.specs.Written.{snap_data}
+use Rattle.keep_change.specs.Change.{no_change}
 use Rattle.keep_change.specs.NamedBytes.{NamedBytes, file_of}
 use Rattle.keep_change.specs.declared.change.Change.{Change}
 use Rattle.keep_catalog.specs.Files.{snap_in}
@@ -80,16 +81,12 @@ old_names retreed = map (λ new. named Snapshot new.0) retreed
 -- The new trees are stored, and the new snapshots added. The old snapshots are dropped where they are forgotten,
 -- else they have to be present.
 abbrev pub change_of : Repository → Bool → Stored → List Retreed → List NamedBytes → Change
-change_of r forget stored retreed adds = record {
+change_of r forget stored retreed adds = record no_change {
   adds = stored.adds ++ adds;
   drops = if forget then old_files r retreed else [];
-  sets = [];
   clears = stored.clears;
   present = if forget then stored.present else stored.present ++ old_names retreed;
-  absent = [];
-  marked = [];
   unmarked = stored.unmarked;
-  strict = false;
 }
 
 -- the change that rewrites, unless one of the new snapshots is there already, or two are the same, or there is none

@@ -1,11 +1,9 @@
-ghost use Rattle.std.specs.Prelude.{◌≡◌, ◌≢◌, [], None, Some, true, map, IfErr, IfOk, OnOk};
+ghost use Rattle.std.specs.Prelude.{◌≡◌, ◌≢◌, [], None, Some, map, IfErr, IfOk, OnOk};
 ghost use Rattle.keep_docs.specs.Doc.{Answers};
-ghost use Rattle.keep_repo.specs.Repository.{held};
-ghost use Rattle.keep_change.specs.Change.{is_met};
-ghost use Rattle.keep_change.specs.Form.{IsWellFormed};
 ghost use Rattle.keep_reach.specs.Snapshots.{refusals_of};
 ghost use Rattle.keep_patterns.specs.Parsing.{pattern_view};
 ghost use Rattle.keep_snap.specs.Facts.{facts_view};
+ghost use Rattle.keep_view.specs.Planned.{IsPlannedOn};
 ghost use Rattle.keep_build.specs.Stored.{store_of};
 ghost use Rattle.keep_build.specs.Storing.{given};
 ghost use Rattle.keep_plan.specs.Refusal.{unread_first};
@@ -43,9 +41,7 @@ pub fn plan_rewrite(
 ) -> Result<Planned, PlanError>
     ensures change { Answers the_error.Memory (λ planned. planned.change)
         (rewrite_change view.now.repo filter.now.rule (map pattern_view patterns.now) forget) result }
-    ensures seen { IfOk result (λ planned. planned.seen ≡ view.now.length) }
-    ensures well_formed { IfOk result (λ planned. IsWellFormed planned.change) }
-    ensures met { IfOk result (λ planned. is_met (held view.now.repo) planned.change ≡ true) }
+    ensures planned { IfOk result (IsPlannedOn view.now) }
 {
     a_planned_rewrite_can_be_made();
     let catalog = catalog(alloc, view)?;

@@ -1,5 +1,5 @@
 -- What a mark changes.
-use Rattle.std.specs.Prelude.{ℤ, Bool, true, false, not, ◌&&◌, List, [], ◌∷◌, filter, map, Option, option_map, Result, Ok, Err, slice_get}
+use Rattle.std.specs.Prelude.{ℤ, Bool, true, not, ◌&&◌, List, [], ◌∷◌, filter, map, Option, option_map, Result, Ok, Err, slice_get}
 use Rattle.std.specs.FinSet as set
 use Rattle.std.specs.Option.{option_or}
 use Rattle.keep_names.specs.FileName.{named}
@@ -8,6 +8,7 @@ use Rattle.keep_names.specs.declared.file_name.FileName.{FileName}
 use Rattle.keep_names.specs.declared.file_name.Kind.TheVariants.{Pack, Snapshot}
 use Rattle.keep_names.specs.declared.id.Id.{Id}
 use Rattle.keep_repo.specs.Repository.{Repository}
+use Rattle.keep_change.specs.Change.{no_change}
 use Rattle.keep_change.specs.Filling.{has_pack}
 use Rattle.keep_change.specs.declared.change.Change.{Change}
 use Rattle.keep_change.specs.declared.change.PackMark.{PackMark}
@@ -56,14 +57,10 @@ gone_snapshots r known = in_order id_cmp (not_there r (set.items known))
 -- These packs are marked. What is needed stays, and the gone snapshots stay away. It may be committed only where
 -- nothing happened since: a snapshot that came in between isn't known.
 abbrev pub marking : List PackMark → Stored → List FileName → Change
-marking marks needed gone = record {
-  adds = [];
-  drops = [];
+marking marks needed gone = record no_change {
   sets = marks;
-  clears = [];
   present = needed.present;
   absent = gone;
-  marked = [];
   unmarked = needed.unmarked;
   strict = true;
 }

@@ -1,5 +1,5 @@
 -- Changes that put a new index in the place of others.
-use Rattle.std.specs.Prelude.{not, List, [], ◌∷◌, filter, Option, false}
+use Rattle.std.specs.Prelude.{not, List, [], ◌∷◌, filter, Option}
 use Rattle.std.specs.FinMap as finite
 use Rattle.std.specs.List.{filter_map}
 use Rattle.std.specs.Option.{option_map}
@@ -11,6 +11,7 @@ use Rattle.keep_names.specs.declared.id.Id.{Id}
 use Rattle.keep_repo.specs.Repository.{Repository}
 use Rattle.keep_index.specs.Index.{PackData}
 use Rattle.keep_index.specs.Writing.{index_text}
+use Rattle.keep_change.specs.Change.{no_change}
 use Rattle.keep_change.specs.Filling.{has_name}
 use Rattle.keep_change.specs.Lists.{file_names}
 use Rattle.keep_change.specs.NamedBytes.{NamedBytes, file_of}
@@ -39,14 +40,10 @@ other_indexes built ids = filter (λ id. not (has_name (file_names built) (named
 -- New files are added, or were there and are to be present; these files are dropped, these marks cleared, and these
 -- files are to be absent.
 abbrev pub reindexing : Repository → List NamedBytes → List NamedBytes → List PackMark → List FileName → Change
-reindexing r built drops clears absent = record {
+reindexing r built drops clears absent = record no_change {
   adds = (stored_built r [] built).adds;
   drops = drops;
-  sets = [];
   clears = clears;
   present = (stored_built r [] built).present;
   absent = absent;
-  marked = [];
-  unmarked = [];
-  strict = false;
 }

@@ -6,12 +6,11 @@ ghost use Rattle.keep_docs.specs.Doc.{Answers};
 ghost use Rattle.keep_names.specs.FileName.{named};
 ghost use Rattle.keep_names.specs.Orders.{id_cmp};
 ghost use Rattle.keep_names.specs.declared.file_name.Kind.TheVariants as the_kind;
-ghost use Rattle.keep_repo.specs.Repository.{Repository, held};
-ghost use Rattle.keep_change.specs.Change.{is_met};
-ghost use Rattle.keep_change.specs.Form.{IsWellFormed};
+ghost use Rattle.keep_repo.specs.Repository.{Repository};
 ghost use Rattle.keep_catalog.specs.Places.{chosen_listing, is_unmarked};
 ghost use Rattle.keep_reach.specs.Used.{used_in};
 ghost use Rattle.keep_reach.specs.Walk.{AreChosen};
+ghost use Rattle.keep_view.specs.Planned.{IsPlannedOn};
 ghost use Rattle.keep_plan.specs.Reuse.{RestOn};
 ghost use Rattle.keep_plan.specs.Storing.{is_there};
 ghost use Rattle.keep_plan.specs.declared.plan_error.PlanError.TheVariants as the_error;
@@ -37,9 +36,7 @@ use std::collections::BTreeSet;
 pub fn plan_mark(alloc: Global, view: &View, moment: i64) -> Result<Planned, PlanError>
     ensures change { Answers the_error.Memory (λ planned. planned.change)
         (mark_change view.now.repo view.now.known moment) result }
-    ensures seen { IfOk result (λ planned. planned.seen ≡ view.now.length) }
-    ensures well_formed { IfOk result (λ planned. IsWellFormed planned.change) }
-    ensures met { IfOk result (λ planned. is_met (held view.now.repo) planned.change ≡ true) }
+    ensures planned { IfOk result (IsPlannedOn view.now) }
 {
     a_planned_mark_can_be_made();
     let reached = reached(alloc, view)?;

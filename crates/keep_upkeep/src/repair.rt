@@ -1,4 +1,4 @@
-ghost use Rattle.std.specs.Prelude.{◌≡◌, ◌||◌, [], ◌∷◌, not, filter, true, IfOk, OnOk, map};
+ghost use Rattle.std.specs.Prelude.{◌≡◌, ◌||◌, [], ◌∷◌, not, filter, IfOk, OnOk, map};
 ghost use Rattle.std.specs.BTreeSet.{contains};
 ghost use Rattle.std.specs.BTreeSet as bag;
 ghost use Rattle.std.specs.List.{list_any};
@@ -6,12 +6,10 @@ ghost use Rattle.std.specs.Ordering.{eq_by_cmp};
 ghost use Rattle.keep_docs.specs.Doc.{Answers};
 ghost use Rattle.keep_names.specs.Orders.{name_cmp};
 ghost use Rattle.keep_names.specs.declared.file_name.FileName as the_name;
-ghost use Rattle.keep_repo.specs.Repository.{held};
 ghost use Rattle.keep_index.specs.Index.{Fits, index_view, pack_view};
-ghost use Rattle.keep_change.specs.Change.{is_met};
-ghost use Rattle.keep_change.specs.Form.{IsWellFormed};
 ghost use Rattle.keep_catalog.specs.Files.{packs_view};
 ghost use Rattle.keep_catalog.specs.Ordered.{in_order};
+ghost use Rattle.keep_view.specs.Planned.{IsPlannedOn};
 ghost use Rattle.keep_plan.specs.Storing.{is_there};
 ghost use Rattle.keep_plan.specs.declared.plan_error.PlanError.TheVariants as the_error;
 ghost use Rattle.keep_upkeep.specs.Repair.{absent_among, absent_listed, other_listings, repair_change};
@@ -35,9 +33,7 @@ use std::collections::BTreeSet;
 /// `NothingToDo` is its only refusal.
 pub fn plan_repair(alloc: Global, view: &View) -> Result<Planned, PlanError>
     ensures change { Answers the_error.Memory (λ planned. planned.change) (repair_change view.now.repo) result }
-    ensures seen { IfOk result (λ planned. planned.seen ≡ view.now.length) }
-    ensures well_formed { IfOk result (λ planned. IsWellFormed planned.change) }
-    ensures met { IfOk result (λ planned. is_met (held view.now.repo) planned.change ≡ true) }
+    ensures planned { IfOk result (IsPlannedOn view.now) }
     // So it is safe, as the law has it.
     ensures fits { IfOk result (λ _. Fits (spec.packs_there view.now.repo)) }
 {

@@ -1,19 +1,17 @@
-ghost use Rattle.std.specs.Prelude.{◌≡◌, ◌≢◌, ◌++◌, ◌+ℤ◌, [], ◌∷◌, true, pos, filter, int_le, IfErr, IfOk, None, OnOk, Some, map};
+ghost use Rattle.std.specs.Prelude.{◌≡◌, ◌≢◌, ◌++◌, ◌+ℤ◌, [], ◌∷◌, pos, filter, int_le, IfErr, IfOk, None, OnOk, Some, map};
 ghost use Rattle.std.specs.BTreeSet.{contains};
 ghost use Rattle.std.specs.List.{list_any};
 ghost use Rattle.keep_docs.specs.Doc.{Answers};
 ghost use Rattle.keep_names.specs.Orders.{id_cmp};
 ghost use Rattle.keep_names.specs.declared.id.Id as the_id;
-ghost use Rattle.keep_repo.specs.Repository.{held};
 ghost use Rattle.keep_index.specs.Index.{index_view};
 ghost use Rattle.keep_index.specs.Joining.{joined};
-ghost use Rattle.keep_change.specs.Change.{is_met};
 ghost use Rattle.keep_change.specs.Filling.{has_pack};
-ghost use Rattle.keep_change.specs.Form.{IsWellFormed};
 ghost use Rattle.keep_change.specs.Lists.{marked_packs};
 ghost use Rattle.keep_catalog.specs.Files.{indexes_in, packs_view};
 ghost use Rattle.keep_plan.specs.Refusal.{unread_first};
 ghost use Rattle.keep_change.specs.Marks.{pack_mark};
+ghost use Rattle.keep_view.specs.Planned.{IsPlannedOn};
 ghost use Rattle.keep_plan.specs.declared.plan_error.PlanError.TheVariants as the_error;
 ghost use Rattle.keep_upkeep.specs.Reindexing.{other_indexes};
 ghost use Rattle.keep_upkeep.specs.Sweep.{left_of, listing_gone, names_of, sweep_change};
@@ -38,9 +36,7 @@ use std::collections::BTreeSet;
 pub fn plan_sweep(alloc: Global, view: &View, now: i64, wait: u64) -> Result<Planned, PlanError>
     ensures change { Answers the_error.Memory (λ planned. planned.change)
         (sweep_change view.now.repo now wait) result }
-    ensures seen { IfOk result (λ planned. planned.seen ≡ view.now.length) }
-    ensures well_formed { IfOk result (λ planned. IsWellFormed planned.change) }
-    ensures met { IfOk result (λ planned. is_met (held view.now.repo) planned.change ≡ true) }
+    ensures planned { IfOk result (IsPlannedOn view.now) }
 {
     a_planned_sweep_can_be_made();
     let indexes = read_indexes(alloc, view)?;

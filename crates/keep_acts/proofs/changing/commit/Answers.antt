@@ -9,7 +9,7 @@ returns-in-Ok-clause-commits g c =
     let book = c.args.book.now in
     let planned = c.in_ok-planned.planned in
     let asks = subst (λ (seen : ℕ). Comes book (request.Commit (record { change = planned.change; seen = seen })) (Ok c.in-Ok.made) c.ask.new.book)
-    c.in_ok-planned.ensures.seen c.in-Ok.ensures.comes in
+    c.in_ok-planned.ensures.planned.seen c.in-Ok.ensures.comes in
     (planned.change, c.in_ok-planned.ensures.change, asks)
 
 pub returns-in-Err-clause-commits : goal.returns-in-Err-clause-commits
@@ -17,5 +17,5 @@ returns-in-Err-clause-commits g c =
     let book = c.args.book.now in
     let planned = c.in_ok-planned.planned in
     let asks = subst (λ (seen : ℕ). Comes book (request.Commit (record { change = planned.change; seen = seen })) (Err c.in-Err.refusal) c.ask.new.book)
-    c.in_ok-planned.ensures.seen c.in-Err.ensures.comes in
+    c.in_ok-planned.ensures.planned.seen c.in-Err.ensures.comes in
     (planned.change, c.in_ok-planned.ensures.change, asks)

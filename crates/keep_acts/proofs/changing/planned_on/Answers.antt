@@ -10,5 +10,5 @@ returns-in_err-planned-clause-change g c =
 pub returns-clause-change : goal.returns-clause-change
 returns-clause-change g c = rw (c.view.ensures, c.ledger.ensures) at c.in_ok-planned.ensures.change
 
-pub returns-clause-seen : goal.returns-clause-seen
-returns-clause-seen g c = rw (c.view.ensures, c.ledger.ensures) at c.in_ok-planned.ensures.seen
+pub returns-clause-planned : goal.returns-clause-planned
+returns-clause-planned g c = rw (c.view.ensures, c.ledger.ensures) at c.in_ok-planned.ensures.planned

@@ -46,10 +46,13 @@ returns-clause-change c =
     (ap (is_there c.args.view.now.repo) (sym c.name.ensures) ∙ sym (filled_there Stored (get c.args.view.now.repo.files c.name.result)) ∙ sym (rw c.repo.ensures at c.facet_filled.ensures) ∙ c.if-facet_filled.false)
     c.in_ok-change.ensures
 
-pub returns-clause-well_formed : goal.returns-clause-well_formed
-returns-clause-well_formed c =
-    backup_well_formed c.args.view.now.repo (facts_view c.args.facts.now) c.args.cut.bytes (map given_view c.args.files.now) c.in_ok-change.change (returns-clause-change c)
-
-pub returns-clause-met : goal.returns-clause-met
-returns-clause-met c =
-    backup_met c.args.view.now.repo (facts_view c.args.facts.now) c.args.cut.bytes (map given_view c.args.files.now) c.in_ok-change.change (returns-clause-change c)
+pub returns-clause-planned : goal.returns-clause-planned
+returns-clause-planned c =
+    let r = c.args.view.now.repo in
+    let facts = facts_view c.args.facts.now in
+    let given = map given_view c.args.files.now in
+    record {
+      well_formed = backup_well_formed r facts c.args.cut.bytes given c.in_ok-change.change (returns-clause-change c);
+      met = backup_met r facts c.args.cut.bytes given c.in_ok-change.change (returns-clause-change c);
+      seen = c.length.ensures;
+    }

@@ -1,12 +1,11 @@
-use Rattle.std.proofs.Common.{◌∙◌, ap, map, subst, sym, true, ◌≡◌}
+use Rattle.std.proofs.Common.{◌∙◌, ap, map, subst, sym}
 use Rattle.std.proofs.lemmas.Result.{err_from_is_err_and}
-use Rattle.keep_repo.specs.Repository.{held}
-use Rattle.keep_change.specs.Change.{is_met}
-use Rattle.keep_change.specs.Form.{IsWellFormed}
 use Rattle.keep_snap.specs.Facts.{facts_view}
+use Rattle.keep_labels.specs.Forgetting.{forget_change}
 use Rattle.keep_labels.specs.Keeping.{EachOnce, policy_view}
-use Rattle.keep_labels.proofs.Forgotten.{answer_so, forget_answered, forget_refused}
+use Rattle.keep_labels.proofs.Forgotten.{forget_answered, forget_refused}
 use Rattle.keep_labels.proofs.Once.{once_in_order}
+use Rattle.keep_labels.proofs.Planned.{planned_so}
 use Rattle.keep_labels.proofs.Taken.{taken_rise}
 use Rattle.keep_labels.proofs.forget.plan_forget.Goals as goal
 
@@ -25,14 +24,11 @@ returns-clause-change g c =
     forget_answered c.args.view.now.repo c.args.filter.now.rule (policy_view c.args.policy.now) _ c.plan_of.result c.in_ok-taken.ensures.all_read
     (ap (map facts_view) c.deref.ensures.value ∙ c.in_ok-taken.ensures.taken) c.plan_of.ensures.change
 
-pub returns-clause-well_formed : goal.returns-clause-well_formed
-returns-clause-well_formed g c =
-    answer_so c.args.view.now.repo c.args.filter.now.rule (policy_view c.args.policy.now) IsWellFormed
-    (c.a_planned_forget_can_be_made.ensures.well_formed c.args.view.now.repo c.args.filter.now.rule (policy_view c.args.policy.now))
-    c.plan_of.result (returns-clause-change g c)
-
-pub returns-clause-met : goal.returns-clause-met
-returns-clause-met g c =
-    answer_so c.args.view.now.repo c.args.filter.now.rule (policy_view c.args.policy.now) (λ change. is_met (held c.args.view.now.repo) change ≡ true)
-    (c.a_planned_forget_can_be_made.ensures.met c.args.view.now.repo c.args.filter.now.rule (policy_view c.args.policy.now))
-    c.plan_of.result (returns-clause-change g c)
+pub returns-clause-planned : goal.returns-clause-planned
+returns-clause-planned g c =
+    let r = c.args.view.now.repo in
+    let rule = c.args.filter.now.rule in
+    let policy = policy_view c.args.policy.now in
+    let can = c.a_planned_forget_can_be_made.ensures in
+    planned_so c.args.view.now (forget_change r rule policy) (can.well_formed r rule policy) (can.met r rule policy)
+    c.plan_of.result (returns-clause-change g c) c.plan_of.ensures.seen

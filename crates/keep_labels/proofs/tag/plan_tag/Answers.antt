@@ -1,13 +1,12 @@
-use Rattle.std.proofs.Common.{ap, map, cond, sym, true, ◌≡◌, ◌∙◌, Some, None}
+use Rattle.std.proofs.Common.{ap, map, cond, sym, ◌∙◌, Some, None}
 use Rattle.std.proofs.lemmas.Result.{err_from_is_err_and}
-use Rattle.keep_repo.specs.Repository.{held}
-use Rattle.keep_change.specs.Change.{is_met}
-use Rattle.keep_change.specs.Form.{IsWellFormed}
 use Rattle.keep_plan.specs.Taking.{taken_in}
 use Rattle.keep_plan.specs.declared.plan_error.PlanError.TheVariants.{BadEdit}
 use Rattle.keep_snap.specs.Facts.{facts_view}
 use Rattle.keep_labels.specs.Edits.{edit_view}
-use Rattle.keep_labels.proofs.Tagged.{tag_answer_so, tag_answered, tag_bad, tag_refused}
+use Rattle.keep_labels.specs.Tagging.{tag_change}
+use Rattle.keep_labels.proofs.Planned.{planned_so}
+use Rattle.keep_labels.proofs.Tagged.{tag_answered, tag_bad, tag_refused}
 use Rattle.keep_labels.proofs.tag.plan_tag.Goals as goal
 
 pub returns-then-is_bad-clause-change : goal.returns-then-is_bad-clause-change
@@ -26,14 +25,11 @@ returns-clause-change g c =
     (ap (λ b. cond b (Some BadEdit) None) (sym c.is_bad.ensures ∙ c.if-is_bad.false)) c.in_ok-catalog.ensures.all_read
     (ap (map facts_view) c.deref.ensures.value ∙ c.in_ok-taken.ensures ∙ ap (taken_in c.args.filter.now.rule) c.in_ok-catalog.ensures.catalog) c.plan_of.ensures.change
 
-pub returns-clause-well_formed : goal.returns-clause-well_formed
-returns-clause-well_formed g c =
-    tag_answer_so c.args.view.now.repo c.args.filter.now.rule (edit_view c.args.edit.now) IsWellFormed
-    (c.a_planned_tagging_can_be_made.ensures.well_formed c.args.view.now.repo c.args.filter.now.rule (edit_view c.args.edit.now))
-    c.plan_of.result (returns-clause-change g c)
-
-pub returns-clause-met : goal.returns-clause-met
-returns-clause-met g c =
-    tag_answer_so c.args.view.now.repo c.args.filter.now.rule (edit_view c.args.edit.now) (λ change. is_met (held c.args.view.now.repo) change ≡ true)
-    (c.a_planned_tagging_can_be_made.ensures.met c.args.view.now.repo c.args.filter.now.rule (edit_view c.args.edit.now))
-    c.plan_of.result (returns-clause-change g c)
+pub returns-clause-planned : goal.returns-clause-planned
+returns-clause-planned g c =
+    let r = c.args.view.now.repo in
+    let rule = c.args.filter.now.rule in
+    let edit = edit_view c.args.edit.now in
+    let can = c.a_planned_tagging_can_be_made.ensures in
+    planned_so c.args.view.now (tag_change r rule edit) (can.well_formed r rule edit) (can.met r rule edit)
+    c.plan_of.result (returns-clause-change g c) c.plan_of.ensures.seen

@@ -1,16 +1,14 @@
-use Rattle.std.proofs.Common.{◌≡◌, true, List, map, sym, ap, subst, ◌∙◌}
+use Rattle.std.proofs.Common.{List, map, sym, ap, subst, ◌∙◌}
 use Rattle.std.proofs.lemmas.Result.{err_from_is_err_and}
-use Rattle.keep_repo.specs.Repository.{Repository, held}
+use Rattle.keep_repo.specs.Repository.{Repository}
 use Rattle.keep_patterns.specs.Parsing.{pattern_view}
 use Rattle.keep_snap.specs.Facts.{FactsData, facts_view}
-use Rattle.keep_change.specs.Change.{is_met}
-use Rattle.keep_change.specs.Form.{IsWellFormed}
 use Rattle.keep_reach.specs.Snapshots.{refusals_of}
 use Rattle.keep_plan.specs.Taking.{taken_in}
-use Rattle.keep_rewrite.specs.Rewriting.{unreached_first}
+use Rattle.keep_rewrite.specs.Rewriting.{rewrite_change, unreached_first}
 use Rattle.keep_rewrite.specs.Walking.{AreReached}
 use Rattle.keep_rewrite.proofs.Picked.{all_picked, all_reached}
-use Rattle.keep_rewrite.proofs.Planned.{answer_so, answered, reach_refused, read_refused}
+use Rattle.keep_rewrite.proofs.Planned.{answered, planned_so, reach_refused, read_refused}
 use Rattle.keep_rewrite.proofs.rewrite_plan.plan_rewrite.Goals as goal
 
 pub returns-in_err-catalog-clause-change : goal.returns-in_err-catalog-clause-change
@@ -51,14 +49,12 @@ returns-clause-change g c =
     answered r rule (map pattern_view c.args.patterns.now) c.args.forget (map facts_view c.deref-2.result.now) c.plan_of.result
     c.in_ok-catalog.ensures.all_read second had c.plan_of.ensures.change
 
-pub returns-clause-well_formed : goal.returns-clause-well_formed
-returns-clause-well_formed g c =
-    answer_so c.args.view.now.repo c.args.filter.now.rule (map pattern_view c.args.patterns.now) c.args.forget IsWellFormed
-    (c.a_planned_rewrite_can_be_made.ensures.well_formed c.args.view.now.repo c.args.filter.now.rule (map pattern_view c.args.patterns.now) c.args.forget)
-    c.plan_of.result (returns-clause-change g c)
-
-pub returns-clause-met : goal.returns-clause-met
-returns-clause-met g c =
-    answer_so c.args.view.now.repo c.args.filter.now.rule (map pattern_view c.args.patterns.now) c.args.forget (λ change. is_met (held c.args.view.now.repo) change ≡ true)
-    (c.a_planned_rewrite_can_be_made.ensures.met c.args.view.now.repo c.args.filter.now.rule (map pattern_view c.args.patterns.now) c.args.forget)
-    c.plan_of.result (returns-clause-change g c)
+pub returns-clause-planned : goal.returns-clause-planned
+returns-clause-planned g c =
+    let r = c.args.view.now.repo in
+    let rule = c.args.filter.now.rule in
+    let patterns = map pattern_view c.args.patterns.now in
+    let can = c.a_planned_rewrite_can_be_made.ensures in
+    planned_so c.args.view.now (rewrite_change r rule patterns c.args.forget)
+    (can.well_formed r rule patterns c.args.forget) (can.met r rule patterns c.args.forget)
+    c.plan_of.result (returns-clause-change g c) c.plan_of.ensures.seen

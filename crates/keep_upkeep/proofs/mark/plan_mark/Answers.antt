@@ -28,10 +28,12 @@ returns-clause-change c =
     ∙ ap (λ (n : ℤ). marking_of c.args.view.now.repo c.args.view.now.known n (unneeded_packs c.args.view.now.repo)) (sym (to_z-of_z w64 c.args.moment c.ranges.moment))
     ∙ c.in_ok-change.ensures
 
-pub returns-clause-well_formed : goal.returns-clause-well_formed
-returns-clause-well_formed c =
-    c.a_planned_mark_can_be_made.ensures.well_formed c.args.view.now.repo c.args.view.now.known c.args.moment c.in_ok-change.change (returns-clause-change c)
-
-pub returns-clause-met : goal.returns-clause-met
-returns-clause-met c =
-    c.a_planned_mark_can_be_made.ensures.met c.args.view.now.repo c.args.view.now.known c.args.moment c.in_ok-change.change (returns-clause-change c)
+pub returns-clause-planned : goal.returns-clause-planned
+returns-clause-planned c =
+    let shown = c.args.view.now in
+    let can = c.a_planned_mark_can_be_made.ensures in
+    record {
+      well_formed = can.well_formed shown.repo shown.known c.args.moment c.in_ok-change.change (returns-clause-change c);
+      met = can.met shown.repo shown.known c.args.moment c.in_ok-change.change (returns-clause-change c);
+      seen = c.length.ensures;
+    }

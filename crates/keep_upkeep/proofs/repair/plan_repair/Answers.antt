@@ -11,10 +11,11 @@ pub returns-clause-change : goal.returns-clause-change
 returns-clause-change c =
     repair_made c.args.view.now.repo c.in_ok-change.change (c.in_ok-change.ensures.change ∙ ap repairing c.repo.ensures) (sym c.is_idle.ensures ∙ c.if-is_idle.false)
 
-pub returns-clause-well_formed : goal.returns-clause-well_formed
-returns-clause-well_formed c =
-    c.a_planned_repair_can_be_made.ensures.well_formed c.args.view.now.repo c.in_ok-change.change (returns-clause-change c)
-
-pub returns-clause-met : goal.returns-clause-met
-returns-clause-met c =
-    c.a_planned_repair_can_be_made.ensures.met c.args.view.now.repo c.in_ok-change.change (returns-clause-change c)
+pub returns-clause-planned : goal.returns-clause-planned
+returns-clause-planned c =
+    let can = c.a_planned_repair_can_be_made.ensures in
+    record {
+      well_formed = can.well_formed c.args.view.now.repo c.in_ok-change.change (returns-clause-change c);
+      met = can.met c.args.view.now.repo c.in_ok-change.change (returns-clause-change c);
+      seen = c.length.ensures;
+    }

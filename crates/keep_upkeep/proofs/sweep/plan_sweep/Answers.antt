@@ -1,8 +1,7 @@
-use Rattle.std.proofs.Common.{◌≡◌, ℤ, true, w64, ap, sym, ◌∙◌}
+use Rattle.std.proofs.Common.{ℤ, w64, ap, sym, ◌∙◌}
 use Rattle.std.proofs.lemmas.Int.{to_z-of_z}
 use Rattle.std.proofs.lemmas.Result.{err_from_is_err_and}
-use Rattle.keep_repo.specs.Repository.{Repository, held}
-use Rattle.keep_change.specs.Change.{is_met}
+use Rattle.keep_repo.specs.Repository.{Repository}
 use Rattle.keep_upkeep.specs.Sweep.{sweeping, waited_marks}
 use Rattle.keep_upkeep.proofs.SweepPlanned.{sweep_made, sweep_nothing, sweep_refused}
 use Rattle.keep_upkeep.proofs.sweep.plan_sweep.Goals as goal
@@ -23,10 +22,12 @@ returns-clause-change c =
     (c.in_ok-marks.ensures ∙ ap (λ (n : ℤ). waited_marks c.repo.result.now n c.args.wait) (to_z-of_z w64 c.args.now c.ranges.now) ∙ ap (λ (r : Repository). waited_marks r c.args.now c.args.wait) c.repo.ensures) (sym c.is_empty.ensures ∙ c.if-is_empty.false)
     (c.in_ok-change.ensures ∙ ap (λ (r : Repository). sweeping r c.in_ok-marks.marks.items) c.repo-2.ensures)
 
-pub returns-clause-well_formed : goal.returns-clause-well_formed
-returns-clause-well_formed c =
-    c.a_planned_sweep_can_be_made.ensures.well_formed c.args.view.now.repo c.args.now c.args.wait c.in_ok-change.change (returns-clause-change c)
-
-pub returns-clause-met : goal.returns-clause-met
-returns-clause-met c =
-    c.a_planned_sweep_can_be_made.ensures.met c.args.view.now.repo c.args.now c.args.wait c.in_ok-change.change (returns-clause-change c)
+pub returns-clause-planned : goal.returns-clause-planned
+returns-clause-planned c =
+    let r = c.args.view.now.repo in
+    let can = c.a_planned_sweep_can_be_made.ensures in
+    record {
+      well_formed = can.well_formed r c.args.now c.args.wait c.in_ok-change.change (returns-clause-change c);
+      met = can.met r c.args.now c.args.wait c.in_ok-change.change (returns-clause-change c);
+      seen = c.length.ensures;
+    }

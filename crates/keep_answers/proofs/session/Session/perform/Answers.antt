@@ -10,7 +10,7 @@ returns-clause-made g c =
     let book = c.args.book.now in
     let planned = c.in_ok-planned.planned in
     let due = rw (c.view.ensures, c.ledger.ensures) at c.in_ok-planned.ensures.change in
-    let seen : planned.seen ≡ length_of (ledger_of book).events = rw (c.view.ensures, c.ledger.ensures) at c.in_ok-planned.ensures.seen in
+    let seen : planned.seen ≡ length_of (ledger_of book).events = rw (c.view.ensures, c.ledger.ensures) at c.in_ok-planned.ensures.planned.seen in
     let asks = subst (λ (seen : ℕ). Responds book (request.Commit (record { change = planned.change; seen = seen })) c.commit.result.0 c.commit.new.book) seen c.commit.ensures.responds in
     (planned.change, due, asks, c.commit.ensures.noted, c.commit.ensures.sizes)
 

@@ -7,7 +7,7 @@ use Rattle.keep_backups.proofs.lent.Lent.part.Goals as goal
 pub returns-clause-part : goal.returns-clause-part
 returns-clause-part g c =
     is_part_if_any (archive_view c.args.archive.now) (g.K.Keeps.ledger c.args.self.now.book.now) c.in_ok-part.part
-    (rw c.view-view.ensures at c.in_ok-part.ensures.change) (rw c.view-view.ensures at c.in_ok-part.ensures.seen)
+    (rw c.view-view.ensures at c.in_ok-part.ensures.change) (rw c.view-view.ensures at c.in_ok-part.ensures.planned)
 
 pub returns-in_err-part-clause-cause : goal.returns-in_err-part-clause-cause
 returns-in_err-part-clause-cause g c =
