@@ -45,11 +45,13 @@ abbrev pub target_of : StatKind → Option (List ℕ)
 target_of (Link target) = Some (string_bytes target)
 target_of _ = None
 
+-- What a node says of what was seen. A backup reads what it takes, so the moment of access is said as that of the last
+-- modification, as restic does.
 abbrev pub sighted : Stat → MembersData
 sighted sight = record {
   mode = go_mode sight.mode;
   mtime = stamp_of sight.mtime;
-  atime = stamp_of sight.atime;
+  atime = stamp_of sight.mtime;
   ctime = stamp_of sight.ctime;
   uid = sight.uid;
   gid = sight.gid;

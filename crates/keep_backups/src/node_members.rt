@@ -16,7 +16,7 @@ pub fn members_of(sight: &Stat) -> Result<Members, AllocError>
     Ok(Members {
         mode: go_mode(sight.mode),
         mtime: stamp(sight.mtime),
-        atime: stamp(sight.atime),
+        atime: stamp(sight.mtime),
         ctime: stamp(sight.ctime),
         uid: sight.uid,
         gid: sight.gid,

@@ -67,7 +67,6 @@ impl<R: Files<File = File> + Alloc<A = Global> + Clone + Drop> HostSource<R> {
             kind,
             mode: found.mode(),
             mtime: moment(found.mtime(), found.mtime_nsec()),
-            atime: moment(found.atime(), found.atime_nsec()),
             ctime: moment(found.ctime(), found.ctime_nsec()),
             uid: found.uid(),
             gid: found.gid(),

@@ -10,7 +10,6 @@ pub(crate) fn copy_of(sight: &Stat) -> Result<Stat, AllocError> {
         kind,
         mode: sight.mode,
         mtime: sight.mtime,
-        atime: sight.atime,
         ctime: sight.ctime,
         uid: sight.uid,
         gid: sight.gid,

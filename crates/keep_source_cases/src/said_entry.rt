@@ -100,7 +100,6 @@ pub(crate) fn bare(alloc: Global, kind: StatKind) -> Entry {
         kind,
         mode: 0,
         mtime: moment,
-        atime: moment,
         ctime: moment,
         uid: 0,
         gid: 0,

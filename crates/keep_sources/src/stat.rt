@@ -28,7 +28,6 @@ pub struct Stat {
     /// The bits of `st_mode`, those of the kind too.
     pub mode: u32,
     pub mtime: Moment,
-    pub atime: Moment,
     pub ctime: Moment,
     pub uid: u32,
     pub gid: u32,
