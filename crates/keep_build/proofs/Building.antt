@@ -9,8 +9,7 @@ use Rattle.std.proofs.lemmas.List.Elements.{All-get_or}
 use Rattle.std.proofs.Math.Seq.{drop-cons}
 use Rattle.std.proofs.lemmas.List.Sums.{sum_by-take-le, sum_by_push}
 use Rattle.keep_names.specs.declared.blob.BlobId.{BlobId}
-use Rattle.keep_names.specs.declared.file_name.Kind.TheVariants.{Pack, Index}
-use Rattle.keep_names.specs.declared.id.Id.{Id}
+use Rattle.keep_names.specs.declared.file_name.Kind.TheVariants.{Index}
 use Rattle.keep_change.specs.NamedBytes.{NamedBytes, file_of}
 use Rattle.keep_index.specs.Index.{pack_view}
 use Rattle.keep_index.specs.Writing.{index_text}
@@ -18,6 +17,7 @@ use Rattle.keep_names.specs.declared.blob.Blob.{Blob}
 use Rattle.keep_index.specs.declared.index.IndexedPack.{IndexedPack}
 use Rattle.keep_pack.specs.Pack.{HasOwnId, IsHonestPackOf, entries_from, listing, stored}
 use Rattle.keep_build.specs.Blobs.{BlobData}
+use Rattle.keep_build.specs.NewPacks.{new_pack_of}
 use Rattle.keep_build.specs.Packs.{bytes_in, full_pack, packs_from, packs_of}
 use Rattle.keep_build.specs.Stored.{packs_and_index, index_file, pack_file, pack_listed}
 use Rattle.keep_build.specs.Storing.{CanBePacked, Text, blob_view, text_bytes}
@@ -74,16 +74,11 @@ pub all_done : {A B : Type 0} (f : A → B) (done all : List B) (rest : List A) 
 all_done f done all rest none so = sym (append-nil done) ∙ ap (λ xs. done ++ map f xs) (sym none) ∙ so
 
 -- a pack that is built
-pub pack_built : (kept : Kept) (pack : List ℕ) → IsHonestPackOf pack (map (stored text_bytes) kept) → file_of Pack pack ≡ pack_file (map blob_view kept)
-unfolding pack_file
-pack_built kept pack honest = ap (file_of Pack) honest.bytes
-
-pub listed_built : (kept : Kept) (pack : List ℕ) (id : Id) (blobs : List Blob) → IsHonestPackOf pack (map (stored text_bytes) kept) → id ≡ (file_of Pack pack).name.id
+pub new_pack_built : (kept : Kept) (pack : List ℕ) (blobs : List Blob) → IsHonestPackOf pack (map (stored text_bytes) kept)
     → blobs ≡ entries_from 0 (map listing (map blob_view kept))
-    → record { id = id; blobs = blobs } ≡ pack_listed (map blob_view kept)
-unfolding pack_listed
-listed_built kept pack id blobs honest is says =
-    (λ i. record { id = (is ∙ ap (λ (file : NamedBytes). file.name.id) (pack_built kept pack honest)) i; blobs = says i })
+    → (pack, blobs) ≡ new_pack_of (map blob_view kept)
+unfolding new_pack_of
+new_pack_built kept pack blobs honest says = (λ i. (honest.bytes i, says i))
 
 pub header_short : (kept : Kept) → CanBePacked kept → 0 < length kept → bytes_in (map blob_view (take (length kept - 1) kept)) < full_pack → 37 * length kept < 2 ^ 32
 header_short kept can some front =

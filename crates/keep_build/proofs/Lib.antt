@@ -4,4 +4,5 @@ pub mod Built
 pub mod Cutting
 pub mod Firsts
 pub mod Keeping
+pub mod NamedPacks
 pub mod Packable

@@ -1,4 +1,5 @@
 pub mod Blobs
+pub mod NewPacks
 pub mod Packs
 pub mod Stored
 pub mod Storing

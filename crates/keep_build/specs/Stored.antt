@@ -51,7 +51,7 @@ built r blobs = packs_and_index (packs_built r blobs)
 unfoldable pub stored_of : Repository → List BlobData → Stored
 stored_of r blobs = stored_built r (names_once blobs) (built r blobs)
 
--- the same, where these named blobs are used where they are besides
+-- what becomes of them where these named blobs are used where they are besides
 unfoldable pub stored_with : Repository → List BlobId → List BlobData → Stored
 stored_with r named blobs = stored_built r (named ++ names_once blobs) (built r blobs)
 

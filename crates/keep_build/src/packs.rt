@@ -1,20 +1,30 @@
 ghost use Rattle.std.specs.Prelude.{◌≡◌, [], ◌++◌, ◌∷◌, ◌<◌, ◌≤◌, ◌-◌, ◌*◌, ◌^◌, List, drop, length, map, take, IfOk, OnOk};
 ghost use Rattle.keep_index.specs.Index.{pack_view};
+ghost use Rattle.keep_names.specs.Sha256.{sha256};
 ghost use Rattle.keep_pack.specs.Pack.{entries_from, listing};
 ghost use Rattle.keep_build.specs.Blobs.{BlobData};
+ghost use Rattle.keep_build.specs.NewPacks.{new_pack_of, new_pack_view};
 ghost use Rattle.keep_build.specs.Packs.{bytes_in, full_pack, packs_of};
 ghost use Rattle.keep_build.specs.Stored.{pack_file, pack_listed, packs_and_index};
 ghost use Rattle.keep_build.specs.Storing.{CanBePacked, blob_view, text_bytes};
 
 use crate::storing::{NewBlob, Text};
+use keep_catalog::Hashing;
 use keep_change::StoredFile;
 use keep_index::{Index, IndexedPack, write_index};
-use keep_names::{Blob, Kind};
+use keep_names::{Blob, Id, Kind};
 use keep_pack::build_pack;
 use std::alloc::{AllocError, Global};
 
 /// A pack with as many bytes of blobs gets no more.
 const FULL_PACK: usize = 16_777_216;
+
+/// A pack that has no name yet, and what its header says.
+#[derive(Drop)]
+pub(crate) struct NewPack {
+    pub(crate) bytes: Vec<u8>,
+    pub(crate) blobs: Vec<Blob>,
+}
 
 /// Packs, and what their index says of them.
 #[derive(Drop)]
@@ -23,39 +33,36 @@ struct Built {
     listed: Vec<IndexedPack>,
 }
 
-/// The packs of new blobs, pieces before trees, and their index.
-pub(crate) fn built_files(
+/// The packs of new blobs, pieces before trees, and their index. Packs are hashed together.
+pub(crate) fn built_files<H: Hashing>(
     alloc: Global,
     pieces: &[NewBlob],
     trees: &[NewBlob],
+    hashing: &mut H,
 ) -> Result<Vec<StoredFile>, AllocError>
     requires pieces { CanBePacked pieces.now }
     requires trees { CanBePacked trees.now }
     ensures { IfOk result (λ files. files.items ≡ packs_and_index
         (packs_of (map blob_view pieces.now) ++ packs_of (map blob_view trees.now))) }
 {
-    let mut built = Built {
-        files: Vec::new(alloc),
-        listed: Vec::new(alloc),
-    };
-    add_packs(alloc, &mut built, pieces)?;
-    add_packs(alloc, &mut built, trees)?;
+    let mut packs = Vec::new(alloc);
+    add_packs(alloc, &mut packs, pieces)?;
+    add_packs(alloc, &mut packs, trees)?;
+    let built = named_packs(alloc, packs, hashing)?;
     add_index(alloc, built)
 }
 
 /// Adds the packs of these blobs.
-fn add_packs(alloc: Global, built: &mut Built, blobs: &[NewBlob]) -> Result<(), AllocError>
+fn add_packs(alloc: Global, packs: &mut Vec<NewPack>, blobs: &[NewBlob]) -> Result<(), AllocError>
     requires { CanBePacked blobs.now }
-    ensures files { OnOk result (built.new.files.items
-        ≡ built.old.files.items ++ map pack_file (packs_of (map blob_view blobs.now))) }
-    ensures listed { OnOk result (map pack_view built.new.listed.items
-        ≡ map pack_view built.old.listed.items ++ map pack_listed (packs_of (map blob_view blobs.now))) }
+    ensures { OnOk result (map new_pack_view packs.new.items
+        ≡ map new_pack_view packs.old.items ++ map new_pack_of (packs_of (map blob_view blobs.now))) }
 {
     let mut start = 0;
     while start < blobs.len() {
         let rest = &blobs[start..];
         let count = first_pack(rest);
-        add_pack(alloc, built, &rest[..count])?;
+        add_pack(alloc, packs, &rest[..count])?;
         start += count;
     }
     Ok(())
@@ -82,22 +89,57 @@ fn first_pack(blobs: &[NewBlob]) -> usize
 }
 
 /// Adds the pack of these blobs.
-fn add_pack(alloc: Global, built: &mut Built, blobs: &[NewBlob]) -> Result<(), AllocError>
+fn add_pack(alloc: Global, packs: &mut Vec<NewPack>, blobs: &[NewBlob]) -> Result<(), AllocError>
     requires fits { CanBePacked blobs.now }
     requires some { 0 < length blobs.now }
     requires front { bytes_in (map blob_view (take (length blobs.now - 1) blobs.now)) < full_pack }
-    ensures files { OnOk result (built.new.files.items
-        ≡ built.old.files.items ++ pack_file (map blob_view blobs.now) ∷ []) }
-    ensures listed { OnOk result (map pack_view built.new.listed.items
-        ≡ map pack_view built.old.listed.items ++ pack_listed (map blob_view blobs.now) ∷ []) }
+    ensures { OnOk result (map new_pack_view packs.new.items
+        ≡ map new_pack_view packs.old.items ++ new_pack_of (map blob_view blobs.now) ∷ []) }
 {
-    let pack = build_pack(alloc, blobs)?;
-    let file = StoredFile::of(alloc, Kind::Pack, pack)?;
-    let id = file.name().id;
+    let bytes = build_pack(alloc, blobs)?;
     let blobs = listed_blobs(alloc, blobs)?;
-    built.listed.push(IndexedPack { id, blobs })?;
-    built.files.push(file)?;
+    packs.push(NewPack { bytes, blobs })?;
     Ok(())
+}
+
+/// The packs under their names, and what their index says of them.
+fn named_packs<H: Hashing>(
+    alloc: Global,
+    packs: Vec<NewPack>,
+    hashing: &mut H,
+) -> Result<Built, AllocError>
+    ensures files { IfOk result (λ built. (of : List (List BlobData)) → map new_pack_view packs.items ≡ map new_pack_of of
+        → built.files.items ≡ map pack_file of) }
+    ensures listed { IfOk result (λ built. (of : List (List BlobData)) → map new_pack_view packs.items ≡ map new_pack_of of
+        → map pack_view built.listed.items ≡ map pack_listed of) }
+{
+    let ids = ids_of(alloc, &packs, hashing)?;
+    let mut built = Built {
+        files: Vec::new(alloc),
+        listed: Vec::new(alloc),
+    };
+    for (pack, id) in packs.into_iter().zip(ids) {
+        let NewPack { bytes, blobs } = pack;
+        built.listed.push(IndexedPack { id, blobs })?;
+        let file = StoredFile::hashed(alloc, Kind::Pack, id, bytes)?;
+        built.files.push(file)?;
+    }
+    Ok(built)
+}
+
+/// The SHA-256 of each pack.
+fn ids_of<H: Hashing>(
+    alloc: Global,
+    packs: &[NewPack],
+    hashing: &mut H,
+) -> Result<Vec<Id>, AllocError>
+    ensures { IfOk result (λ ids. map (λ id. id.0) ids.items ≡ map (λ pack. sha256 pack.bytes.items) packs.now) }
+{
+    let mut texts: Vec<&[u8]> = Vec::new(alloc);
+    for pack in packs {
+        texts.push(pack.bytes.as_slice())?;
+    }
+    hashing.ids(alloc, &texts)
 }
 
 /// What an index says of the blobs of a pack, which lie one after the other.

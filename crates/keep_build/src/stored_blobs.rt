@@ -5,6 +5,7 @@ ghost use Rattle.keep_build.specs.Storing.{given};
 ghost use Rattle.keep_plan.specs.declared.plan_error.PlanError.TheVariants.{Memory};
 
 use crate::storing::Storing;
+use keep_catalog::OneByOne;
 use keep_names::BlobType;
 use keep_plan::{PlanError, Stored};
 use keep_view::View;
@@ -25,5 +26,5 @@ pub fn store<'a>(
     for (blob_type, bytes) in blobs {
         storing.put(*blob_type, CowSlice::Borrowed(bytes))?;
     }
-    Ok(storing.finish(alloc, view.repo())?)
+    Ok(storing.finish(alloc, view.repo(), &mut OneByOne)?)
 }

@@ -9,7 +9,7 @@ ghost use Rattle.keep_build.specs.Stored.{stored_with};
 ghost use Rattle.keep_build.specs.Storing.{AreKept, Keeps, text_bytes};
 
 use crate::packs::built_files;
-use keep_catalog::Catalog;
+use keep_catalog::{Catalog, Hashing};
 use keep_names::{BlobId, BlobType, Id, id_of};
 use keep_plan::{PlanError, Reuses, Stored, store_built};
 use keep_repo::Repo;
@@ -87,8 +87,13 @@ impl<'a> Storing<'a> {
         Ok(id)
     }
 
-    /// What is stored of all that was offered, where what was named is used where it is.
-    pub fn finish(self, alloc: Global, repo: &Repo) -> Result<Stored, AllocError>
+    /// What is stored of all that was offered, where what was named is used where it is. Packs are hashed by this.
+    pub fn finish<H: Hashing>(
+        self,
+        alloc: Global,
+        repo: &Repo,
+        hashing: &mut H,
+    ) -> Result<Stored, AllocError>
         requires { (named : List the_blob.BlobId) × (offered : List BlobData) × Keeps repo.now named offered self }
         ensures { IfOk result (λ stored. (named : List the_blob.BlobId) (offered : List BlobData)
             → Keeps repo.now named offered self.entry → stored ≡ stored_with repo.now named offered) }
@@ -99,7 +104,7 @@ impl<'a> Storing<'a> {
             reuses,
             ..
         } = self;
-        let files = built_files(alloc, &pieces, &trees)?;
+        let files = built_files(alloc, &pieces, &trees, hashing)?;
         store_built(alloc, repo, files, reuses)
     }
 

@@ -2,7 +2,7 @@ ghost use Rattle.std.specs.Prelude.{◌≡◌, ◌↔◌, IfOk, IsTrue};
 ghost use Rattle.keep_names.specs.Sha256.{sha256};
 ghost use Rattle.keep_change.specs.NamedBytes.{file_of};
 
-use keep_names::{FileName, Kind, id_of};
+use keep_names::{FileName, Id, Kind, id_of};
 use keep_repo::Bytes;
 use std::alloc::{AllocError, Global};
 use std::marker::Model;
@@ -34,6 +34,19 @@ impl StoredFile {
         ensures { IfOk result (λ file. file ≡ file_of kind bytes.items) }
     {
         let id = id_of(&bytes);
+        StoredFile::hashed(alloc, kind, id, bytes)
+    }
+
+    /// The file of these bytes, whose SHA-256 is known.
+    pub fn hashed(
+        alloc: Global,
+        kind: Kind,
+        id: Id,
+        bytes: Vec<u8>,
+    ) -> Result<StoredFile, AllocError>
+        requires { id.0 ≡ sha256 bytes.items }
+        ensures { IfOk result (λ file. file ≡ file_of kind bytes.items) }
+    {
         let bytes = Bytes::new(alloc, bytes)?;
         Ok(StoredFile {
             name: FileName { kind, id },

@@ -1,8 +1,7 @@
 use Rattle.std.proofs.Common.{◌+◌, ◌≤◌, drop, length, map, take, ap, arith}
 use Rattle.std.proofs.lemmas.List.{length-drop, take_rest}
-use Rattle.keep_index.specs.Index.{pack_view}
+use Rattle.keep_build.specs.NewPacks.{new_pack_of, new_pack_view}
 use Rattle.keep_build.specs.Packs.{packs_of}
-use Rattle.keep_build.specs.Stored.{pack_file, pack_listed}
 use Rattle.keep_build.specs.Storing.{blob_view}
 use Rattle.keep_build.proofs.Building.{all_done, can_rest, cut_rest, front_front, from_start, no_rest, one_done, some_front, some_rest}
 use Rattle.keep_build.proofs.Packable.{can_take}
@@ -34,16 +33,10 @@ loop-start-preserved c =
     let before : start ≤ length blobs = c.loop-start.invariant.within in
     record {
       within = omega (arith, within, before, ap length (take_rest blobs start), length-drop start blobs);
-      files = one_done pack_file c.loop-start.built.files.items c.add_pack.new.built.files.items _ (packs_of (map blob_view (drop start blobs))) (packs_of (map blob_view (drop (start + count) blobs))) (map blob_view (take count rest))
-          splits c.in_ok-add_pack.ensures.files c.loop-start.invariant.files;
-      listed = one_done pack_listed (map pack_view c.loop-start.built.listed.items) (map pack_view c.add_pack.new.built.listed.items) _ (packs_of (map blob_view (drop start blobs))) (packs_of (map blob_view (drop (start + count) blobs))) (map blob_view (take count rest))
-          splits c.in_ok-add_pack.ensures.listed c.loop-start.invariant.listed;
+      packs = one_done new_pack_of (map new_pack_view c.loop-start.packs.items) (map new_pack_view c.add_pack.new.packs.items) _ (packs_of (map blob_view (drop start blobs))) (packs_of (map blob_view (drop (start + count) blobs))) (map blob_view (take count rest))
+          splits c.in_ok-add_pack.ensures c.loop-start.invariant.packs;
     }
 
-pub returns-clause-files : goal.returns-clause-files
-returns-clause-files c =
-    all_done pack_file c.loop-start.built.files.items _ (packs_of (map blob_view (drop c.loop-start.start c.args.blobs.now))) (no_rest c.loop-start.start c.args.blobs.now c.loop-start-test.false) c.loop-start.invariant.files
-
-pub returns-clause-listed : goal.returns-clause-listed
-returns-clause-listed c =
-    all_done pack_listed (map pack_view c.loop-start.built.listed.items) _ (packs_of (map blob_view (drop c.loop-start.start c.args.blobs.now))) (no_rest c.loop-start.start c.args.blobs.now c.loop-start-test.false) c.loop-start.invariant.listed
+pub returns : goal.returns
+returns c =
+    all_done new_pack_of (map new_pack_view c.loop-start.packs.items) _ (packs_of (map blob_view (drop c.loop-start.start c.args.blobs.now))) (no_rest c.loop-start.start c.args.blobs.now c.loop-start-test.false) c.loop-start.invariant.packs

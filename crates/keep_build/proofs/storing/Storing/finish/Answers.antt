@@ -10,16 +10,16 @@ use Rattle.keep_build.proofs.Packable.{can_pack, can_same}
 use Rattle.keep_build.proofs.storing.Storing.finish.Goals as goal
 
 pub built_files-requires-clause-pieces : goal.built_files-requires-clause-pieces
-built_files-requires-clause-pieces c =
+built_files-requires-clause-pieces g c =
     can_same _ _ (sym c.deref.ensures.value) (can_pack Content c.args.repo.now c.requires.1 c.args.self.pieces.items c.requires.2.fits c.requires.2.pieces)
 
 pub built_files-requires-clause-trees : goal.built_files-requires-clause-trees
-built_files-requires-clause-trees c =
+built_files-requires-clause-trees g c =
     can_same _ _ (sym c.deref-2.ensures.value) (can_pack Tree c.args.repo.now c.requires.1 c.args.self.trees.items c.requires.2.fits c.requires.2.trees)
 
 pub returns : goal.returns
 unfolding stored_with
-returns c =
+returns g c =
     let r = c.args.repo.now in
     if_ok _ _ c.store_built.result
     (λ stored so named offered keeps.
