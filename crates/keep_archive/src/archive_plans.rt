@@ -12,35 +12,48 @@ use crate::going::Going;
 use crate::not_planned::NotPlanned;
 use crate::part_storing::{store_held, store_last};
 use keep_backup::{BackupFacts, change_with, has_bad_time, snapshot_file};
+use keep_catalog::Hashing;
 use keep_change::{Change, Planned};
+use keep_names::BlobId;
 use keep_plan::{PlanError, Stored};
 use keep_repo::Facet;
 use keep_view::View;
 use std::alloc::Global;
 
 impl Archive {
-    ghost use Rattle.std.specs.Prelude.{true, IfOk, IfSome, option_map};
-    ghost use Rattle.keep_repo.specs.Repository as repository;
-    ghost use Rattle.keep_change.specs.Change.{is_met};
-    ghost use Rattle.keep_change.specs.Form.{IsWellFormed};
+    ghost use Rattle.std.specs.Prelude.{[], None, IfOk, IfSome, option_map};
+    ghost use Rattle.keep_view.specs.Planned.{IsPlannedOn};
     ghost use Rattle.keep_archive.specs.Archive.{archive_view};
     ghost use Rattle.keep_archive.specs.Plans.{last_due, of_open, part_due};
 
-    /// The change that stores what is held, as far as it has no place: it adds packs and their index alone. None where
-    /// nothing is to be stored. `Unread` where a file of the repository can't be read, and then `Differs` of the first of
-    /// the packs and the index that is there with other bytes.
-    pub fn plan_part(&self, alloc: Global, view: &View) -> Result<Option<Planned>, NotPlanned>
+    /// The blobs that have to have places when the backup is planned; none where it is shut.
+    pub fn named(&self) -> &[BlobId]
+        ensures open { IfSome (archive_view self.now) (λ a. result.now ≡ a.blobs.named) }
+        ensures shut { archive_view self.now ≡ None → result.now ≡ [] }
+    {
+        match &self.going {
+            Some(going) => &going.blobs.named,
+            None => &[],
+        }
+    }
+
+    /// The change that stores what is held, as far as it has no place: it adds packs and their index alone. Packs are
+    /// hashed by this. None where nothing is to be stored. `Unread` where a file of the repository can't be read, and
+    /// then `Differs` of the first of the packs and the index that is there with other bytes.
+    pub fn plan_part<H: Hashing>(
+        &self,
+        alloc: Global,
+        view: &View,
+        hashing: &mut H,
+    ) -> Result<Option<Planned>, NotPlanned>
         ensures change { Answers (Unplanned the_error.Memory) (option_map (λ planned. planned.change))
             (of_open (part_due view.now.repo) (archive_view self.now)) result }
-        ensures seen { IfOk result (λ part. IfSome part (λ planned. planned.seen ≡ view.now.length)) }
-        ensures well_formed { IfOk result (λ part. IfSome part (λ planned. IsWellFormed planned.change)) }
-        ensures met { IfOk result (λ part. IfSome part
-            (λ planned. is_met (repository.held view.now.repo) planned.change ≡ true)) }
+        ensures planned { IfOk result (λ part. IfSome part (IsPlannedOn view.now)) }
     {
         let Some(going) = &self.going else {
             return Err(NotPlanned::Unplanned(PlanError::Memory));
         };
-        let Some(change) = part(alloc, view, going)? else {
+        let Some(change) = part(alloc, view, going, hashing)? else {
             return Ok(None);
         };
         Ok(Some(Planned {
@@ -55,24 +68,23 @@ impl Archive {
     /// The refusals in their order: `BadPath` where a folder below the root is open, `BadTime`, `Unread`, `Full`,
     /// `MissingBlob` of the first blob that was stored or named and has no place any more, `SnapshotThere`, `Differs` of
     /// the first of the packs and the index that is there with other bytes.
-    pub fn plan_backup(
+    pub fn plan_backup<H: Hashing>(
         &self,
         alloc: Global,
         view: &View,
         facts: &BackupFacts,
         tags: &[String],
+        hashing: &mut H,
     ) -> Result<Planned, NotPlanned>
         ensures change { Answers (Unplanned the_error.Memory) (λ planned. planned.change)
             (of_open (last_due view.now.repo (facts_view facts.now) (map string_bytes tags.now))
             (archive_view self.now)) result }
-        ensures seen { IfOk result (λ planned. planned.seen ≡ view.now.length) }
-        ensures well_formed { IfOk result (λ planned. IsWellFormed planned.change) }
-        ensures met { IfOk result (λ planned. is_met (repository.held view.now.repo) planned.change ≡ true) }
+        ensures planned { IfOk result (IsPlannedOn view.now) }
     {
         let Some(going) = &self.going else {
             return Err(NotPlanned::Unplanned(PlanError::Memory));
         };
-        let change = last(alloc, view, going, facts, tags)?;
+        let change = last(alloc, view, going, facts, tags, hashing)?;
         Ok(Planned {
             change,
             seen: view.length(),
@@ -81,10 +93,15 @@ impl Archive {
 }
 
 /// The change of a part.
-fn part(alloc: Global, view: &View, going: &Going) -> Result<Option<Change>, NotPlanned>
+fn part<H: Hashing>(
+    alloc: Global,
+    view: &View,
+    going: &Going,
+    hashing: &mut H,
+) -> Result<Option<Change>, NotPlanned>
     ensures { Answers (Unplanned the_error.Memory) (λ part. part) (spec.part_due view.now.repo (going_view going.now)) result }
 {
-    let stored = store_held(alloc, view, &going.blobs.held)?;
+    let stored = store_held(alloc, view, &going.blobs.held, hashing)?;
     if let Some(file) = stored.differing {
         return Err(NotPlanned::Differs(file));
     }
@@ -95,12 +112,13 @@ fn part(alloc: Global, view: &View, going: &Going) -> Result<Option<Change>, Not
 }
 
 /// The last change.
-fn last(
+fn last<H: Hashing>(
     alloc: Global,
     view: &View,
     going: &Going,
     facts: &BackupFacts,
     tags: &[String],
+    hashing: &mut H,
 ) -> Result<Change, NotPlanned>
     ensures { Answers (Unplanned the_error.Memory) (λ change. change) (spec.last_due view.now.repo
         (facts_view facts.now) (map string_bytes tags.now) (going_view going.now)) result }
@@ -111,7 +129,7 @@ fn last(
     if has_bad_time(facts) {
         return Err(NotPlanned::Unplanned(PlanError::BadTime));
     }
-    let (tree, stored) = store_last(alloc, view, going)?;
+    let (tree, stored) = store_last(alloc, view, going, hashing)?;
     let snapshot = snapshot_file(alloc, facts, tags, tree)?;
     if view.repo().facet_filled(Facet::File(snapshot.name())) {
         return Err(NotPlanned::Unplanned(PlanError::SnapshotThere));

@@ -14,6 +14,7 @@ ghost use Rattle.keep_archive.specs.Plans.{has_no_place, last_stored};
 use crate::going::Going;
 use crate::held::HeldBlob;
 use keep_build::Storing;
+use keep_catalog::Hashing;
 use keep_names::{BlobId, BlobType, Id};
 use keep_plan::{PlanError, Stored, Unreached};
 use keep_view::View;
@@ -21,10 +22,11 @@ use std::alloc::{AllocError, Global};
 use std::borrow::CowSlice;
 
 /// What is stored of blobs that are held.
-pub(crate) fn store_held<'a>(
+pub(crate) fn store_held<'a, H: Hashing>(
     alloc: Global,
     view: &View<'a>,
     held: &'a [HeldBlob],
+    hashing: &mut H,
 ) -> Result<Stored, PlanError>
     ensures { Answers the_error.Memory (λ stored. stored) (unless (unread_first view.now.repo)
         (Ok (stored_of view.now.repo (map held_view held.now)))) result }
@@ -32,15 +34,16 @@ pub(crate) fn store_held<'a>(
     let catalog = view.catalog(alloc)?;
     let mut storing = Storing::new(alloc, catalog);
     take_all(&mut storing, held)?;
-    let stored = storing.finish(alloc, view.repo())?;
+    let stored = storing.finish(alloc, view.repo(), hashing)?;
     Ok(stored)
 }
 
 /// The id of the root's tree, and what is stored of what is left.
-pub(crate) fn store_last<'a>(
+pub(crate) fn store_last<'a, H: Hashing>(
     alloc: Global,
     view: &View<'a>,
     going: &'a Going,
+    hashing: &mut H,
 ) -> Result<(Id, Stored), PlanError>
     ensures { Answers the_error.Memory (λ made. made)
         (last_stored view.now.repo (going_view going.now)) result }
@@ -57,7 +60,7 @@ pub(crate) fn store_last<'a>(
     }
     take_all(&mut storing, &going.blobs.held)?;
     let tree = storing.put(BlobType::Tree, CowSlice::Owned(text))?;
-    let stored = storing.finish(alloc, view.repo())?;
+    let stored = storing.finish(alloc, view.repo(), hashing)?;
     Ok((tree, stored))
 }
 

@@ -21,6 +21,7 @@ use crate::not_backed_up::NotBackedUp;
 use keep_backup::BackupFacts;
 use keep_book::Book;
 use keep_build::Cut;
+use keep_catalog::Hashing;
 use keep_plan::PlanError;
 use keep_shelf::Shelf;
 use keep_sources::{Receives, Scope, Skipped, Source, Stop, Taking};
@@ -36,16 +37,17 @@ pub struct Wish<'a> {
     pub cut: Cut,
 }
 
-/// Backs up what the job asks for of the source: parts of 64 MiB and more are committed one after another, and then the
+/// Backs up what the job asks for of the source, where packs and the blobs that it rests on are hashed by this: parts of 64 MiB and more are committed one after another, and then the
 /// change that adds the snapshot, with these facts and tags. What isn't in the snapshot's tree, or not as it was seen, is
 /// named.
 ///
 /// Where no snapshot is added the parts that were committed stay. No change is planned over a file that was built for it
 /// and is there with other bytes: the first such file is named.
-pub fn back_up<S: Shelf, R: Source>(
+pub fn back_up<S: Shelf, R: Source, H: Hashing + Copy>(
     alloc: Global,
     book: &mut Book<S>,
     source: R,
+    hashing: H,
     wish: &Wish<'_>,
 ) -> Result<BackedUp, NotBackedUp>
     requires { HasSums book.old }
@@ -56,17 +58,19 @@ pub fn back_up<S: Shelf, R: Source>(
     ensures cause { IfErr result (λ cause. ∥ IsCause (ledger_of book.new) cause ∥₁) }
     ensures sums { HasSums book.new }
 {
-    let (given, filled) = filled::<Brand, Book<S>, R>(alloc, Given { book }, source, wish);
+    let given = Given { book };
+    let (given, filled) = filled::<Brand, Book<S>, R, H>(alloc, given, source, hashing, wish);
     let Given { book } = given;
     let filled = filled?;
-    add_snapshot(alloc, book, filled, wish)
+    add_snapshot(alloc, book, filled, hashing, wish)
 }
 
 /// Takes what the job asks for, and commits parts of it. It hands the book back.
-fn filled<'b, B: Begun, K: Keeps, R: Source>(
+fn filled<'b, B: Begun, K: Keeps, R: Source, H: Hashing + Copy>(
     alloc: Global,
     given: Given<'b, K>,
     source: R,
+    hashing: H,
     wish: &Wish<'_>,
 ) -> (Given<'b, K>, Result<Filled, NotBackedUp>)
     requires sums { let k = given.book.now in AreSums (K.ledger k).events (K.hooks k).watches (K.tallies k) }
@@ -81,14 +85,16 @@ fn filled<'b, B: Begun, K: Keeps, R: Source>(
         filled.skipped.items)) }
 {
     let Given { book } = given;
-    let mut lent: Lent<'b, B, K> = Lent {
+    let mut lent: Lent<'b, B, K, H> = Lent {
         book,
+        hashing,
         refusal: None,
         of: PhantomData,
     };
     let filled = fill(alloc, &mut lent, source, wish);
     let Lent {
         book,
+        hashing: _,
         refusal,
         of: _,
     } = lent;
@@ -106,11 +112,12 @@ fn told(filled: Result<Filled, Stop>, refusal: Option<NotBackedUp>) -> Result<Fi
     }
 }
 
-/// Commits the change that adds the snapshot.
-fn add_snapshot<K: Keeps>(
+/// Commits the change that adds the snapshot. What it rests on is hashed first.
+fn add_snapshot<K: Keeps, H: Hashing + Copy>(
     alloc: Global,
     book: &mut K,
     filled: Filled,
+    mut hashing: H,
     wish: &Wish<'_>,
 ) -> Result<BackedUp, NotBackedUp>
     requires { AreSums (K.ledger book.old).events (K.hooks book.old).watches (K.tallies book.old) }
@@ -127,8 +134,9 @@ fn add_snapshot<K: Keeps>(
         parts,
         skipped,
     } = filled;
+    book.hash_blobs(archive.named(), &mut hashing);
     let view = book.view();
-    let planned = archive.plan_backup(alloc, &view, wish.facts, wish.tags)?;
+    let planned = archive.plan_backup(alloc, &view, wish.facts, wish.tags, &mut hashing)?;
     match book.commit(planned) {
         Ok(made) => Ok(BackedUp {
             made,
@@ -140,9 +148,9 @@ fn add_snapshot<K: Keeps>(
 }
 
 /// Takes what the job asks for, and commits parts of it.
-fn fill<B: Begun, K: Keeps, R: Source>(
+fn fill<B: Begun, K: Keeps, R: Source, H: Hashing + Copy>(
     alloc: Global,
-    lent: &mut Lent<'_, B, K>,
+    lent: &mut Lent<'_, B, K, H>,
     source: R,
     wish: &Wish<'_>,
 ) -> Result<Filled, Stop>
@@ -157,9 +165,9 @@ fn fill<B: Begun, K: Keeps, R: Source>(
 }
 
 /// Takes what the job asks for, by a walk that has taken nothing yet, and commits parts of it.
-fn walk<B: Begun, K: Keeps, R: Source>(
+fn walk<B: Begun, K: Keeps, R: Source, H: Hashing + Copy>(
     alloc: Global,
-    mut taking: Taking<R, Intake<'_, '_, B, K>>,
+    mut taking: Taking<R, Intake<'_, '_, B, K, H>>,
     job: &Scope,
 ) -> Result<Filled, Stop>
     ensures { IfOk result (λ filled. TookAll R.told Gives job.now

@@ -4,10 +4,11 @@ use crate::begun::Begun;
 use crate::intake::{Intake, name_of, others_of};
 use crate::keeps::Keeps;
 use crate::type_name::type_name_of;
+use keep_catalog::Hashing;
 use keep_names::Id;
 use keep_sources::{Receives, Stat, Stop};
 
-impl<B: Begun, K: Keeps> Receives for Intake<'_, '_, B, K> {
+impl<B: Begun, K: Keeps, H: Hashing + Copy> Receives for Intake<'_, '_, B, K, H> {
     ghost use Rattle.keep_archive.specs.Archive.{archive_view};
     ghost use Rattle.keep_backups.specs.Holding.{held_of};
     ghost use Rattle.keep_backups.specs.Taken.{Gives, TakenData, taken_of};

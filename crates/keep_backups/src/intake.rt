@@ -11,6 +11,7 @@ use crate::lent::Lent;
 use crate::node_members::members_of;
 use keep_archive::{Archive, Carried};
 use keep_build::Cut;
+use keep_catalog::Hashing;
 use keep_members::carried;
 use keep_plan::PlanError;
 use keep_quoted::quote;
@@ -19,9 +20,9 @@ use std::alloc::{AllocError, Global};
 
 /// What a walk gives, on its way into an archive over a book.
 #[derive(Drop)]
-pub(crate) struct Intake<'a, 'b, B: Begun, K: Keeps> {
+pub(crate) struct Intake<'a, 'b, B: Begun, K: Keeps, H> {
     pub(crate) alloc: Global,
-    pub(crate) lent: &'a mut Lent<'b, B, K>,
+    pub(crate) lent: &'a mut Lent<'b, B, K, H>,
     pub(crate) archive: Archive,
     /// How many parts were committed.
     pub(crate) parts: u64,
@@ -37,9 +38,13 @@ pub(crate) struct Filled {
     pub(crate) skipped: Vec<Skipped>,
 }
 
-impl<'a, 'b, B: Begun, K: Keeps> Intake<'a, 'b, B, K> {
+impl<'a, 'b, B: Begun, K: Keeps, H: Hashing + Copy> Intake<'a, 'b, B, K, H> {
     /// Nothing is given yet.
-    pub(crate) fn new(alloc: Global, lent: &'a mut Lent<'b, B, K>, cut: Cut) -> Intake<'a, 'b, B, K>
+    pub(crate) fn new(
+        alloc: Global,
+        lent: &'a mut Lent<'b, B, K, H>,
+        cut: Cut,
+    ) -> Intake<'a, 'b, B, K, H>
         ensures { archive_view result.archive ≡ Some (nothing cut.bytes) }
     {
         Intake {

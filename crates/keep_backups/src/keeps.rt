@@ -6,8 +6,10 @@ ghost use Rattle.keep_ledger.specs.Sums.{AreSums};
 
 use keep_acts::{Made, ask};
 use keep_book::Book;
+use keep_catalog::Hashing;
 use keep_change::Planned;
 use keep_ledger::{Refusal, Request};
+use keep_names::BlobId;
 use keep_shelf::Shelf;
 use keep_view::View;
 
@@ -32,6 +34,12 @@ pub trait Keeps: Drop {
     fn view(&self) -> View<'_>
         ensures { result ≡ shown_by (ledger self.now) };
 
+    /// Hands in these blobs where an index lists them, to be hashed by this. What was hashed is remembered.
+    fn hash_blobs<H: Hashing>(&mut self, blobs: &[BlobId], hashing: &mut H)
+        requires { AreSums (ledger self.old).events (hooks self.old).watches (tallies self.old) }
+        ensures ledger { ledger self.new ≡ ledger self.old }
+        ensures sums { AreSums (ledger self.new).events (hooks self.new).watches (tallies self.new) };
+
     /// Commits a change, or refuses it.
     fn commit(&mut self, planned: Planned) -> Result<Made, Refusal>
         requires { AreSums (ledger self.old).events (hooks self.old).watches (tallies self.old) }
@@ -52,6 +60,10 @@ impl<S: Shelf> Keeps for Book<S> {
 
     fn view(&self) -> View<'_> {
         self.ledger().view()
+    }
+
+    fn hash_blobs<H: Hashing>(&mut self, blobs: &[BlobId], hashing: &mut H) {
+        Book::hash_blobs(self, blobs, hashing);
     }
 
     fn commit(&mut self, planned: Planned) -> Result<Made, Refusal> {

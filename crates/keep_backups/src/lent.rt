@@ -6,6 +6,7 @@ use crate::begun::Begun;
 use crate::keeps::Keeps;
 use crate::not_backed_up::NotBackedUp;
 use keep_archive::Archive;
+use keep_catalog::Hashing;
 use keep_change::Planned;
 use keep_plan::PlanError;
 use keep_sources::Stop;
@@ -19,8 +20,9 @@ pub(crate) struct Given<'b, K: Keeps> {
 
 /// The book while a backup goes on: parts were committed since it began, and nothing else.
 #[derive(Drop)]
-pub(crate) struct Lent<'b, B: Begun, K: Keeps> {
+pub(crate) struct Lent<'b, B: Begun, K: Keeps, H> {
     pub(crate) book: &'b mut K,
+    pub(crate) hashing: H,
     /// Why no more is taken, if it isn't memory that ran out.
     pub(crate) refusal: Option<NotBackedUp>,
     pub(crate) of: PhantomData<B>,
@@ -30,7 +32,7 @@ pub(crate) struct Lent<'b, B: Begun, K: Keeps> {
     pub ghost cause: { ∥ IsCauseIfAny (K.ledger book.now) refusal ∥₁ },
 }
 
-impl<'b, B: Begun, K: Keeps> Lent<'b, B, K> {
+impl<'b, B: Begun, K: Keeps, H: Hashing + Copy> Lent<'b, B, K, H> {
     ghost use Rattle.std.specs.Prelude.{IfErr, IfOk, IfSome, None, OnOk};
     ghost use Rattle.keep_acts.specs.Shown.{shown_by};
     ghost use Rattle.keep_archive.specs.Archive.{archive_view};
@@ -77,7 +79,8 @@ impl<'b, B: Begun, K: Keeps> Lent<'b, B, K> {
         ensures cause { IfErr result (λ cause. ∥ IsCause (K.ledger self.now.book.now) cause ∥₁) }
     {
         let view = self.book.view();
-        let part = archive.plan_part(alloc, &view)?;
+        let mut hashing = self.hashing;
+        let part = archive.plan_part(alloc, &view, &mut hashing)?;
         Ok(part)
     }
 

@@ -7,6 +7,7 @@ use keep_catalog::Hashing;
 use keep_change::Planned;
 use keep_hooks::{ArmedWatch, Veto, Watch};
 use keep_ledger::{Ledger, NotOpened, Refusal, Request, Told};
+use keep_names::BlobId;
 use keep_shelf::Shelf;
 use std::alloc::{AllocError, Global};
 
@@ -69,6 +70,14 @@ impl<S: Shelf> Book<S> {
         ensures { IsUnchanged self.old self.new }
     {
         self.ledger.hash_all(hashing);
+    }
+
+    /// `Ledger::hash_blobs`.
+    pub fn hash_blobs<H: Hashing>(&mut self, blobs: &[BlobId], hashing: &mut H)
+        requires { HasSums self.old }
+        ensures { IsUnchanged self.old self.new }
+    {
+        self.ledger.hash_blobs(blobs, hashing);
     }
 
     /// Whether a veto or a watch of this name is armed. No two of them have one name.

@@ -17,38 +17,27 @@ const MOST_PIECES: usize = 4096;
 /// Of several pieces that are hashed together, so many bytes at most: 16 MiB.
 const MOST_BYTES: u64 = 16_777_216;
 
-/// Hashes each place that wasn't hashed before. Where memory runs out, some are.
+/// Hashes these places. Where memory runs out, some are.
 pub(crate) fn hash_places<H: Hashing>(
     alloc: Global,
     repo: &Repo,
     stored: &mut Stored,
     hashing: &mut H,
+    places: &[PackedBlob],
 ) -> Result<(), AllocError>
     requires stored { IsStoredIn repo.now stored.old }
     requires hashed { IsHashedIn repo.now stored.old }
     ensures stored { IsStoredIn repo.now stored.new }
     ensures hashed { IsHashedIn repo.now stored.new }
 {
-    let places = unhashed(alloc, stored)?;
-    hashing.begin(size_of_places(&places));
-    let mut rest = places.as_slice();
+    hashing.begin(size_of_places(places));
+    let mut rest = places;
     while !rest.is_empty() {
         let (batch, later) = rest.split_at(batch_len(rest));
         hash_batch(alloc, repo, stored, hashing, batch)?;
         rest = later;
     }
     Ok(())
-}
-
-/// The places that weren't hashed before, in their order.
-fn unhashed(alloc: Global, stored: &Stored) -> Result<Vec<PackedBlob>, AllocError> {
-    let mut places = Vec::new(alloc);
-    for (place, is_honest) in stored {
-        if is_honest.is_none() {
-            places.push(*place)?;
-        }
-    }
-    Ok(places)
 }
 
 /// The bytes of these places together.

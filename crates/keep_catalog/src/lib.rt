@@ -17,6 +17,7 @@ mod reach_error;
 mod spot;
 mod stored;
 mod tables;
+mod unhashed;
 mod unread;
 mod usable_listings;
 mod wrong;

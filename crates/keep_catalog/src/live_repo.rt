@@ -13,7 +13,9 @@ use crate::catalog::Catalog;
 use crate::catalog_error::CatalogError;
 use crate::hashing::Hashing;
 use crate::tables::Tables;
+use crate::unhashed::{unhashed, unhashed_of};
 use keep_change::{Change, StoredFile, Turn};
+use keep_names::BlobId;
 use keep_repo::Repo;
 use std::alloc::{AllocError, Global};
 use std::marker::Model;
@@ -83,7 +85,20 @@ impl LiveRepo {
         ensures { self.new ≡ self.old }
     {
         if let Some(tables) = &mut self.tables {
-            let _ = hash_places(self.alloc, &self.repo, &mut tables.stored, hashing);
+            if let Ok(places) = unhashed(self.alloc, &tables.stored) {
+                let _ = hash_places(self.alloc, &self.repo, &mut tables.stored, hashing, &places);
+            }
+        }
+    }
+
+    /// Hands in these blobs alone, as `hash_all` does all: each where an index lists it and it wasn't hashed before.
+    pub fn hash_blobs<H: Hashing>(&mut self, blobs: &[BlobId], hashing: &mut H)
+        ensures { self.new ≡ self.old }
+    {
+        if let Some(tables) = &mut self.tables {
+            if let Ok(places) = unhashed_of(self.alloc, tables, blobs) {
+                let _ = hash_places(self.alloc, &self.repo, &mut tables.stored, hashing, &places);
+            }
         }
     }
 

@@ -20,6 +20,7 @@ use keep_catalog::{Hashing, LiveRepo};
 use keep_hooks::Guard;
 use keep_journal::{History, Request, Told};
 use keep_moves::{Move, settle};
+use keep_names::BlobId;
 use keep_opening::OpenError;
 use keep_repo::Repo;
 use keep_shelf::{Fault, Shelf};
@@ -137,6 +138,13 @@ impl<S: Shelf> Ledger<S> {
         ensures { self.new ≡ self.old }
     {
         self.live.hash_all(hashing);
+    }
+
+    /// Hands in these blobs alone, as `hash_all` does all: each where an index lists it and it wasn't hashed before.
+    pub fn hash_blobs<H: Hashing>(&mut self, blobs: &[BlobId], hashing: &mut H)
+        ensures { self.new ≡ self.old }
+    {
+        self.live.hash_blobs(blobs, hashing);
     }
 
     /// The live repository, the snapshots that it knows, and the number of the last event. It

@@ -12,7 +12,7 @@ use Rattle.keep_archive.proofs.Reading.{last_is, last_planned, none_of}
 use Rattle.keep_archive.proofs.archive_plans.last.Goals as goal
 
 pub returns : goal.returns
-returns c =
+returns g c =
     let r = c.args.view.now.repo in
     let facts = facts_view c.args.facts.now in
     let tags = map string_bytes c.args.tags.now in

@@ -7,13 +7,13 @@ use Rattle.keep_archive.proofs.Reading.{when_read}
 use Rattle.keep_archive.proofs.part_storing.store_held.Goals as goal
 
 pub finish-requires : goal.finish-requires
-finish-requires c =
+finish-requires g c =
     let r = c.args.view.now.repo in
     let At : Repository → Type 0 = λ x. Keeps x [] [] c.new-storing.result in
     rw c.repo.ensures ([], map held_view c.args.held.now, c.in_ok-take_all.ensures r [] [] (subst At c.in_ok-catalog.ensures.catalog c.new-storing.ensures))
 
 pub returns : goal.returns
-returns c =
+returns g c =
     let r = c.args.view.now.repo in
     let At : Repository → Type 0 = λ x. Keeps x [] [] c.new-storing.result in
     let kept = c.in_ok-take_all.ensures r [] [] (subst At c.in_ok-catalog.ensures.catalog c.new-storing.ensures) in

@@ -13,7 +13,7 @@ use Rattle.keep_archive.proofs.Reading.{last_made, none_of}
 use Rattle.keep_archive.proofs.part_storing.store_last.Goals as goal
 
 pub finish-requires : goal.finish-requires
-finish-requires c =
+finish-requires g c =
     let r = c.args.view.now.repo in
     let At : Repository → Type 0 = λ x. Keeps x [] [] c.new-storing.result in
     let new = subst At c.in_ok-catalog.ensures.catalog c.new-storing.ensures in
@@ -22,7 +22,7 @@ finish-requires c =
     rw c.repo.ensures (c.deref.result.now, map held_view c.deref-2.result.now ++ (Tree, c.in_ok-text.text.items) ∷ [], c.in_ok-tree.ensures.kept r c.deref.result.now (map held_view c.deref-2.result.now) taken)
 
 pub returns : goal.returns
-returns c =
+returns g c =
     let r = c.args.view.now.repo in
     let At : Repository → Type 0 = λ x. Keeps x [] [] c.new-storing.result in
     let new = subst At c.in_ok-catalog.ensures.catalog c.new-storing.ensures in
