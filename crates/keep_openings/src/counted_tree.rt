@@ -5,11 +5,11 @@ use keep_repo::Bytes;
 
 /// The files below a folder of the machine, which are counted as they are read.
 #[derive(Drop)]
-pub struct CountedTree<'f, 'a> {
-    pub(crate) tree: DiskTree<&'f CountedFiles<'a>>,
+pub struct CountedTree<'a> {
+    pub(crate) tree: DiskTree<CountedFiles<'a>>,
 }
 
-impl FileTree for CountedTree<'_, '_> {
+impl FileTree for CountedTree<'_> {
     ghost use Rattle.keep_memory_files.specs.Memory.{seen_in};
 
     ghost seen = { λ counted. seen_in counted.tree.image };

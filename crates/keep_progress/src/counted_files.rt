@@ -1,23 +1,24 @@
 use crate::meter::Meter;
-use std::alloc::{Allocator, Global};
+use std::alloc::{AllocError, Allocator, Global};
 use std::cell::RefCell;
 use std::fs::{File, Files, Metadata, OpenOptions};
 use std::io;
+use std::rc::Rc;
 
-/// The files of the machine that the program runs on, of which those that are opened are counted while a count goes.
+/// The files of the machine that the program runs on, of which those that are opened are counted while a count goes. All
+/// clones have one count.
+#[derive(Clone, Drop)]
 pub struct CountedFiles<'a> {
     rt: &'a HostRuntime,
     /// None where no count goes.
-    meter: RefCell<Option<Meter<'a>>>,
+    meter: Rc<RefCell<Option<Meter<'a>>>>,
 }
 
 impl<'a> CountedFiles<'a> {
     /// No count goes yet.
-    pub fn new(rt: &'a HostRuntime) -> CountedFiles<'a> {
-        CountedFiles {
-            rt,
-            meter: RefCell::new(None),
-        }
+    pub fn new(rt: &'a HostRuntime) -> Result<CountedFiles<'a>, AllocError> {
+        let meter = Rc::new(rt.alloc(), RefCell::new(None))?;
+        Ok(CountedFiles { rt, meter })
     }
 
     /// Counts from nothing, for work that goes by this verb.
@@ -44,12 +45,6 @@ impl<'a> CountedFiles<'a> {
                 }
             }
         }
-    }
-}
-
-impl Drop for CountedFiles<'_> {
-    fn drop(self) {
-        let CountedFiles { rt: _, meter: _ } = self;
     }
 }
 

@@ -1,8 +1,10 @@
 use crate::answer::answer;
 use keep_book::Book;
+use keep_catalog::Hashing;
 use keep_disk::FolderError;
-use keep_folder::{FolderShelf, HostTree, open_folder};
-use keep_openings::{Unopened, copied, refusal_of};
+use keep_folder::FolderShelf;
+use keep_openings::{CountedTree, Unopened, copied, open_counted, refusal_of};
+use keep_progress::CountedFiles;
 use keep_run::{Failure, Run};
 use keep_shelf::Shelf;
 use keep_words::Command;
@@ -13,16 +15,21 @@ use std::time::Duration;
 const TRIES: u64 = 10;
 
 /// Does what the command says over the repository's folder. One that only looks works on what stands there, taken into
-/// memory, and lets the folder go first.
-pub(crate) fn over_folder(run: &Run<'_>, command: &Command<'_>) -> Result<(), Failure> {
-    let mut shelf = open(run)?;
+/// memory, and lets the folder go first. How far the opening is is said until there is a book.
+pub(crate) fn over_folder<H: Hashing + Copy>(
+    run: &Run<'_>,
+    hashing: H,
+    command: &Command<'_>,
+) -> Result<(), Failure> {
+    let files = CountedFiles::new(run.rt)?;
+    let mut shelf = open(run, &files)?;
     if !only_looks(command) {
-        return over_shelf(run, shelf, command);
+        return over_shelf(run, hashing, &files, shelf, command);
     }
     let copy = copied(run.alloc, &mut shelf);
     drop(shelf);
     match copy {
-        Ok(copy) => over_shelf(run, copy, command),
+        Ok(copy) => over_shelf(run, hashing, &files, copy, command),
         Err(error) => Err(unopened(run, &Unopened::Unread(error))),
     }
 }
@@ -41,24 +48,35 @@ fn only_looks(command: &Command<'_>) -> bool {
     }
 }
 
-/// Does what the command says over the book of what stands on the shelf.
-fn over_shelf<S: Shelf>(run: &Run<'_>, shelf: S, command: &Command<'_>) -> Result<(), Failure> {
-    match Book::open(run.alloc, shelf) {
-        Ok(mut book) => answer(run, &mut book, command),
+/// Does what the command says over the book of what stands on the shelf. No file is counted from then on.
+fn over_shelf<S: Shelf, H: Hashing + Copy>(
+    run: &Run<'_>,
+    hashing: H,
+    files: &CountedFiles<'_>,
+    shelf: S,
+    command: &Command<'_>,
+) -> Result<(), Failure> {
+    let opened = Book::open(run.alloc, shelf);
+    files.end();
+    match opened {
+        Ok(mut book) => answer(run, hashing, &mut book, command),
         Err(given) => Err(unopened(run, &refusal_of(run.alloc, given))),
     }
 }
 
 /// The shelf of the repository's folder. While another run has it, this one waits.
-fn open<'a>(run: &Run<'a>) -> Result<FolderShelf<HostTree<'a>>, Failure> {
+fn open<'a>(
+    run: &Run<'_>,
+    files: &CountedFiles<'a>,
+) -> Result<FolderShelf<CountedTree<'a>>, Failure> {
     for _ in 0..run.wait.saturating_mul(TRIES) {
-        match open_folder(run.rt, run.folder) {
+        match open_counted(run.rt, files, run.folder) {
             Err(FolderError::Locked) => thread::sleep(run.rt, Duration::from_millis(1000 / TRIES)),
             Err(error) => return Err(unopened(run, &Unopened::Folder(error))),
             Ok(shelf) => return Ok(shelf),
         }
     }
-    match open_folder(run.rt, run.folder) {
+    match open_counted(run.rt, files, run.folder) {
         Ok(shelf) => Ok(shelf),
         Err(error) => Err(unopened(run, &Unopened::Folder(error))),
     }
