@@ -6,6 +6,7 @@ use keep_acts::PlanAdvice;
 use keep_backup::BackupFacts;
 use keep_backups::{BackedUp, NotBackedUp, Wish, back_up};
 use keep_book::Book;
+use keep_catalog::Hashing;
 use keep_host_source::{HostSource, host_name, user_name};
 use keep_ledger::Refusal;
 use keep_plan::PlanError;
@@ -19,9 +20,10 @@ use serde_json::json;
 use std::collections::BTreeMap;
 use std::io;
 
-/// `keep backup`. Where it is tried alone, the book is one over a copy in memory.
-pub fn backup<S: Shelf>(
+/// `keep backup`. Where it is tried alone, the book is one over a copy in memory. This hashes what can be hashed together.
+pub fn backup<S: Shelf, H: Hashing + Copy>(
     run: &Run<'_>,
+    hashing: H,
     book: &mut Book<S>,
     words: &Backup<'_>,
 ) -> Result<(), Failure>
@@ -29,10 +31,11 @@ pub fn backup<S: Shelf>(
 {
     let facts = facts_of(run, words)?;
     let known = unchanged(run, book, &facts)?;
-    match taken(run, book, words, &facts, known)? {
+    match taken(run, hashing, book, words, &facts, known)? {
         // A file that was known lacks a piece by now: all are read.
         Err(NotBackedUp::Unplanned(PlanError::Reach(_))) => {
-            let came = taken(run, book, words, &facts, BTreeMap::new(run.alloc))?;
+            let none = BTreeMap::new(run.alloc);
+            let came = taken(run, hashing, book, words, &facts, none)?;
             tell(run, came, words.dry_run)
         }
         came => tell(run, came, words.dry_run),
@@ -40,8 +43,9 @@ pub fn backup<S: Shelf>(
 }
 
 /// Takes in what the words name. Files that are known and unchanged aren't read.
-fn taken<S: Shelf>(
+fn taken<S: Shelf, H: Hashing + Copy>(
     run: &Run<'_>,
+    hashing: H,
     book: &mut Book<S>,
     words: &Backup<'_>,
     facts: &BackupFacts,
@@ -60,7 +64,7 @@ fn taken<S: Shelf>(
         tags: tags.as_slice(),
         cut: run.settings().cut,
     };
-    let came = back_up(run.alloc, book, source, &wish);
+    let came = back_up(run.alloc, book, source, hashing, &wish);
     require_told(run, book)?;
     Ok(came)
 }

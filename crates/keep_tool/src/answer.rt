@@ -1,8 +1,10 @@
 ghost use Rattle.keep_book.specs.Armed.{HasSums};
 
+use crate::hashing::CountedHashing;
 use crate::looking::look;
 use crate::yes_or_no::agrees;
 use keep_book::Book;
+use keep_catalog::Hashing;
 use keep_deeds::{Came, NoDeed, deed_of, perform};
 use keep_journal::History;
 use keep_names::Id;
@@ -12,8 +14,9 @@ use keep_shelf::Shelf;
 use keep_words::Command;
 
 /// Does what the command asks of the book, and prints what came of it; or prints what is asked for.
-pub(crate) fn answer<S: Shelf>(
+pub(crate) fn answer<S: Shelf, H: Hashing + Copy>(
     run: &Run<'_>,
+    hashing: H,
     book: &mut Book<S>,
     command: &Command<'_>,
 ) -> Result<(), Failure>
@@ -21,9 +24,10 @@ pub(crate) fn answer<S: Shelf>(
 {
     let named = named(run, book, command)?;
     match deed_of(run.alloc, command, named) {
-        Ok(None) => look(run, book, command),
+        Ok(None) => look(run, hashing, book, command),
         Ok(Some(deed)) => {
             confirm(run, book, command)?;
+            hash_first(run, hashing, book, command);
             let came = perform(run.alloc, book, run.settings(), deed);
             require_told(run, book)?;
             tell_came(run, book.ledger().history(), command, came)
@@ -45,6 +49,21 @@ fn named<S: Shelf>(
     match words.snapshot {
         Some(text) => Ok(Some(meant(run, book, text)?)),
         None => Ok(None),
+    }
+}
+
+/// Has all blobs hashed at once where the command asks of nearly each whether its bytes are its own, which is remembered.
+fn hash_first<S: Shelf, H: Hashing + Copy>(
+    run: &Run<'_>,
+    hashing: H,
+    book: &mut Book<S>,
+    command: &Command<'_>,
+)
+    requires { HasSums book.old }
+    ensures { HasSums book.new }
+{
+    if let Command::Mark | Command::Prune { .. } = command {
+        book.hash_all(&mut CountedHashing::new(run.rt, hashing, "mark"));
     }
 }
 

@@ -1,5 +1,6 @@
 use crate::folder_opening::over_folder;
 use crate::script::script;
+use keep_catalog::Hashing;
 use keep_disk::{Cause, FolderError};
 use keep_folder::{BeginError, begin};
 use keep_looks::MachineZone;
@@ -13,8 +14,8 @@ use std::env::{self, VarError};
 use std::io::ErrorKind;
 use std::time::Clock;
 
-/// Does what the words of the process say.
-pub(crate) fn keep(rt: &HostRuntime) -> Result<(), Failure> {
+/// Does what the words of the process say. Blobs are hashed by this where many are.
+pub(crate) fn keep<H: Hashing + Copy>(rt: &HostRuntime, hashing: H) -> Result<(), Failure> {
     let alloc = rt.alloc();
     let words: Vec<String> = match env::args(rt) {
         Ok(words) => words.collect(alloc)?,
@@ -23,7 +24,7 @@ pub(crate) fn keep(rt: &HostRuntime) -> Result<(), Failure> {
     };
     let words: Vec<&str> = words.iter().map(|word| word.as_str()).collect(alloc)?;
     match read_words(alloc, words.as_slice()) {
-        Ok(words) => run_words(rt, words),
+        Ok(words) => run_words(rt, hashing, words),
         Err(error) => {
             if error.print(rt).is_err() {
                 return Err(Failure::Unwritten);
@@ -38,7 +39,11 @@ pub(crate) fn keep(rt: &HostRuntime) -> Result<(), Failure> {
 }
 
 /// Does what these words say.
-fn run_words(rt: &HostRuntime, words: Words<'_>) -> Result<(), Failure> {
+fn run_words<H: Hashing + Copy>(
+    rt: &HostRuntime,
+    hashing: H,
+    words: Words<'_>,
+) -> Result<(), Failure> {
     let Words {
         repo,
         json,
@@ -47,14 +52,15 @@ fn run_words(rt: &HostRuntime, words: Words<'_>) -> Result<(), Failure> {
     } = words;
     match command {
         Command::Init { folder } => begin_at(rt, folder, json),
-        command => run_command(rt, repo, json, wait, command),
+        command => run_command(rt, hashing, repo, json, wait, command),
     }
 }
 
 /// Does what the command says, over the repository that the words name, or the variable `KEEP_REPOSITORY`. A rescue names
 /// its own.
-fn run_command(
+fn run_command<H: Hashing + Copy>(
     rt: &HostRuntime,
+    hashing: H,
     repo: Option<&str>,
     is_json: bool,
     wait: u64,
@@ -78,7 +84,7 @@ fn run_command(
     match &command {
         Command::Script { file } => script(&run, *file),
         Command::Rescue { target, .. } => rescue_folder(&run, target),
-        command => over_folder(&run, command),
+        command => over_folder(&run, hashing, command),
     }
 }
 

@@ -1,29 +1,36 @@
-use keep_catalog::{Hashing, OneByOne};
+use keep_catalog::Hashing;
 use keep_names::Id;
 use keep_progress::Meter;
 use std::alloc::{AllocError, Global};
 
-/// Hashes one blob after another, and says how far it is.
+/// Hashes as another does, and says how far it is.
 #[derive(Drop)]
-pub(crate) struct CountedHashing<'a> {
+pub(crate) struct CountedHashing<'a, H> {
+    hashing: H,
     meter: Meter<'a>,
 }
 
-impl<'a> CountedHashing<'a> {
-    pub(crate) fn new(rt: &'a HostRuntime) -> CountedHashing<'a> {
+impl<'a, H: Hashing> CountedHashing<'a, H> {
+    /// For work that goes by this verb.
+    pub(crate) fn new(
+        rt: &'a HostRuntime,
+        hashing: H,
+        verb: &'static str,
+    ) -> CountedHashing<'a, H> {
         CountedHashing {
-            meter: Meter::new(rt, "check", "blobs"),
+            hashing,
+            meter: Meter::new(rt, verb, "blobs"),
         }
     }
 }
 
-impl Hashing for CountedHashing<'_> {
+impl<H: Hashing> Hashing for CountedHashing<'_, H> {
     fn begin(&mut self, bytes: u64) {
         self.meter.expect(bytes);
     }
 
     fn ids(&mut self, alloc: Global, pieces: &[&[u8]]) -> Result<Vec<Id>, AllocError> {
-        let ids = OneByOne.ids(alloc, pieces)?;
+        let ids = self.hashing.ids(alloc, pieces)?;
         for piece in pieces {
             self.meter.count_item();
             self.meter.count_bytes(piece.len());

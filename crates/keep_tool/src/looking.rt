@@ -3,6 +3,7 @@ ghost use Rattle.keep_book.specs.Armed.{HasSums};
 use crate::hashing::CountedHashing;
 use keep_backing::backup;
 use keep_book::Book;
+use keep_catalog::Hashing;
 use keep_outcomes::show;
 use keep_restoring::{dump_file, restore_snapshot};
 use keep_run::{Failure, Run};
@@ -11,19 +12,20 @@ use keep_showing::{check, compare, find, graph, history, list_nodes, list_snapsh
 use keep_words::Command;
 
 /// Prints what the command asks for.
-pub(crate) fn look<S: Shelf>(
+pub(crate) fn look<S: Shelf, H: Hashing + Copy>(
     run: &Run<'_>,
+    hashing: H,
     book: &mut Book<S>,
     command: &Command<'_>,
 ) -> Result<(), Failure>
     requires { HasSums book.old }
 {
     match command {
-        Command::Check { .. } => check(run, book, CountedHashing::new(run.rt)),
+        Command::Check { .. } => check(run, book, CountedHashing::new(run.rt, hashing, "check")),
         Command::History { last } => history(run, book, *last),
         Command::Show { change } => show(run, book, *change),
         Command::Graph { change, dot } => graph(run, book, *change, *dot),
-        Command::Backup(words) => backup(run, book, words),
+        Command::Backup(words) => backup(run, hashing, book, words),
         Command::Restore(words) => restore_snapshot(run, book, words),
         Command::Dump { snapshot, path } => dump_file(run, book, snapshot, path),
         Command::Snapshots { chosen, latest } => list_snapshots(run, book, chosen, *latest),

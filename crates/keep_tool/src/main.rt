@@ -6,10 +6,12 @@ mod dispatch;
 mod folder_opening;
 mod hashing;
 mod looking;
+mod processors;
 mod script;
 mod yes_or_no;
 
 use crate::dispatch::keep;
+use crate::processors::Processors;
 use keep_run::tell;
 use keep_streams::fill_streams;
 use std::process::ExitCode;
@@ -18,7 +20,7 @@ fn main(rt: HostRuntime) -> ExitCode {
     if fill_streams(&rt).is_err() {
         return ExitCode::from(1);
     }
-    match keep(&rt) {
+    match keep(&rt, Processors::of(&rt)) {
         Ok(()) => ExitCode::SUCCESS,
         Err(failure) => ExitCode::from(tell(&rt, failure)),
     }
