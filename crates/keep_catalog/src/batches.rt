@@ -4,9 +4,9 @@ ghost use Rattle.keep_catalog.specs.Kept.{HaveIds, IsHashedIn, IsStoredIn};
 ghost use Rattle.keep_catalog.specs.Places as spec;
 
 use crate::bytes_there::bytes_at;
-use crate::hashing::Hashing;
 use crate::spot::PackedBlob;
 use crate::stored::Stored;
+use keep_hashing::Hashing;
 use keep_names::Id;
 use keep_repo::Repo;
 use std::alloc::{AllocError, Global};

@@ -6,7 +6,6 @@ mod bytes_there;
 mod catalog;
 mod catalog_error;
 mod file_reading;
-mod hashing;
 mod headers;
 mod listed;
 mod listings;
@@ -24,7 +23,7 @@ mod wrong;
 
 pub use catalog::Catalog;
 pub use catalog_error::CatalogError;
-pub use hashing::{Hashing, OneByOne};
+pub use keep_hashing::{Hashing, OneByOne};
 pub use live_repo::LiveRepo;
 pub use named_blobs::Named;
 pub use place_laws::{

@@ -11,10 +11,10 @@ ghost use Rattle.keep_catalog.specs.declared.catalog_error.CatalogError.TheVaria
 use crate::batches::hash_places;
 use crate::catalog::Catalog;
 use crate::catalog_error::CatalogError;
-use crate::hashing::Hashing;
 use crate::tables::Tables;
 use crate::unhashed::{unhashed, unhashed_of};
 use keep_change::{Change, StoredFile, Turn};
+use keep_hashing::Hashing;
 use keep_names::BlobId;
 use keep_repo::Repo;
 use std::alloc::{AllocError, Global};
