@@ -48,11 +48,19 @@ impl StoredFile {
         ensures { IfOk result (λ file. file ≡ file_of kind bytes.items) }
     {
         let bytes = Bytes::new(alloc, bytes)?;
-        Ok(StoredFile {
-            name: FileName { kind, id },
+        Ok(StoredFile::named(FileName { kind, id }, bytes))
+    }
+
+    /// The file of these bytes, which are shared, under the name that their SHA-256 gives it.
+    pub fn named(name: FileName, bytes: Bytes) -> StoredFile
+        requires { name.id.0 ≡ sha256 bytes }
+        ensures { result ≡ record { name = name; bytes = bytes } }
+    {
+        StoredFile {
+            name,
             bytes,
             is_own: true,
-        })
+        }
     }
 
     /// The file of these bytes under any name, be it theirs or not.
