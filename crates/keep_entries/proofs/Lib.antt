@@ -1,5 +1,6 @@
 pub mod Appended
 pub mod Exact
+pub mod HeldFiles
 pub mod HexBytes
 pub mod OpenHistories
 pub mod PutGroups

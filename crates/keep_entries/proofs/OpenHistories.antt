@@ -117,7 +117,7 @@ kind_whole Undo = refl
 kind_whole Redo = refl
 kind_whole (Empty marks) = ap Empty (map-id marks)
 
-text_spells : (event : Event) → Spells (entry_text event) event
+pub text_spells : (event : Event) → Spells (entry_text event) event
 text_spells event = (Moments, refl, ap (λ (kind : EventKind). record event { kind = kind }) (kind_whole event.kind))
 
 pub events_are_entries : EventsOfOpenHistoriesAreEntries

@@ -1,4 +1,4 @@
-ghost use Rattle.std.specs.Prelude.{◌≡◌, ◌++◌, codes, decimal, map, OnOk};
+ghost use Rattle.std.specs.Prelude.{◌≡◌, ◌≤◌, ◌++◌, codes, decimal, length, map, OnOk};
 ghost use Rattle.std.specs.List.{AllByRecursion};
 ghost use Rattle.hex.specs.Hex.{encode_lower};
 ghost use Rattle.json.specs.Print.{escape};
@@ -13,7 +13,10 @@ ghost use Rattle.keep_entries.specs.declared.form.Form.TheVariants.{Moments};
 
 use keep_change::{PackMark, StoredFile};
 use keep_names::{FileName, Id, Kind};
-use std::alloc::{AllocError, Global};
+use std::alloc::AllocError;
+
+/// So many bytes are written in hex at a time.
+const PIECE: usize = 2048;
 
 /// Writes the names that a list holds, without its brackets.
 pub(crate) fn put_names(out: &mut Vec<u8>, names: &[FileName]) -> Result<(), AllocError>
@@ -30,18 +33,14 @@ pub(crate) fn put_names(out: &mut Vec<u8>, names: &[FileName]) -> Result<(), All
 }
 
 /// Writes the files that a list holds, without its brackets.
-pub(crate) fn put_files(
-    alloc: Global,
-    out: &mut Vec<u8>,
-    files: &[StoredFile],
-) -> Result<(), AllocError>
+pub(crate) fn put_files(out: &mut Vec<u8>, files: &[StoredFile]) -> Result<(), AllocError>
     ensures text { OnOk result (out.new.items ++ codes "]" ≡ out.old.items ++ list_text (map file_data files.now)) }
     ensures fit { OnOk result (AllByRecursion FitsFile files.now) }
 {
     let mut later = false;
     for file in files {
         put_comma(out, later)?;
-        put_file(alloc, out, file)?;
+        put_file(out, file)?;
         later = true;
     }
     Ok(())
@@ -123,13 +122,13 @@ fn opening_of(kind: Kind) -> &'static [u8]
 }
 
 /// Writes a file: its bytes in hex, and its name.
-fn put_file(alloc: Global, out: &mut Vec<u8>, file: &StoredFile) -> Result<(), AllocError>
+fn put_file(out: &mut Vec<u8>, file: &StoredFile) -> Result<(), AllocError>
     ensures text { OnOk result (out.new.items ≡ out.old.items ++ compact_text (file_data file.now)) }
     ensures fit { OnOk result (FitsFile file.now) }
 {
     let bytes = file.bytes().as_slice();
     put(out, b"{\"bytes\":\"")?;
-    put_hex(alloc, out, bytes)?;
+    put_hex(out, bytes)?;
     put(out, b"\",\"file\":")?;
     put_name(out, file.name())?;
     put(out, b"}")
@@ -168,9 +167,22 @@ fn put_digits(out: &mut Vec<u8>, id: Id) -> Result<(), AllocError>
 }
 
 /// Writes bytes in hex, which stands between quotes as it is.
-fn put_hex(alloc: Global, out: &mut Vec<u8>, bytes: &[u8]) -> Result<(), AllocError>
+fn put_hex(out: &mut Vec<u8>, bytes: &[u8]) -> Result<(), AllocError>
     ensures { OnOk result (out.new.items ≡ out.old.items ++ escape (encode_lower bytes.now)) }
 {
-    let digits = hex::encode(alloc, bytes)?;
-    put(out, digits.as_bytes())
+    for piece in bytes.chunks(PIECE) {
+        put_piece(out, piece)?;
+    }
+    Ok(())
+}
+
+/// Writes a piece of bytes in hex.
+fn put_piece(out: &mut Vec<u8>, piece: &[u8]) -> Result<(), AllocError>
+    requires { length piece.now ≤ 2048 }
+    ensures { OnOk result (out.new.items ≡ out.old.items ++ encode_lower piece.now) }
+{
+    let mut buffer = [0u8; 2 * PIECE];
+    let digits = &mut buffer[..2 * piece.len()];
+    hex::encode_to_slice(piece, digits).unwrap();
+    put(out, digits)
 }

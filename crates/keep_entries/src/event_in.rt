@@ -113,7 +113,7 @@ fn empty_in(alloc: Global, form: Form, value: &Value) -> Result<EventKind, Misre
 }
 
 /// The change that a commit of the form says.
-fn change_in(alloc: Global, form: Form, value: &Value) -> Result<Change, Misread>
+pub(crate) fn change_in(alloc: Global, form: Form, value: &Value) -> Result<Change, Misread>
     ensures { Answers Memory (λ change. change)
         (ok_or (spec.change_in form (view value.now)) OtherShape) result }
 {

@@ -7,31 +7,65 @@ ghost use Rattle.keep_entries.specs.declared.form.Form.TheVariants.{Moments};
 
 use crate::entry_values::{put, put_marks, put_number};
 use crate::object_text::{put_first, put_last, put_middle};
-use keep_change::{Change, PackMark};
+use keep_change::{Change, PackMark, StoredFile};
 use keep_journal::{Event, EventKind};
 use std::alloc::{AllocError, Global};
 
-/// Room for the text of an event that changes little.
-const ROOM: usize = 512;
+/// Room for what stands around an event's lists.
+const ROOM: usize = 256;
+
+/// Room for an item of a list, and for what stands around the hex of a file.
+const ROOM_OF_ITEM: usize = 128;
 
 /// The text of an event.
 pub(crate) fn event_text(alloc: Global, event: &Event) -> Result<Vec<u8>, AllocError>
     ensures text { IfOk result (λ bytes. bytes.items ≡ entry_text event.now) }
     ensures fits { IfOk result (λ _. Fits event.now) }
 {
-    let mut bytes = Vec::with_capacity(alloc, ROOM)?;
-    put_event(alloc, &mut bytes, event)?;
+    let mut bytes = Vec::with_capacity(alloc, room_for(event))?;
+    put_event(&mut bytes, event)?;
     Ok(bytes)
 }
 
+/// Room for an event's text, so that it is made in one place.
+fn room_for(event: &Event) -> usize {
+    match &event.kind {
+        EventKind::Commit(change) => room_for_change(change.as_change()),
+        EventKind::Undo | EventKind::Redo => ROOM,
+        EventKind::Empty(marks) => room_for_items(marks.as_slice().len()),
+    }
+}
+
+/// Room for a commit's text.
+fn room_for_change(change: &Change) -> usize {
+    room_for_items(change.facet_count())
+        .saturating_add(room_for_hex(change.adds.as_slice()))
+        .saturating_add(room_for_hex(change.drops.as_slice()))
+}
+
+/// Room for lists of so many items together.
+fn room_for_items(count: usize) -> usize {
+    count.saturating_mul(ROOM_OF_ITEM).saturating_add(ROOM)
+}
+
+/// Room for the hex of these files, two digits for a byte.
+fn room_for_hex(files: &[StoredFile]) -> usize {
+    let mut room: usize = 0;
+    for file in files {
+        let digits = file.bytes().as_slice().len().saturating_mul(2);
+        room = room.saturating_add(digits);
+    }
+    room
+}
+
 /// Writes an event.
-fn put_event(alloc: Global, out: &mut Vec<u8>, event: &Event) -> Result<(), AllocError>
+fn put_event(out: &mut Vec<u8>, event: &Event) -> Result<(), AllocError>
     ensures text { OnOk result (out.new.items ≡ out.old.items ++ compact_text (event_data Moments event.now)) }
     ensures fits { OnOk result (Fits event.now) }
 {
     let number = event.number;
     match &event.kind {
-        EventKind::Commit(change) => put_commit(alloc, out, number, change.as_change()),
+        EventKind::Commit(change) => put_commit(out, number, change.as_change()),
         EventKind::Undo => put_turn(out, b"{\"event\":\"undo\",\"form\":2,\"number\":", number),
         EventKind::Redo => put_turn(out, b"{\"event\":\"redo\",\"form\":2,\"number\":", number),
         EventKind::Empty(marks) => put_empty(out, number, marks.as_slice()),
@@ -39,18 +73,13 @@ fn put_event(alloc: Global, out: &mut Vec<u8>, event: &Event) -> Result<(), Allo
 }
 
 /// Writes a commit.
-fn put_commit(
-    alloc: Global,
-    out: &mut Vec<u8>,
-    number: u64,
-    change: &Change,
-) -> Result<(), AllocError>
+fn put_commit(out: &mut Vec<u8>, number: u64, change: &Change) -> Result<(), AllocError>
     ensures text { OnOk result (out.new.items ≡ out.old.items ++ compact_text (commit_data Moments number change.now)) }
     ensures number { OnOk result (number < 2 ^ 64) }
     ensures files { OnOk result (FilesFit change.now) }
     ensures marks { OnOk result (MarksFit change.now) }
 {
-    put_first(alloc, out, change)?;
+    put_first(out, change)?;
     put_middle(out, number, change)?;
     put_last(out, change)
 }

@@ -11,10 +11,10 @@ ghost use Rattle.keep_entries.specs.declared.form.Form.TheVariants.{Moments};
 
 use crate::entry_values::{put, put_files, put_marks, put_names, put_number, put_packs};
 use keep_change::Change;
-use std::alloc::{AllocError, Global};
+use std::alloc::AllocError;
 
 /// Writes a commit's opening bracket, and the members that come first.
-pub(crate) fn put_first(alloc: Global, out: &mut Vec<u8>, change: &Change) -> Result<(), AllocError>
+pub(crate) fn put_first(out: &mut Vec<u8>, change: &Change) -> Result<(), AllocError>
     ensures text { OnOk result ((ms : Members) → out.new.items ++ members_text true ms
         ≡ out.old.items ++ compact_text (object (first_members Moments change.now ms))) }
     ensures absent { OnOk result (AllByRecursion FitsName change.now.absent) }
@@ -25,11 +25,11 @@ pub(crate) fn put_first(alloc: Global, out: &mut Vec<u8>, change: &Change) -> Re
     put(out, b"{\"absent\":[")?;
     put_names(out, change.absent.as_slice())?;
     put(out, b"],\"adds\":[")?;
-    put_files(alloc, out, change.adds.as_slice())?;
+    put_files(out, change.adds.as_slice())?;
     put(out, b"],\"clears\":[")?;
     put_marks(out, change.clears.as_slice())?;
     put(out, b"],\"drops\":[")?;
-    put_files(alloc, out, change.drops.as_slice())?;
+    put_files(out, change.drops.as_slice())?;
     put(out, b"]")
 }
 

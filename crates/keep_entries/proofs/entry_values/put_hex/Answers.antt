@@ -1,10 +1,20 @@
 use Rattle.std.proofs.Common.{rules, ◌∙◌}
+use Rattle.std.specs.Slice.Iter.{chunks_rest}
 use Rattle.hex.specs.Hex.{IsBytes}
-use Rattle.keep_entries.proofs.Appended.{digits_written, on_ok}
+use Rattle.keep_entries.proofs.Appended.{all_digits, digits_more}
 use Rattle.keep_entries.proofs.entry_values.put_hex.Goals as goal
+
+pub loop-piece-preserved : goal.loop-piece-preserved
+loop-piece-preserved c =
+    let steps = c.in-Some.ensures.steps in
+    record {
+      size = steps.0 ∙ c.loop-piece.invariant.size;
+      rest = digits_more c.loop-piece.out.items c.in-Some.piece.now (chunks_rest c.next.new.self) steps.1.0 c.in_ok-put_piece.ensures
+          ∙ c.loop-piece.invariant.rest;
+    }
 
 pub returns : goal.returns
 returns c =
     let bytes = c.args.bytes.now in
     let fits : IsBytes bytes = search rules in
-    on_ok c.put.result (digits_written _ bytes fits (c.as_bytes.ensures.value ∙ c.in_ok-digits.ensures)) c.put.ensures
+    all_digits c.args.out.now.items bytes (chunks_rest c.loop-piece.piece-iterator) fits c.in-None.ensures.steps.1.0 c.loop-piece.invariant.rest
