@@ -11,16 +11,16 @@ ghost use Rattle.keep_entries.specs.Members.{list_text};
 ghost use Rattle.keep_entries.specs.Spelling.{file_data, mark_data, name_data};
 ghost use Rattle.keep_entries.specs.declared.form.Form.TheVariants.{Moments};
 
+use crate::text_out::{Stopped, TextOut};
 use keep_change::{PackMark, StoredFile};
 use keep_names::{FileName, Id, Kind};
-use std::alloc::AllocError;
 
 /// So many bytes are written in hex at a time.
 const PIECE: usize = 2048;
 
 /// Writes the names that a list holds, without its brackets.
-pub(crate) fn put_names(out: &mut Vec<u8>, names: &[FileName]) -> Result<(), AllocError>
-    ensures text { OnOk result (out.new.items ++ codes "]" ≡ out.old.items ++ list_text (map name_data names.now)) }
+pub(crate) fn put_names<O: TextOut>(out: &mut O, names: &[FileName]) -> Result<(), Stopped>
+    ensures text { OnOk result (O.written out.new ++ codes "]" ≡ O.written out.old ++ list_text (map name_data names.now)) }
     ensures fit { OnOk result (AllByRecursion FitsName names.now) }
 {
     let mut later = false;
@@ -33,8 +33,8 @@ pub(crate) fn put_names(out: &mut Vec<u8>, names: &[FileName]) -> Result<(), All
 }
 
 /// Writes the files that a list holds, without its brackets.
-pub(crate) fn put_files(out: &mut Vec<u8>, files: &[StoredFile]) -> Result<(), AllocError>
-    ensures text { OnOk result (out.new.items ++ codes "]" ≡ out.old.items ++ list_text (map file_data files.now)) }
+pub(crate) fn put_files<O: TextOut>(out: &mut O, files: &[StoredFile]) -> Result<(), Stopped>
+    ensures text { OnOk result (O.written out.new ++ codes "]" ≡ O.written out.old ++ list_text (map file_data files.now)) }
     ensures fit { OnOk result (AllByRecursion FitsFile files.now) }
 {
     let mut later = false;
@@ -47,9 +47,9 @@ pub(crate) fn put_files(out: &mut Vec<u8>, files: &[StoredFile]) -> Result<(), A
 }
 
 /// Writes the marks that a list holds, without its brackets.
-pub(crate) fn put_marks(out: &mut Vec<u8>, marks: &[PackMark]) -> Result<(), AllocError>
-    ensures text { OnOk result (out.new.items ++ codes "]"
-        ≡ out.old.items ++ list_text (map (mark_data Moments) marks.now)) }
+pub(crate) fn put_marks<O: TextOut>(out: &mut O, marks: &[PackMark]) -> Result<(), Stopped>
+    ensures text { OnOk result (O.written out.new ++ codes "]"
+        ≡ O.written out.old ++ list_text (map (mark_data Moments) marks.now)) }
     ensures fit { OnOk result (AllByRecursion FitsMark marks.now) }
 {
     let mut later = false;
@@ -62,8 +62,8 @@ pub(crate) fn put_marks(out: &mut Vec<u8>, marks: &[PackMark]) -> Result<(), All
 }
 
 /// Writes the packs that a list holds, without its brackets.
-pub(crate) fn put_packs(out: &mut Vec<u8>, packs: &[Id]) -> Result<(), AllocError>
-    ensures text { OnOk result (out.new.items ++ codes "]" ≡ out.old.items ++ list_text (map id_data packs.now)) }
+pub(crate) fn put_packs<O: TextOut>(out: &mut O, packs: &[Id]) -> Result<(), Stopped>
+    ensures text { OnOk result (O.written out.new ++ codes "]" ≡ O.written out.old ++ list_text (map id_data packs.now)) }
     ensures fit { OnOk result (AllByRecursion IsDigest packs.now) }
 {
     let mut later = false;
@@ -76,38 +76,31 @@ pub(crate) fn put_packs(out: &mut Vec<u8>, packs: &[Id]) -> Result<(), AllocErro
 }
 
 /// Writes a number.
-pub(crate) fn put_number(out: &mut Vec<u8>, number: u64) -> Result<(), AllocError>
-    ensures { OnOk result (out.new.items ≡ out.old.items ++ decimal number) }
+pub(crate) fn put_number<O: TextOut>(out: &mut O, number: u64) -> Result<(), Stopped>
+    ensures { OnOk result (O.written out.new ≡ O.written out.old ++ decimal number) }
 {
     let mut digits = itoa::Buffer::new();
-    put(out, digits.format(number).as_bytes())
-}
-
-/// Writes a piece of text.
-pub(crate) fn put(out: &mut Vec<u8>, piece: &[u8]) -> Result<(), AllocError>
-    ensures { OnOk result (out.new.items ≡ out.old.items ++ piece.now) }
-{
-    out.extend_from_slice(piece)
+    out.put(digits.format(number).as_bytes())
 }
 
 /// Writes the comma before what isn't the first.
-fn put_comma(out: &mut Vec<u8>, later: bool) -> Result<(), AllocError>
-    ensures { OnOk result (out.new.items ≡ out.old.items ++ comma_if later) }
+fn put_comma<O: TextOut>(out: &mut O, later: bool) -> Result<(), Stopped>
+    ensures { OnOk result (O.written out.new ≡ O.written out.old ++ comma_if later) }
 {
     if later {
-        return put(out, b",");
+        return out.put(b",");
     }
     Ok(())
 }
 
 /// Writes a file's name.
-fn put_name(out: &mut Vec<u8>, name: FileName) -> Result<(), AllocError>
-    ensures text { OnOk result (out.new.items ≡ out.old.items ++ compact_text (name_data name)) }
+fn put_name<O: TextOut>(out: &mut O, name: FileName) -> Result<(), Stopped>
+    ensures text { OnOk result (O.written out.new ≡ O.written out.old ++ compact_text (name_data name)) }
     ensures fit { OnOk result (FitsName name) }
 {
-    put(out, opening_of(name.kind))?;
+    out.put(opening_of(name.kind))?;
     put_digits(out, name.id)?;
-    put(out, b"\"")
+    out.put(b"\"")
 }
 
 /// What stands before the digits of a name: the quote, the word for the kind, and the slash.
@@ -122,53 +115,53 @@ fn opening_of(kind: Kind) -> &'static [u8]
 }
 
 /// Writes a file: its bytes in hex, and its name.
-fn put_file(out: &mut Vec<u8>, file: &StoredFile) -> Result<(), AllocError>
-    ensures text { OnOk result (out.new.items ≡ out.old.items ++ compact_text (file_data file.now)) }
+fn put_file<O: TextOut>(out: &mut O, file: &StoredFile) -> Result<(), Stopped>
+    ensures text { OnOk result (O.written out.new ≡ O.written out.old ++ compact_text (file_data file.now)) }
     ensures fit { OnOk result (FitsFile file.now) }
 {
     let bytes = file.bytes().as_slice();
-    put(out, b"{\"bytes\":\"")?;
+    out.put(b"{\"bytes\":\"")?;
     put_hex(out, bytes)?;
-    put(out, b"\",\"file\":")?;
+    out.put(b"\",\"file\":")?;
     put_name(out, file.name())?;
-    put(out, b"}")
+    out.put(b"}")
 }
 
 /// Writes a mark with its moment.
-fn put_mark(out: &mut Vec<u8>, mark: PackMark) -> Result<(), AllocError>
-    ensures text { OnOk result (out.new.items ≡ out.old.items ++ compact_text (mark_data Moments mark)) }
+fn put_mark<O: TextOut>(out: &mut O, mark: PackMark) -> Result<(), Stopped>
+    ensures text { OnOk result (O.written out.new ≡ O.written out.old ++ compact_text (mark_data Moments mark)) }
     ensures fit { OnOk result (FitsMark mark) }
 {
     let mut moment = itoa::Buffer::new();
-    put(out, b"{\"id\":\"")?;
+    out.put(b"{\"id\":\"")?;
     put_digits(out, mark.pack)?;
-    put(out, b"\",\"moment\":")?;
-    put(out, moment.format(mark.mark.moment).as_bytes())?;
-    put(out, b"}")
+    out.put(b"\",\"moment\":")?;
+    out.put(moment.format(mark.mark.moment).as_bytes())?;
+    out.put(b"}")
 }
 
 /// Writes a pack's id.
-fn put_pack(out: &mut Vec<u8>, pack: Id) -> Result<(), AllocError>
-    ensures text { OnOk result (out.new.items ≡ out.old.items ++ compact_text (id_data pack)) }
+fn put_pack<O: TextOut>(out: &mut O, pack: Id) -> Result<(), Stopped>
+    ensures text { OnOk result (O.written out.new ≡ O.written out.old ++ compact_text (id_data pack)) }
     ensures fit { OnOk result (IsDigest pack) }
 {
-    put(out, b"\"")?;
+    out.put(b"\"")?;
     put_digits(out, pack)?;
-    put(out, b"\"")
+    out.put(b"\"")
 }
 
 /// Writes an id's digits, which stand between quotes as they are.
-fn put_digits(out: &mut Vec<u8>, id: Id) -> Result<(), AllocError>
-    ensures { OnOk result (out.new.items ≡ out.old.items ++ escape (id_text id)) }
+fn put_digits<O: TextOut>(out: &mut O, id: Id) -> Result<(), Stopped>
+    ensures { OnOk result (O.written out.new ≡ O.written out.old ++ escape (id_text id)) }
 {
     let mut digits = [0u8; 64];
     hex::encode_to_slice(id.0, &mut digits).unwrap();
-    put(out, &digits)
+    out.put(&digits)
 }
 
 /// Writes bytes in hex, which stands between quotes as it is.
-fn put_hex(out: &mut Vec<u8>, bytes: &[u8]) -> Result<(), AllocError>
-    ensures { OnOk result (out.new.items ≡ out.old.items ++ escape (encode_lower bytes.now)) }
+fn put_hex<O: TextOut>(out: &mut O, bytes: &[u8]) -> Result<(), Stopped>
+    ensures { OnOk result (O.written out.new ≡ O.written out.old ++ escape (encode_lower bytes.now)) }
 {
     for piece in bytes.chunks(PIECE) {
         put_piece(out, piece)?;
@@ -177,12 +170,12 @@ fn put_hex(out: &mut Vec<u8>, bytes: &[u8]) -> Result<(), AllocError>
 }
 
 /// Writes a piece of bytes in hex.
-fn put_piece(out: &mut Vec<u8>, piece: &[u8]) -> Result<(), AllocError>
+fn put_piece<O: TextOut>(out: &mut O, piece: &[u8]) -> Result<(), Stopped>
     requires { length piece.now ≤ 2048 }
-    ensures { OnOk result (out.new.items ≡ out.old.items ++ encode_lower piece.now) }
+    ensures { OnOk result (O.written out.new ≡ O.written out.old ++ encode_lower piece.now) }
 {
     let mut buffer = [0u8; 2 * PIECE];
     let digits = &mut buffer[..2 * piece.len()];
     hex::encode_to_slice(piece, digits).unwrap();
-    put(out, digits)
+    out.put(digits)
 }

@@ -1,12 +1,13 @@
-ghost use Rattle.std.specs.Prelude.{◌≡◌, ◌<◌, ◌++◌, ◌^◌, IfOk, OnOk, codes, decimal};
+ghost use Rattle.std.specs.Prelude.{◌≡◌, ◌<◌, ◌++◌, ◌^◌, IfOk, IsTrue, OnOk, codes, decimal};
 ghost use Rattle.std.specs.List.{AllByRecursion};
 ghost use Rattle.serde_json.specs.Written.{compact_text};
 ghost use Rattle.keep_entries.specs.Entry.{FilesFit, Fits, FitsMark, MarksFit};
 ghost use Rattle.keep_entries.specs.Spelling.{commit_data, empty_data, entry_text, event_data};
 ghost use Rattle.keep_entries.specs.declared.form.Form.TheVariants.{Moments};
 
-use crate::entry_values::{put, put_marks, put_number};
+use crate::entry_values::{put_marks, put_number};
 use crate::object_text::{put_first, put_last, put_middle};
+use crate::text_out::{GivenText, Stopped, TextOut};
 use keep_change::{Change, PackMark, StoredFile};
 use keep_journal::{Event, EventKind};
 use std::alloc::{AllocError, Global};
@@ -23,8 +24,22 @@ pub(crate) fn event_text(alloc: Global, event: &Event) -> Result<Vec<u8>, AllocE
     ensures fits { IfOk result (λ _. Fits event.now) }
 {
     let mut bytes = Vec::with_capacity(alloc, room_for(event))?;
-    put_event(&mut bytes, event)?;
-    Ok(bytes)
+    match put_event(&mut bytes, event) {
+        Ok(()) => Ok(bytes),
+        Err(Stopped) => Err(AllocError),
+    }
+}
+
+/// Whether the bytes are the text of an event. The text isn't made.
+pub(crate) fn is_text_of_event(event: &Event, bytes: &[u8]) -> bool
+    ensures text { IsTrue result → bytes.now ≡ entry_text event.now }
+    ensures fits { IsTrue result → Fits event.now }
+{
+    let mut given = GivenText::new(bytes);
+    match put_event(&mut given, event) {
+        Ok(()) => given.is_passed(bytes.len()),
+        Err(Stopped) => false,
+    }
 }
 
 /// Room for an event's text, so that it is made in one place.
@@ -59,8 +74,8 @@ fn room_for_hex(files: &[StoredFile]) -> usize {
 }
 
 /// Writes an event.
-fn put_event(out: &mut Vec<u8>, event: &Event) -> Result<(), AllocError>
-    ensures text { OnOk result (out.new.items ≡ out.old.items ++ compact_text (event_data Moments event.now)) }
+fn put_event<O: TextOut>(out: &mut O, event: &Event) -> Result<(), Stopped>
+    ensures text { OnOk result (O.written out.new ≡ O.written out.old ++ compact_text (event_data Moments event.now)) }
     ensures fits { OnOk result (Fits event.now) }
 {
     let number = event.number;
@@ -73,8 +88,8 @@ fn put_event(out: &mut Vec<u8>, event: &Event) -> Result<(), AllocError>
 }
 
 /// Writes a commit.
-fn put_commit(out: &mut Vec<u8>, number: u64, change: &Change) -> Result<(), AllocError>
-    ensures text { OnOk result (out.new.items ≡ out.old.items ++ compact_text (commit_data Moments number change.now)) }
+fn put_commit<O: TextOut>(out: &mut O, number: u64, change: &Change) -> Result<(), Stopped>
+    ensures text { OnOk result (O.written out.new ≡ O.written out.old ++ compact_text (commit_data Moments number change.now)) }
     ensures number { OnOk result (number < 2 ^ 64) }
     ensures files { OnOk result (FilesFit change.now) }
     ensures marks { OnOk result (MarksFit change.now) }
@@ -85,24 +100,24 @@ fn put_commit(out: &mut Vec<u8>, number: u64, change: &Change) -> Result<(), All
 }
 
 /// Writes an undo or a redo: the text up to its number, which says the one or the other, and the rest.
-fn put_turn(out: &mut Vec<u8>, beginning: &[u8], number: u64) -> Result<(), AllocError>
-    ensures text { OnOk result (out.new.items ≡ out.old.items ++ (beginning.now ++ (decimal number ++ codes "}"))) }
+fn put_turn<O: TextOut>(out: &mut O, beginning: &[u8], number: u64) -> Result<(), Stopped>
+    ensures text { OnOk result (O.written out.new ≡ O.written out.old ++ (beginning.now ++ (decimal number ++ codes "}"))) }
     ensures number { OnOk result (number < 2 ^ 64) }
 {
-    put(out, beginning)?;
+    out.put(beginning)?;
     put_number(out, number)?;
-    put(out, b"}")
+    out.put(b"}")
 }
 
 /// Writes an emptying.
-fn put_empty(out: &mut Vec<u8>, number: u64, marks: &[PackMark]) -> Result<(), AllocError>
-    ensures text { OnOk result (out.new.items ≡ out.old.items ++ compact_text (empty_data Moments number marks.now)) }
+fn put_empty<O: TextOut>(out: &mut O, number: u64, marks: &[PackMark]) -> Result<(), Stopped>
+    ensures text { OnOk result (O.written out.new ≡ O.written out.old ++ compact_text (empty_data Moments number marks.now)) }
     ensures number { OnOk result (number < 2 ^ 64) }
     ensures fit { OnOk result (AllByRecursion FitsMark marks.now) }
 {
-    put(out, b"{\"event\":\"empty\",\"form\":2,\"marks\":[")?;
+    out.put(b"{\"event\":\"empty\",\"form\":2,\"marks\":[")?;
     put_marks(out, marks)?;
-    put(out, b"],\"number\":")?;
+    out.put(b"],\"number\":")?;
     put_number(out, number)?;
-    put(out, b"}")
+    out.put(b"}")
 }

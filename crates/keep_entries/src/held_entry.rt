@@ -1,13 +1,12 @@
-ghost use Rattle.std.specs.Prelude.{◌≡◌, ◌≢◌, IfOk, IfErr, IfSome, IsTrue};
-ghost use Rattle.keep_entries.specs.Entry.{Fits, IsEntry, Spells, TellsNothing};
-ghost use Rattle.keep_entries.specs.Spelling.{entry_text};
+ghost use Rattle.std.specs.Prelude.{◌≡◌, ◌≢◌, IfOk, IfErr, IfSome};
+ghost use Rattle.keep_entries.specs.Entry.{IsEntry, Spells, TellsNothing};
 ghost use Rattle.keep_entries.specs.declared.entry_error.EntryError.TheVariants.{BadEntry, Memory};
 
 use crate::checks::is_proper;
 use crate::entry::read_entry;
 use crate::entry_error::EntryError;
 use crate::event_in::change_in;
-use crate::event_text::event_text;
+use crate::event_text::is_text_of_event;
 use crate::form::Form;
 use crate::held_files::fill;
 use crate::misread::Misread;
@@ -63,8 +62,7 @@ fn held_entry<H: Hashing>(
     if !is_proper(&event.kind) {
         return Ok(None);
     }
-    let is_spelled = is_spelled(alloc, &event, bytes)?;
-    if !is_spelled {
+    if !is_text_of_event(&event, bytes) {
         return Ok(None);
     }
     Ok(Some(Entry { at: k, event }))
@@ -111,13 +109,4 @@ fn commit_of<H: Hashing>(
     }
     let kind = EventKind::Commit(SharedChange::new(alloc, change)?);
     Ok(Some(Event { number, kind }))
-}
-
-/// Whether the bytes are the text of the event.
-fn is_spelled(alloc: Global, event: &Event, bytes: &[u8]) -> Result<bool, AllocError>
-    ensures text { IfOk result (λ is. IsTrue is → bytes.now ≡ entry_text event.now) }
-    ensures fits { IfOk result (λ is. IsTrue is → Fits event.now) }
-{
-    let text = event_text(alloc, event)?;
-    Ok(text.as_slice() == bytes)
 }

@@ -16,6 +16,7 @@ mod misread;
 mod object_text;
 mod read_parts;
 mod short_text;
+mod text_out;
 
 pub use entry::{read_entry, write_entry};
 pub use entry_error::EntryError;

@@ -9,57 +9,61 @@ ghost use Rattle.keep_entries.specs.Entry.{FitsFile, FitsMark, FitsName};
 ghost use Rattle.keep_entries.specs.Members.{first_members, last_members, middle_members};
 ghost use Rattle.keep_entries.specs.declared.form.Form.TheVariants.{Moments};
 
-use crate::entry_values::{put, put_files, put_marks, put_names, put_number, put_packs};
+use crate::entry_values::{put_files, put_marks, put_names, put_number, put_packs};
+use crate::text_out::{Stopped, TextOut};
 use keep_change::Change;
-use std::alloc::AllocError;
 
 /// Writes a commit's opening bracket, and the members that come first.
-pub(crate) fn put_first(out: &mut Vec<u8>, change: &Change) -> Result<(), AllocError>
-    ensures text { OnOk result ((ms : Members) → out.new.items ++ members_text true ms
-        ≡ out.old.items ++ compact_text (object (first_members Moments change.now ms))) }
+pub(crate) fn put_first<O: TextOut>(out: &mut O, change: &Change) -> Result<(), Stopped>
+    ensures text { OnOk result ((ms : Members) → O.written out.new ++ members_text true ms
+        ≡ O.written out.old ++ compact_text (object (first_members Moments change.now ms))) }
     ensures absent { OnOk result (AllByRecursion FitsName change.now.absent) }
     ensures adds { OnOk result (AllByRecursion FitsFile change.now.adds) }
     ensures clears { OnOk result (AllByRecursion FitsMark change.now.clears) }
     ensures drops { OnOk result (AllByRecursion FitsFile change.now.drops) }
 {
-    put(out, b"{\"absent\":[")?;
+    out.put(b"{\"absent\":[")?;
     put_names(out, change.absent.as_slice())?;
-    put(out, b"],\"adds\":[")?;
+    out.put(b"],\"adds\":[")?;
     put_files(out, change.adds.as_slice())?;
-    put(out, b"],\"clears\":[")?;
+    out.put(b"],\"clears\":[")?;
     put_marks(out, change.clears.as_slice())?;
-    put(out, b"],\"drops\":[")?;
+    out.put(b"],\"drops\":[")?;
     put_files(out, change.drops.as_slice())?;
-    put(out, b"]")
+    out.put(b"]")
 }
 
 /// Writes those that come then.
-pub(crate) fn put_middle(out: &mut Vec<u8>, number: u64, change: &Change) -> Result<(), AllocError>
-    ensures text { OnOk result ((ms : Members) → out.new.items ++ members_text true ms
-        ≡ out.old.items ++ members_text true (middle_members Moments number change.now ms)) }
+pub(crate) fn put_middle<O: TextOut>(
+    out: &mut O,
+    number: u64,
+    change: &Change,
+) -> Result<(), Stopped>
+    ensures text { OnOk result ((ms : Members) → O.written out.new ++ members_text true ms
+        ≡ O.written out.old ++ members_text true (middle_members Moments number change.now ms)) }
     ensures marked { OnOk result (AllByRecursion IsDigest change.now.marked) }
 {
-    put(out, b",\"event\":\"commit\",\"form\":2,\"marked\":[")?;
+    out.put(b",\"event\":\"commit\",\"form\":2,\"marked\":[")?;
     put_packs(out, change.marked.as_slice())?;
-    put(out, b"],\"number\":")?;
+    out.put(b"],\"number\":")?;
     put_number(out, number)
 }
 
 /// Writes those that come last, and the closing bracket.
-pub(crate) fn put_last(out: &mut Vec<u8>, change: &Change) -> Result<(), AllocError>
-    ensures text { OnOk result (out.new.items
-        ≡ out.old.items ++ members_text true (last_members Moments change.now no_members)) }
+pub(crate) fn put_last<O: TextOut>(out: &mut O, change: &Change) -> Result<(), Stopped>
+    ensures text { OnOk result (O.written out.new
+        ≡ O.written out.old ++ members_text true (last_members Moments change.now no_members)) }
     ensures present { OnOk result (AllByRecursion FitsName change.now.present) }
     ensures sets { OnOk result (AllByRecursion FitsMark change.now.sets) }
     ensures unmarked { OnOk result (AllByRecursion IsDigest change.now.unmarked) }
 {
-    put(out, b",\"present\":[")?;
+    out.put(b",\"present\":[")?;
     put_names(out, change.present.as_slice())?;
-    put(out, b"],\"sets\":[")?;
+    out.put(b"],\"sets\":[")?;
     put_marks(out, change.sets.as_slice())?;
-    put(out, strictness(change.strict))?;
+    out.put(strictness(change.strict))?;
     put_packs(out, change.unmarked.as_slice())?;
-    put(out, b"]}")
+    out.put(b"]}")
 }
 
 /// What stands between the marks that a change sets and the packs that it unmarks.

@@ -8,9 +8,9 @@ use Rattle.keep_entries.proofs.entry_values.put_file.Goals as goal
 
 pub returns-clause-text : goal.returns-clause-text
 unfolding escape_byte
-returns-clause-text c =
+returns-clause-text g c =
     let file = c.args.file.now in
-    let old = c.args.out.now.items in
+    let old = (g.O.TextOut.written c.args.out.now) in
     let name = compact_text (name_data file.name) in
     let digits = encode_lower file.bytes in
     on_ok c.put-3.result
