@@ -22,16 +22,23 @@ pub(crate) fn read_file<R: Files<File = File> + Alloc<A = Global>>(
 ) -> io::Result<Vec<u8>> {
     require_file(rt, path)?;
     let mut file = File::open(rt, path)?;
-    read_rest(rt.alloc(), &mut file, piece)
+    let length = usize::try_from(file.metadata()?.len()).unwrap_or(0);
+    read_rest(rt.alloc(), &mut file, length, piece)
 }
 
-/// All that the reader has left, piece by piece. A read that was interrupted is made again.
-fn read_rest<F: Read>(alloc: Global, reader: &mut F, piece: &mut [u8]) -> io::Result<Vec<u8>>
+/// All that the reader has left, piece by piece, with room for so many bytes from the beginning. A read that was interrupted
+/// is made again.
+fn read_rest<F: Read>(
+    alloc: Global,
+    reader: &mut F,
+    room: usize,
+    piece: &mut [u8],
+) -> io::Result<Vec<u8>>
     ensures all { IfOk result (λ bytes. Consumes (F.remaining reader.old) (F.remaining reader.new) bytes.items) }
     ensures end { 0 < length piece.old → OnOk result (IsAtEnd (F.remaining reader.new)) }
     ensures retried { IfErr result (λ error. error_kind error ≢ ErrorKind.Interrupted) }
 {
-    let mut bytes = Vec::new(alloc);
+    let mut bytes = Vec::with_capacity(alloc, room)?;
     for _ in 0..MAX_TURNS {
         match reader.read(piece) {
             Ok(0) => return Ok(bytes),
