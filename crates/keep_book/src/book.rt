@@ -3,7 +3,7 @@ ghost use Rattle.keep_book.specs.Names.{HaveNoNameTwice};
 
 use crate::hooks::{Hooks, has_veto, has_watch};
 use crate::not_armed::NotArmed;
-use keep_catalog::Hashing;
+use keep_catalog::{Hashing, OneByOne};
 use keep_change::Planned;
 use keep_hooks::{ArmedWatch, Veto, Watch};
 use keep_ledger::{Ledger, NotOpened, Refusal, Request, Told};
@@ -46,7 +46,22 @@ impl<S: Shelf> Book<S> {
         ensures refused { IfErr result (λ given. IsNotOpened (S.shelved shelf) given.error) }
         ensures given { IfErr result (λ given. IsGivenBack (S.shelved shelf) given.error (S.shelved given.shelf)) }
     {
-        let ledger = Ledger::open(alloc, shelf)?;
+        Book::open_with(alloc, shelf, &mut OneByOne)
+    }
+
+    /// `Ledger::open_with`, without vetoes and watches.
+    pub fn open_with<H: Hashing>(
+        alloc: Global,
+        shelf: S,
+        hashing: &mut H,
+    ) -> Result<Book<S>, NotOpened<S>>
+        ensures opened { IfOk result (λ book. IsOpened (S.shelved shelf) (on_shelf book)) }
+        ensures hooks { IfOk result (λ book. hooks_of book ≡ record { vetoes = []; watches = [] }) }
+        ensures sums { IfOk result (λ book. HasSums book) }
+        ensures refused { IfErr result (λ given. IsNotOpened (S.shelved shelf) given.error) }
+        ensures given { IfErr result (λ given. IsGivenBack (S.shelved shelf) given.error (S.shelved given.shelf)) }
+    {
+        let ledger = Ledger::open_with(alloc, shelf, hashing)?;
         Ok(Book {
             alloc,
             ledger,

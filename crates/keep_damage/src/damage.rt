@@ -11,6 +11,7 @@ use crate::comparing::compare;
 use crate::entries::bad_entries;
 use crate::finding::Finding;
 use crate::sign::signs_of;
+use keep_hashing::OneByOne;
 use keep_journal::History;
 use keep_opening::{OpenError, history_of, leaves_of, read, settle, take_in};
 use keep_shelf::{Shelf, Stock};
@@ -49,7 +50,7 @@ pub fn damage_in(alloc: Global, stock: &Stock) -> Result<Vec<Finding>, AllocErro
 fn findings(alloc: Global, stock: &Stock) -> Result<Vec<Finding>, AllocError>
     ensures { IfOk result (λ found. IsDamage (map.get stock.now) found.items) }
 {
-    let leaves = leaves_of(alloc, stock)?;
+    let leaves = leaves_of(alloc, stock, &mut OneByOne)?;
     let signs = signs_of(alloc, leaves.as_slice())?;
     match history_of(alloc, leaves) {
         Ok(history) => damage_of_files(alloc, stock, &history),
@@ -91,7 +92,7 @@ ghost use Rattle.keep_damage.specs.Damage.{IsRest};
 fn what_is_left(alloc: Global, stock: &Stock) -> Result<Vec<Finding>, AllocError>
     ensures { IfOk result (λ found. IsRest (map.get stock.now) found.items) }
 {
-    match read(alloc, stock) {
+    match read(alloc, stock, &mut OneByOne) {
         Ok(_) => Ok(Vec::new(alloc)),
         Err(OpenError::BadEntry(_)) => unmade(alloc),
         Err(OpenError::Memory | OpenError::Fault) => Err(AllocError),

@@ -16,7 +16,7 @@ ghost use Rattle.keep_ledger.specs.Sums.{AreSums};
 
 use crate::not_opened::NotOpened;
 use crate::reply::Refusal;
-use keep_catalog::{Hashing, LiveRepo};
+use keep_catalog::{Hashing, LiveRepo, OneByOne};
 use keep_hooks::Guard;
 use keep_journal::{History, Request, Told};
 use keep_moves::{Move, settle};
@@ -92,7 +92,20 @@ impl<S: Shelf> Ledger<S> {
         ensures refused { IfErr result (λ given. IsNotOpened (S.shelved shelf) given.error) }
         ensures given { IfErr result (λ given. IsGivenBack (S.shelved shelf) given.error (S.shelved given.shelf)) }
     {
-        let mut ledger = Ledger::read(alloc, shelf)?;
+        Ledger::open_with(alloc, shelf, &mut OneByOne)
+    }
+
+    /// Opens a shelf as `open` does. What its kept changes add is hashed by this, the files of one entry together.
+    pub fn open_with<H: Hashing>(
+        alloc: Global,
+        shelf: S,
+        hashing: &mut H,
+    ) -> Result<Ledger<S>, NotOpened<S>>
+        ensures opened { IfOk result (λ ledger. IsOpened (S.shelved shelf) ledger) }
+        ensures refused { IfErr result (λ given. IsNotOpened (S.shelved shelf) given.error) }
+        ensures given { IfErr result (λ given. IsGivenBack (S.shelved shelf) given.error (S.shelved given.shelf)) }
+    {
+        let mut ledger = Ledger::read(alloc, shelf, hashing)?;
         match ledger.finish() {
             Ok(()) => Ok(ledger),
             Err(Fault) => Err(NotOpened {

@@ -5,7 +5,7 @@ ghost use Rattle.keep_ledger.specs.Opened.{IsGivenBack, IsNotOpened, IsReadOf};
 use crate::ledger::Ledger;
 use crate::not_opened::NotOpened;
 use crate::noting::notes_of;
-use keep_catalog::LiveRepo;
+use keep_catalog::{Hashing, LiveRepo};
 use keep_journal::History;
 use keep_moves::Move;
 use keep_opening::{OpenError, Opened, due_moves, read, take_in};
@@ -15,13 +15,17 @@ use std::alloc::Global;
 
 impl<S: Shelf> Ledger<S> {
     /// Reads a shelf. The moves that were left of its last event are due.
-    pub(crate) fn read(alloc: Global, shelf: S) -> Result<Ledger<S>, NotOpened<S>>
+    pub(crate) fn read<H: Hashing>(
+        alloc: Global,
+        shelf: S,
+        hashing: &mut H,
+    ) -> Result<Ledger<S>, NotOpened<S>>
         ensures read { IfOk result (λ ledger. IsReadOf (S.shelved shelf) ledger) }
         ensures refused { IfErr result (λ given. IsNotOpened (S.shelved shelf) given.error) }
         ensures given { IfErr result (λ given. IsGivenBack (S.shelved shelf) given.error (S.shelved given.shelf)) }
     {
         let mut shelf = shelf;
-        match find(alloc, &mut shelf) {
+        match find(alloc, &mut shelf, hashing) {
             Ok(found) => {
                 let ShelfReading {
                     live,
@@ -55,7 +59,11 @@ struct ShelfReading {
 }
 
 /// Reads what a shelf says. Nothing is changed there.
-fn find<S: Shelf>(alloc: Global, shelf: &mut S) -> Result<ShelfReading, OpenError>
+fn find<S: Shelf, H: Hashing>(
+    alloc: Global,
+    shelf: &mut S,
+    hashing: &mut H,
+) -> Result<ShelfReading, OpenError>
     ensures read { IfOk result (λ found. IsReadOf (S.shelved shelf.old)
         (ledger_on found.history.journal found.live found.moves.items (S.shelved shelf.new))) }
     ensures kept { IfOk result (λ found.
@@ -64,7 +72,7 @@ fn find<S: Shelf>(alloc: Global, shelf: &mut S) -> Result<ShelfReading, OpenErro
     ensures given { IfErr result (λ error. IsGivenBack (S.shelved shelf.old) error (S.shelved shelf.new)) }
 {
     let stock = take_in(alloc, shelf)?;
-    let opened = read(alloc, &stock)?;
+    let opened = read(alloc, &stock, hashing)?;
     let moves = due_moves(alloc, &stock, &opened.history)?;
     let touch = notes_of(alloc, &opened.history)?;
     let Opened { history, live, .. } = opened;

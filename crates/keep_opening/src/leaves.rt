@@ -4,31 +4,38 @@ ghost use Rattle.keep_opening.specs.Leafing.{AreUnder};
 ghost use Rattle.keep_reading.specs.Leaves.{AreLeaves, Tells};
 ghost use Rattle.keep_reading.specs.declared.leaf.Leaf as the_leaf;
 
-use crate::sharing::{files_held, shared_event};
-use keep_entries::{EntryError, read_entry};
+use crate::held_files::files_held;
+use keep_entries::{EntryError, read_entry_with};
+use keep_hashing::Hashing;
 use keep_reading::Leaf;
 use keep_repo::{Bytes, Repo};
 use keep_shelf::{Key, Stock};
 use std::alloc::{AllocError, Global};
 
-/// What stands under the keys of entries, each read. Bytes of a change that the stock has as a file are held once.
-pub fn leaves_of(alloc: Global, stock: &Stock) -> Result<Vec<Leaf>, AllocError>
+/// What stands under the keys of entries, each read. Bytes of a change that the stock has as a file are held once, and those
+/// that an entry adds are hashed together.
+pub fn leaves_of<H: Hashing>(
+    alloc: Global,
+    stock: &Stock,
+    hashing: &mut H,
+) -> Result<Vec<Leaf>, AllocError>
     ensures { IfOk result (λ leaves. AreLeaves (map.get stock.now) leaves.items) }
 {
     let keys = stock.keys()?;
     let held = files_held(alloc, stock, &keys)?;
     let mut leaves = Vec::new(alloc);
     for key in &keys {
-        push_leaf(alloc, stock, &held, *key, &mut leaves)?;
+        push_leaf(alloc, stock, &held, hashing, *key, &mut leaves)?;
     }
     Ok(leaves)
 }
 
 /// Appends the leaf under the key, if it is that of an entry.
-fn push_leaf(
+fn push_leaf<H: Hashing>(
     alloc: Global,
     stock: &Stock,
     held: &Repo,
+    hashing: &mut H,
     key: Key,
     leaves: &mut Vec<Leaf>,
 ) -> Result<(), AllocError>
@@ -37,25 +44,28 @@ fn push_leaf(
 {
     if let Key::Entry(k) = key {
         if let Some(bytes) = stock.get(key) {
-            leaves.push(leaf_of(alloc, held, k, bytes)?)?;
+            leaves.push(leaf_of(alloc, held, hashing, k, bytes)?)?;
         }
     }
     Ok(())
 }
 
 /// The leaf of this number, with these bytes.
-fn leaf_of(alloc: Global, held: &Repo, k: u64, bytes: &Bytes) -> Result<Leaf, AllocError>
+fn leaf_of<H: Hashing>(
+    alloc: Global,
+    held: &Repo,
+    hashing: &mut H,
+    k: u64,
+    bytes: &Bytes,
+) -> Result<Leaf, AllocError>
     ensures number { IfOk result (λ leaf. leaf.at ≡ k) }
     ensures tells { IfOk result (λ leaf. Tells k bytes.now leaf.event) }
 {
-    match read_entry(alloc, k, bytes.as_slice()) {
-        Ok(entry) => {
-            let event = shared_event(alloc, held, entry.event)?;
-            Ok(Leaf {
-                at: k,
-                event: Some(event),
-            })
-        }
+    match read_entry_with(alloc, held, hashing, k, bytes.as_slice()) {
+        Ok(entry) => Ok(Leaf {
+            at: k,
+            event: Some(entry.event),
+        }),
         Err(EntryError::BadEntry(_)) => Ok(Leaf { at: k, event: None }),
         Err(EntryError::Memory) => Err(AllocError),
     }

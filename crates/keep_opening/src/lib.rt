@@ -4,6 +4,7 @@
 
 mod due;
 mod due_law;
+mod held_files;
 mod intake;
 mod leaf_history;
 mod leaves;
@@ -13,7 +14,6 @@ mod open_error;
 mod opening;
 mod over;
 mod settling;
-mod sharing;
 mod trash;
 
 pub use due::due_moves;

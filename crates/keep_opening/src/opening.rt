@@ -15,6 +15,7 @@ use crate::marking::marks_in;
 use crate::open_error::OpenError;
 use crate::settling::settle;
 use crate::trash::{agree, wanted};
+use keep_hashing::Hashing;
 use keep_journal::History;
 use keep_repo::Repo;
 use keep_shelf::Stock;
@@ -33,14 +34,14 @@ pub struct Opened {
 
 /// Reads what was taken in of a shelf: the one reading that it has, be the last event's moves all made or not.
 ///
-/// `BadEntry` where it has none, and only then. `Memory` where memory runs out.
-pub fn read(alloc: Global, stock: &Stock) -> Result<Opened, OpenError>
+/// `BadEntry` where it has none, and only then. `Memory` where memory runs out. What kept changes add is hashed by this.
+pub fn read<H: Hashing>(alloc: Global, stock: &Stock, hashing: &mut H) -> Result<Opened, OpenError>
     ensures read { IfOk result (λ opened. Reads (map.get stock.now) opened.opening opened.history.journal) }
     ensures open { IfOk result (λ opened. IsOpen opened.opening opened.history.journal opened.live) }
     ensures refused { IfErr result (λ why. (k : ℕ) → why ≡ the_error.BadEntry k → IsRefused (map.get stock.now) k) }
     ensures why { IfErr result (λ why. why ≢ the_error.Fault) }
 {
-    let leaves = leaves_of(alloc, stock)?;
+    let leaves = leaves_of(alloc, stock, hashing)?;
     let marked = marks_in(alloc, leaves.as_slice())?;
     let history = history_of(alloc, leaves)?;
     let mut settled = stock.copy()?;

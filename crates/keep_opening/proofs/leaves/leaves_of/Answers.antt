@@ -7,12 +7,12 @@ use Rattle.keep_opening.proofs.Along.{along_end, along_next, are_leaves}
 use Rattle.keep_opening.proofs.leaves.leaves_of.Goals as goal
 
 pub loop-key-preserved : goal.loop-key-preserved
-loop-key-preserved c rest h =
+loop-key-preserved g c rest h =
     let more = c.in_ok-push_leaf.ensures in
     rw more.1 (along_next (finite.get c.args.stock.now) c.deref-key-items.result.now c.loop-key.key-index _ _ c.loop-key.leaves.items more.0 (omega arith) refl c.loop-key.invariant more.2 rest h)
 
 pub returns : goal.returns
-returns c =
+returns g c =
     let keys : List Key = c.deref-key-items.result.now in
     let all : keys ≡ finite.keys c.args.stock.now = c.deref-key-items.ensures.value ∙ c.in_ok-keys.ensures in
     are_leaves c.args.stock.now c.loop-key.leaves.items

@@ -6,5 +6,5 @@ use Rattle.keep_opening.proofs.leaves.leaves_of.Given as goal
 
 -- the leaves so far, with those under the other keys, are those under all keys
 abbrev pub invariant-loop-key : goal.invariant-loop-key
-invariant-loop-key l =
+invariant-loop-key g l =
     (rest : List the_leaf.Leaf) → AreAlong (finite.get l.stock) (drop l.key-index l.key-items) rest → AreAlong (finite.get l.stock) l.key-items (l.leaves.items ++ rest)

@@ -18,17 +18,17 @@ use Rattle.keep_opening.proofs.Glued.{if_err_two, if_ok_three, if_ok_two, refuse
 use Rattle.keep_opening.proofs.opening.read.Goals as goal
 
 pub returns-in_err-history-clause-refused : goal.returns-in_err-history-clause-refused
-returns-in_err-history-clause-refused c =
+returns-in_err-history-clause-refused g c =
     let due = err_from_is_err_and c.from_residual-in_err-history.result c.from_residual-in_err-history.ensures.1 in
     rw due.1 (λ k is. refused_first (finite.get c.args.stock.now) c.in_ok-leaves.leaves.items k c.in_ok-leaves.ensures (c.in_err-history.ensures.bad k (sym due.2 ∙ is)))
 
 pub test-requires : goal.test-requires
-test-requires c = record {
+test-requires g c = record {
   formed = tells_formed (finite.get c.args.stock.now) c.in_ok-leaves.leaves.items c.in_ok-leaves.ensures c.in_ok-history.ensures.right c.in_ok-history.history.journal c.in_ok-history.ensures.told;
 }
 
 pub returns-clause-read : goal.returns-clause-read
-returns-clause-read c =
+returns-clause-read g c =
     let stand : Stand = finite.get c.args.stock.now in
     let leaves = c.in_ok-leaves.leaves.items in
     let j : Journal = c.in_ok-history.history.journal in
@@ -44,7 +44,7 @@ returns-clause-read c =
     (subst (λ (p : Repository). IsRight j content p) opening right))))
 
 pub returns-clause-open : goal.returns-clause-open
-returns-clause-open c =
+returns-clause-open g c =
     let stand : Stand = finite.get c.args.stock.now in
     let leaves = c.in_ok-leaves.leaves.items in
     let j : Journal = c.in_ok-history.history.journal in
@@ -62,7 +62,7 @@ returns-clause-open c =
     o.live (subst (λ (p : Repository). IsRight j content p) both.0 right) (both.1 ∙ ap (fold_of (kept j)) both.0))))
 
 pub returns-clause-refused : goal.returns-clause-refused
-returns-clause-refused c =
+returns-clause-refused g c =
     let stand : Stand = finite.get c.args.stock.now in
     let leaves = c.in_ok-leaves.leaves.items in
     let j : Journal = c.in_ok-history.history.journal in
