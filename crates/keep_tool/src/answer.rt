@@ -11,7 +11,7 @@ use keep_names::Id;
 use keep_outcomes::{Way, tell_made, tell_outcome, tell_pruned, tell_taken};
 use keep_run::{Failure, Run, meant, numbers_text, refused, require_told};
 use keep_shelf::Shelf;
-use keep_words::Command;
+use keep_words::{Chosen, Command};
 
 /// Does what the command asks of the book, and prints what came of it; or prints what is asked for.
 pub(crate) fn answer<S: Shelf, H: Hashing + Copy>(
@@ -24,7 +24,10 @@ pub(crate) fn answer<S: Shelf, H: Hashing + Copy>(
 {
     let named = named(run, book, command)?;
     match deed_of(run.alloc, command, named) {
-        Ok(None) => look(run, hashing, book, command),
+        Ok(None) => {
+            hash_first(run, hashing, book, command);
+            look(run, hashing, book, command)
+        }
         Ok(Some(deed)) => {
             confirm(run, book, command)?;
             hash_first(run, hashing, book, command);
@@ -62,9 +65,19 @@ fn hash_first<S: Shelf, H: Hashing + Copy>(
     requires { HasSums book.old }
     ensures { HasSums book.new }
 {
-    if let Command::Mark | Command::Prune { .. } = command {
-        book.hash_all(&mut CountedHashing::new(run.rt, hashing, "mark"));
-    }
+    let verb = match command {
+        Command::Mark | Command::Prune { .. } => "mark",
+        Command::Snapshots {
+            chosen: Chosen {
+                host: None,
+                tag: None,
+                path: None,
+            },
+            latest: None,
+        } => "list",
+        _ => return,
+    };
+    book.hash_all(&mut CountedHashing::new(run.rt, hashing, verb));
 }
 
 /// The change that the command names, 0 where it names none.

@@ -48,15 +48,15 @@ fn only_looks(command: &Command<'_>) -> bool {
     }
 }
 
-/// Does what the command says over the book of what stands on the shelf. No file is counted from then on.
+/// Does what the command says over the book of what stands on the shelf. No file is counted once it is there.
 fn over_shelf<S: Shelf, H: Hashing + Copy>(
     run: &Run<'_>,
-    hashing: H,
+    mut hashing: H,
     files: &CountedFiles<'_>,
     shelf: S,
     command: &Command<'_>,
 ) -> Result<(), Failure> {
-    let opened = Book::open(run.alloc, shelf);
+    let opened = Book::open_with(run.alloc, shelf, &mut hashing);
     files.end();
     match opened {
         Ok(mut book) => answer(run, hashing, &mut book, command),
