@@ -6,9 +6,16 @@ use crate::receives::{Receives, Stop};
 use crate::skipped::Why;
 use crate::source::Source;
 use crate::taking::Taking;
+use std::alloc::AllocError;
 
 /// How many bytes are held at most before more is written.
 const MOST_HELD: u64 = 67_108_864;
+
+/// A file that had as many bytes when it was seen is long.
+const LONG_FILE: u64 = 2_097_152;
+
+/// How many bytes of a long file are read at once: its pieces can be hashed together.
+const LONG_PIECE: usize = 16_777_216;
 
 /// How much of a file was read, and why no more, if it wasn't read out.
 #[derive(Clone, Copy)]
@@ -24,6 +31,7 @@ impl<S: Source, A: Receives> Taking<S, A> {
             (A.seen self.old.archive) (A.seen self.new.archive) copied.size copied.failure) }
         ensures skipped { OnOk result (self.new.skipped ≡ self.old.skipped) }
     {
+        self.widen(seen)?;
         let limit = limit_of(seen);
         let mut size = 0u64;
         'reading: while size < limit {
@@ -50,6 +58,17 @@ impl<S: Source, A: Receives> Taking<S, A> {
             size,
             failure: None,
         })
+    }
+
+    /// Has more read at once, from the first long file on.
+    fn widen(&mut self, seen: u64) -> Result<(), AllocError>
+        ensures archive { self.new.archive ≡ self.old.archive }
+        ensures skipped { self.new.skipped ≡ self.old.skipped }
+    {
+        if seen >= LONG_FILE && self.piece.len() < LONG_PIECE {
+            self.piece = vec![in self.alloc; 0; LONG_PIECE]?;
+        }
+        Ok(())
     }
 
     /// Has what is held stored where that is more than may be.
