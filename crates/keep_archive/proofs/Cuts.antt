@@ -1,10 +1,14 @@
 -- Bytes of a file that are cut as they come.
-use Rattle.std.proofs.Common.{◌≡◌, ◌<◌, ℕ, List, [], ◌∷◌, ◌++◌, length, map, refl, sym, ap, subst, ◌∙◌, append_assoc, append-nil}
+use Rattle.std.proofs.Common.{◌≡◌, ◌<◌, ◌≤◌, ℕ, false, List, [], ◌∷◌, ◌++◌, length, map, refl, sym, ap, subst, ◌∙◌, append_assoc, append-nil, arith}
+use Rattle.std.proofs.lemmas.Bool.Decides.{nat_tests}
 use Rattle.std.proofs.lemmas.List.{map-append}
 use Rattle.std.specs.List.{AllByRecursion, flat_map}
-use Rattle.keep_build.specs.Blobs.{id_of}
+use Rattle.std.specs.Global.{Vec}
+use Rattle.keep_build.specs.Blobs.{id_of, is_full}
 use Rattle.keep_archive.specs.Archive.{BegunData, BlobsData}
-use Rattle.keep_archive.specs.Steps.{Writes, holding, piece}
+use Rattle.keep_archive.specs.Cutting.{CutsOn, pieces_in}
+use Rattle.keep_archive.specs.Steps.{IsCut, Writes, holding, piece}
+use Rattle.keep_archive.specs.declared.cut_bytes.CutBytes.{CutBytes}
 
 abbrev pub joined : List (List ℕ) → List ℕ
 joined pieces = flat_map (λ (p : List ℕ). p) pieces
@@ -28,30 +32,65 @@ none_written begun blobs short = record {
 }
 
 -- the bytes wait for more
-pub kept_rest : (bytes : List ℕ) (old made : BegunData) (blobs : BlobsData) → made.cut ≡ old.cut → made.content ≡ old.content → made.rest ≡ old.rest ++ bytes
-    → length made.rest < old.cut → Writes bytes old made blobs blobs
-kept_rest bytes old made blobs cut content rest short = record {
-  pieces = [];
-  cut_so = record { whole = sym rest; each = tt; short = short };
-  cut = cut;
-  content = content ∙ sym (append-nil old.content);
-  holds = ap (λ held. record { named = blobs.named; held = held }) (sym (append-nil blobs.held));
+pub kept_rest : (cut : ℕ) (before bytes : List ℕ) (ps : List (List ℕ)) (rest made : List ℕ) → IsCut cut before ps rest → made ≡ rest ++ bytes → length made < cut
+    → IsCut cut (before ++ bytes) ps made
+kept_rest cut before bytes ps rest made so is short = record {
+  whole =
+      ap (λ (x : List ℕ). x ++ bytes) so.whole ∙ append_assoc (joined ps) rest bytes
+      ∙ ap (λ (x : List ℕ). joined ps ++ x) (sym is);
+  each = so.each;
+  short = short;
 }
 
 -- a piece is whole
-pub one_piece : (bytes : List ℕ) (old made : BegunData) (blobs more : BlobsData) (p : List ℕ) → p ≡ old.rest ++ bytes → length p ≡ old.cut → 0 < old.cut
-    → made.cut ≡ old.cut → made.content ≡ old.content ++ id_of (piece p) ∷ [] → made.rest ≡ [] → more ≡ holding (piece p ∷ []) blobs → Writes bytes old made blobs more
-one_piece bytes old made blobs more p is whole some cut content rest held = record {
-  pieces = p ∷ [];
-  cut_so = record {
-    whole = sym is ∙ sym (append-nil p) ∙ sym (append-nil (p ++ [])) ∙ ap (λ (x : List ℕ). (p ++ []) ++ x) (sym rest);
-    each = (whole, tt);
-    short = subst (λ (x : List ℕ). length x < old.cut) (sym rest) some;
-  };
-  cut = cut;
-  content = content;
-  holds = held;
+pub one_piece : (cut : ℕ) (before bytes : List ℕ) (ps : List (List ℕ)) (rest made left : List ℕ) → IsCut cut before ps rest → made ≡ rest ++ bytes → length made ≡ cut → 0 < cut
+    → left ≡ [] → IsCut cut (before ++ bytes) (ps ++ made ∷ []) left
+one_piece cut before bytes ps rest made left so is whole some none = record {
+  whole =
+      ap (λ (x : List ℕ). x ++ bytes) so.whole ∙ append_assoc (joined ps) rest bytes
+      ∙ ap (λ (x : List ℕ). joined ps ++ x) (sym is ∙ sym (append-nil made))
+      ∙ sym (joined-append ps (made ∷ []))
+      ∙ sym (append-nil (joined (ps ++ made ∷ [])))
+      ∙ ap (λ (x : List ℕ). joined (ps ++ made ∷ []) ++ x) (sym none);
+  each = both_each (λ (x : List ℕ). length x ≡ cut) ps (made ∷ []) so.each (whole, tt);
+  short = subst (λ (x : List ℕ). length x < cut) (sym none) some;
 }
+
+-- nothing is cut on
+pub none_cut : (cut : CutBytes) → CutsOn [] cut cut
+none_cut cut = record {
+  cut = refl;
+  cut_so = λ before so.
+      subst (λ (x : List ℕ). IsCut cut.cut.bytes x (pieces_in cut.whole.items) cut.rest.items) (sym (append-nil before)) so;
+}
+
+-- to cut in turn is to cut at once
+pub both_cut : (xs ys : List ℕ) (a b c : CutBytes) → CutsOn xs a b → CutsOn ys b c → CutsOn (xs ++ ys) a c
+both_cut xs ys a b c first second = record {
+  cut = second.cut ∙ first.cut;
+  cut_so = λ before so.
+      subst (λ (x : List ℕ). IsCut a.cut.bytes x (pieces_in c.whole.items) c.rest.items) (append_assoc before xs ys)
+      (subst (λ (n : ℕ). IsCut n ((before ++ xs) ++ ys) (pieces_in c.whole.items) c.rest.items) first.cut
+      (second.cut_so (before ++ xs)
+      (subst (λ (n : ℕ). IsCut n (before ++ xs) (pieces_in b.whole.items) b.rest.items) (sym first.cut) (first.cut_so before so))));
+}
+
+-- what a file had left is cut on
+pub cut_behind : (cut : ℕ) (bytes rest : List ℕ) (start made : CutBytes) → start.cut.bytes ≡ cut → start.whole.items ≡ [] → start.rest.items ≡ rest → length rest < cut
+    → CutsOn bytes start made → IsCut cut (rest ++ bytes) (pieces_in made.whole.items) made.rest.items
+cut_behind cut bytes rest start made same none left short on =
+    subst (λ (n : ℕ). IsCut n (rest ++ bytes) (pieces_in made.whole.items) made.rest.items) same
+    (on.cut_so rest (record {
+      whole = sym left ∙ ap (λ (pieces : List (Vec ℕ)). joined (pieces_in pieces) ++ start.rest.items) (sym none);
+      each = subst (λ (pieces : List (Vec ℕ)). AllByRecursion (λ (x : List ℕ). length x ≡ start.cut.bytes) (pieces_in pieces)) (sym none) tt;
+      short = subst (λ (x : List ℕ). length x < start.cut.bytes) (sym left) (subst (λ (n : ℕ). length rest < n) (sym same) short);
+    }))
+
+-- pieces of a file are no blobs that are too long
+pub none_full : (cut : ℕ) (pieces : List (Vec ℕ)) → cut ≤ 8388608 → AllByRecursion (λ (x : List ℕ). length x ≡ cut) (pieces_in pieces)
+    → AllByRecursion (λ (x : Vec ℕ). is_full (piece x.items) ≡ false) pieces
+none_full cut [] most each = tt
+none_full cut (p ∷ ps) most each = (grind (arith, nat_tests, each.0, most), none_full cut ps most each.1)
 
 -- two writes are one
 pub both_written : (xs ys : List ℕ) (a b c : BegunData) (p q s : BlobsData) → Writes xs a b p q → Writes ys b c q s → Writes (xs ++ ys) a c p s

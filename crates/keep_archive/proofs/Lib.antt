@@ -3,6 +3,7 @@ pub mod Cuts
 pub mod Differing
 pub mod Fronts
 pub mod Given
+pub mod Hashed
 pub mod Made
 pub mod Noded
 pub mod Reading

@@ -3,6 +3,7 @@ use crate::carried::Carried;
 use crate::going::Going;
 use crate::held::HeldBlob;
 use keep_build::Cut;
+use keep_catalog::Hashing;
 use keep_names::{BlobType, Id};
 use keep_plan::PlanError;
 use std::alloc::Global;
@@ -100,8 +101,9 @@ impl Archive {
         Ok(())
     }
 
-    /// Gives more bytes of the file that is being read. Each piece is hashed once, as soon as it is whole.
-    pub fn write(&mut self, bytes: &[u8]) -> Result<(), PlanError>
+    /// Gives more bytes of the file that is being read. Each piece is hashed once, as soon as it is whole. Those that
+    /// these bytes make whole are hashed together, by this.
+    pub fn write<H: Hashing>(&mut self, bytes: &[u8], hashing: &mut H) -> Result<(), PlanError>
         ensures { Leaves never (WritesFile bytes.now) (archive_view self.old) (archive_view self.new) result }
     {
         let Some(going) = self.going.take() else {
@@ -113,7 +115,7 @@ impl Archive {
             begun,
             blobs,
         } = going;
-        let (begun, blobs) = begun.write(alloc, blobs, bytes)?;
+        let (begun, blobs) = begun.write(alloc, blobs, bytes, hashing)?;
         self.going = Some(Going {
             alloc,
             place,

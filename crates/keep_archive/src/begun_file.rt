@@ -1,9 +1,12 @@
-ghost use Rattle.std.specs.Prelude.{◌≡◌, ◌<◌, ◌≤◌, ◌+◌, ◌++◌, length, take};
+ghost use Rattle.std.specs.Prelude.{◌≡◌, ◌<◌};
 ghost use Rattle.std.specs.Vec.{vec_len};
 
 use crate::blobs::Blobs;
+use crate::cut_bytes::CutBytes;
 use crate::held::HeldBlob;
+use crate::pieces::hold_pieces;
 use keep_build::Cut;
+use keep_catalog::Hashing;
 use keep_names::{BlobType, Id};
 use std::alloc::{AllocError, Global};
 
@@ -36,62 +39,24 @@ impl Begun {
         }
     }
 
-    /// With more bytes of it.
-    #[tactic(auto, using(crate::proofs::Cuts::none_written, crate::proofs::Cuts::both_written))]
-    pub(crate) fn write(
+    /// With more bytes of it. Pieces that are whole by them are hashed together.
+    pub(crate) fn write<H: Hashing>(
         self,
         alloc: Global,
         blobs: Blobs,
         bytes: &[u8],
+        hashing: &mut H,
     ) -> Result<(Begun, Blobs), AllocError>
-        ensures { IfOk result (λ made. Writes bytes.now (begun_view self) (begun_view made.0)
-            (blobs_view blobs) (blobs_view made.1)) }
-    {
-        let mut begun = self;
-        let mut blobs = blobs;
-        let mut start = 0;
-        while start < bytes.len() {
-            let front = part_from(bytes, start, begun.room());
-            let (next, held) = begun.write_in(alloc, blobs, front)?;
-            begun = next;
-            blobs = held;
-            start += front.len();
-        }
-        Ok((begun, blobs))
-    }
-
-    /// How many bytes its next piece lacks.
-    fn room(&self) -> usize
-        ensures some { 0 < result }
-        ensures whole { vec_len self.now.rest + result ≡ self.now.cut.bytes }
-    {
-        self.cut.piece_length() - self.rest.len()
-    }
-
-    /// With as many bytes as its next piece lacks at most.
-    fn write_in(
-        self,
-        alloc: Global,
-        blobs: Blobs,
-        bytes: &[u8],
-    ) -> Result<(Begun, Blobs), AllocError>
-        requires { vec_len self.rest + length bytes.now ≤ self.cut.bytes }
         ensures { IfOk result (λ made. Writes bytes.now (begun_view self) (begun_view made.0)
             (blobs_view blobs) (blobs_view made.1)) }
     {
         let Begun {
             cut,
             mut content,
-            mut rest,
+            rest,
         } = self;
-        rest.extend_from_slice(bytes)?;
-        if rest.len() < cut.piece_length() {
-            return Ok((Begun { cut, content, rest }, blobs));
-        }
-        let held = HeldBlob::of(BlobType::Content, rest);
-        content.push(held.blob.id)?;
-        let blobs = blobs.hold(held)?;
-        let rest = Vec::new(alloc);
+        let CutBytes { cut, whole, rest } = CutBytes::of(alloc, cut, rest).with(alloc, bytes)?;
+        let blobs = hold_pieces(alloc, blobs, &mut content, whole, hashing)?;
         Ok((Begun { cut, content, rest }, blobs))
     }
 
@@ -127,19 +92,4 @@ impl Begun {
     {
         Begun::new(alloc, self.cut)
     }
-}
-
-/// As many of the bytes from an index on as there is room for.
-#[tactic(auto, using(crate::proofs::Fronts::front_more))]
-fn part_from(bytes: &[u8], start: usize, room: usize) -> &[u8]
-    requires left { start < length bytes.now }
-    requires room { 0 < room }
-    ensures some { 0 < length result.now }
-    ensures fits { length result.now ≤ room }
-    ensures within { start + length result.now ≤ length bytes.now }
-    ensures front { take start bytes.now ++ result.now ≡ take (start + length result.now) bytes.now }
-{
-    let left = bytes.len() - start;
-    let count = if left < room { left } else { room };
-    &bytes[start..start + count]
 }

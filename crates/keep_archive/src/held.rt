@@ -2,7 +2,7 @@ ghost use Rattle.std.specs.Prelude.{◌≡◌, false};
 ghost use Rattle.keep_names.specs.Sha256.{sha256};
 ghost use Rattle.keep_build.specs.Blobs.{is_full};
 
-use keep_names::{BlobId, BlobType, id_of};
+use keep_names::{BlobId, BlobType, Id, id_of};
 
 /// A blob that waits to be stored, under its own name.
 #[derive(Drop)]
@@ -15,6 +15,7 @@ pub(crate) struct HeldBlob {
 
 impl HeldBlob {
     ghost use Rattle.keep_archive.specs.Archive.{held_view};
+    ghost use Rattle.keep_archive.specs.Steps.{piece as piece_data};
     ghost use Rattle.keep_build.specs.Blobs.{blob_id_of};
 
     /// The blob of these bytes. They are hashed here, and never again.
@@ -26,6 +27,21 @@ impl HeldBlob {
         let id = id_of(bytes.as_slice());
         HeldBlob {
             blob: BlobId { id, blob_type },
+            bytes,
+        }
+    }
+
+    /// The piece of a file that has this id.
+    pub(crate) fn piece(id: Id, bytes: Vec<u8>) -> HeldBlob
+        requires own { id.0 ≡ sha256 bytes.items }
+        requires fits { is_full (piece_data bytes.items) ≡ false }
+        ensures { held_view result ≡ piece_data bytes.items }
+    {
+        HeldBlob {
+            blob: BlobId {
+                id,
+                blob_type: BlobType::Content,
+            },
             bytes,
         }
     }

@@ -9,12 +9,14 @@ mod backup_law;
 mod begun_file;
 mod blobs;
 mod carried;
+mod cut_bytes;
 mod folder;
 mod going;
 mod held;
 mod not_planned;
 mod open_folders;
 mod part_storing;
+mod pieces;
 
 pub use archive::Archive;
 pub use backup_law::archives_plan_backups;

@@ -34,7 +34,8 @@ impl<B: Begun, K: Keeps, H: Hashing + Copy> Receives for Intake<'_, '_, B, K, H>
     }
 
     fn write(&mut self, bytes: &[u8]) -> Result<(), Stop> {
-        let done = self.archive.write(bytes);
+        let mut hashing = self.lent.hashing;
+        let done = self.archive.write(bytes, &mut hashing);
         self.told(done)
     }
 

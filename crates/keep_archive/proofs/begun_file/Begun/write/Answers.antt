@@ -1,15 +1,31 @@
-use Rattle.std.proofs.Common.{List, ℕ, take, subst}
-use Rattle.keep_archive.specs.Archive.{begun_view, blobs_view}
-use Rattle.keep_archive.specs.Steps.{Writes}
-use Rattle.keep_archive.proofs.Cuts.{both_written}
+use Rattle.std.proofs.Common.{◌≡◌, ℕ, false, ap, ◌∙◌, arith}
+use Rattle.std.specs.Global.{Vec}
+use Rattle.std.proofs.lemmas.List.Elements.{All-from_recursion}
+use Rattle.keep_build.specs.Blobs.{is_full}
+use Rattle.keep_archive.specs.Cutting.{pieces_in}
+use Rattle.keep_archive.specs.Steps.{piece}
+use Rattle.keep_archive.proofs.Cuts.{cut_behind, none_full}
 use Rattle.keep_archive.proofs.begun_file.Begun.write.Goals as goal
 
-pub loop-start-preserved : goal.loop-start-preserved
-loop-start-preserved c =
-    let W : List ℕ → Type 0 = λ bytes. Writes bytes (begun_view c.args.self) (begun_view c.in_ok-next.next) (blobs_view c.args.blobs) (blobs_view c.in_ok-next.held) in
+pub hold_pieces-requires : goal.hold_pieces-requires
+hold_pieces-requires g c =
+    let file = c.args.self in
+    let made = c.in_ok-cut.field-0 in
+    let cut_so = cut_behind file.cut.bytes c.args.bytes.now file.rest.items c.of.result made (ap (λ cut. cut.bytes) c.of.ensures.cut) c.of.ensures.whole
+    (ap (λ rest. rest.items) c.of.ensures.rest) (omega (arith, file.short, file.rest.ok.0)) c.in_ok-cut.ensures in
+    All-from_recursion (λ (x : Vec ℕ). is_full (piece x.items) ≡ false) made.whole.items
+    (none_full file.cut.bytes made.whole.items file.cut.in_range.1 cut_so.each)
+
+pub returns : goal.returns
+returns g c =
+    let file = c.args.self in
+    let made = c.in_ok-cut.field-0 in
+    let cut_so = cut_behind file.cut.bytes c.args.bytes.now file.rest.items c.of.result made (ap (λ cut. cut.bytes) c.of.ensures.cut) c.of.ensures.whole
+    (ap (λ rest. rest.items) c.of.ensures.rest) (omega (arith, file.short, file.rest.ok.0)) c.in_ok-cut.ensures in
     record {
-      within = c.part_from-front.ensures.within;
-      writes = subst W c.part_from-front.ensures.front
-          (both_written (take c.loop-start.start c.args.bytes.now) c.part_from-front.result.now (begun_view c.args.self) (begun_view c.loop-start.begun) (begun_view c.in_ok-next.next)
-          (blobs_view c.args.blobs) (blobs_view c.loop-start.blobs) (blobs_view c.in_ok-next.held) c.loop-start.invariant.writes c.in_ok-next.ensures);
+      pieces = pieces_in made.whole.items;
+      cut_so = cut_so;
+      cut = c.in_ok-cut.ensures.cut ∙ ap (λ cut. cut.bytes) c.of.ensures.cut;
+      content = c.in_ok-blobs.ensures.content;
+      holds = c.in_ok-blobs.ensures.held;
     }

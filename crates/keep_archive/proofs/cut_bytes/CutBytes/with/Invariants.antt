@@ -1,7 +1,6 @@
 use Rattle.std.proofs.Common.{◌≤◌, ◌-◌, length, take}
-use Rattle.keep_archive.specs.Archive.{begun_view, blobs_view}
-use Rattle.keep_archive.specs.Steps.{Writes}
-use Rattle.keep_archive.proofs.begun_file.Begun.write.Given as goal
+use Rattle.keep_archive.specs.Cutting.{CutsOn}
+use Rattle.keep_archive.proofs.cut_bytes.CutBytes.with.Given as goal
 
 abbrev pub decreases-loop-start : goal.decreases-loop-start
 decreases-loop-start l = length l.bytes - l.start
@@ -9,5 +8,5 @@ decreases-loop-start l = length l.bytes - l.start
 abbrev pub invariant-loop-start : goal.invariant-loop-start
 invariant-loop-start l = record {
   within : l.start ≤ length l.bytes;
-  writes : Writes (take l.start l.bytes) (begun_view l.fn.self) (begun_view l.begun) (blobs_view l.fn.blobs) (blobs_view l.blobs);
+  cuts : CutsOn (take l.start l.bytes) l.fn.self l.done;
 }
