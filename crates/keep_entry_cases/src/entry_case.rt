@@ -1,4 +1,5 @@
 use crate::facets::facets;
+use crate::held::is_read_alike;
 use crate::mixing::{cuts, mixed};
 use crate::no_entry::No;
 use crate::told_entry::tell;
@@ -55,11 +56,11 @@ fn answer_bytes(alloc: Global, word: &str, number: &str, bytes: &[u8]) -> Result
 fn told(alloc: Global, number: u64, bytes: &[u8]) -> Result<String, No> {
     let entry = read_entry(alloc, number, bytes)?;
     let mut told = tell(alloc, &entry)?;
-    told.push_str(if is_same(alloc, &entry, bytes)? {
-        " same"
-    } else {
-        " anew"
-    })?;
+    let is_same = is_same(alloc, &entry, bytes)?;
+    told.push_str(if is_same { " same" } else { " anew" })?;
+    if !is_read_alike(alloc, &entry, bytes, is_same)? {
+        told.push_str(", and otherwise where its files are held")?;
+    }
     Ok(told)
 }
 

@@ -3,6 +3,7 @@
 
 mod entry_case;
 mod facets;
+mod held;
 mod mixing;
 mod no_entry;
 mod told_entry;
