@@ -94,6 +94,14 @@ impl Shelf for NamedShelf<'_> {
         }
     }
 
+    /// What is in memory alone isn't opened again, so its entries are let go too.
+    fn let_go(&mut self, key: Key) {
+        match self {
+            NamedShelf::Memory(shelf) => shelf.let_text_go(key),
+            NamedShelf::Folder(shelf) => shelf.let_go(key),
+        }
+    }
+
     fn is_told(&self) -> bool {
         match self {
             NamedShelf::Memory(shelf) => shelf.is_told(),

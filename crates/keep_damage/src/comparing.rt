@@ -1,4 +1,4 @@
-ghost use Rattle.std.specs.Prelude.{◌≡◌, ◌++◌, [], IfOk, OnOk, filter, is_none, option_copied};
+ghost use Rattle.std.specs.Prelude.{◌≡◌, ◌++◌, [], IfOk, OnOk, filter, is_none};
 ghost use Rattle.std.specs.FinMap as map;
 ghost use Rattle.keep_damage.specs.Compared.{difference_at, difference_between, keys_of_both, noted, topped};
 
@@ -25,7 +25,7 @@ pub(crate) fn compare(
     let keys = keys_of_both(there, asked)?;
     let mut found = Vec::new(alloc);
     for key in &keys {
-        note(&mut found, difference_at(history, there, asked, *key))?;
+        note(&mut found, difference_at(history, there, asked, *key)?)?;
     }
     Ok(found)
 }
@@ -57,27 +57,31 @@ pub(crate) fn note(found: &mut Vec<Finding>, finding: Option<Finding>) -> Result
 }
 
 /// What is wrong with what stands under the key, if it is a file's.
-fn difference_at(history: &History, there: &Stock, asked: &Stock, key: Key) -> Option<Finding>
-    ensures { result ≡ difference_at history.now.journal there.now asked.now key }
+fn difference_at(
+    history: &History,
+    there: &Stock,
+    asked: &Stock,
+    key: Key,
+) -> Result<Option<Finding>, AllocError>
+    ensures { IfOk result (λ finding. finding ≡ difference_at history.now.journal there.now asked.now key) }
 {
     match key {
-        Key::Entry(_) => None,
-        Key::Live(_) | Key::Trash(_, _) => difference_between(
-            history,
-            key,
-            there.get(key),
-            asked.get(key),
-        ),
+        Key::Entry(_) => Ok(None),
+        Key::Live(_) | Key::Trash(_, _) => {
+            let held = there.shared(key)?;
+            let others = asked.shared(key)?;
+            Ok(difference_between(history, key, &held, &others))
+        }
     }
 }
 
 fn difference_between(
     history: &History,
     key: Key,
-    there: Option<&Bytes>,
-    asked: Option<&Bytes>,
+    there: &Option<Bytes>,
+    asked: &Option<Bytes>,
 ) -> Option<Finding>
-    ensures { result ≡ difference_between history.now.journal key (option_copied there.entry) (option_copied asked.entry) }
+    ensures { result ≡ difference_between history.now.journal key there.now asked.now }
 {
     match (there, asked) {
         (Some(bytes), Some(others)) if bytes.as_slice() == others.as_slice() => None,

@@ -63,4 +63,8 @@ impl<R: Files<File = File> + Alloc<A = Global> + Clone + Drop> FileTree for Disk
         let disk = &mut self.disk;
         self.image.sync_folder_with(path, || disk.sync_folder(path))
     }
+
+    fn let_go(&mut self, path: &str) {
+        self.image.let_go(path);
+    }
 }

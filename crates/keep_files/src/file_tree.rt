@@ -77,4 +77,10 @@ pub trait FileTree: Drop {
         ensures ok { OnOk result (seen self.new ≡ done (seen self.old) (Synced path.now)) }
         ensures err { OnErr result (seen self.new ≡ failed (seen self.old)) }
         ensures told { result ≢ Err the_error.Unknown };
+
+    /// Says that nobody here reads the file at the path any more, so that its memory can be given back. The file stays, and a
+    /// later read of it may fail.
+    fn let_go(&mut self, _path: &str)
+        ensures { seen self.new ≡ seen self.old }
+    {}
 }

@@ -47,4 +47,8 @@ impl FileTree for HostTree<'_> {
     fn sync_folder(&mut self, path: &str) -> Result<(), TreeError> {
         self.tree.sync_folder(path)
     }
+
+    fn let_go(&mut self, path: &str) {
+        self.tree.let_go(path);
+    }
 }

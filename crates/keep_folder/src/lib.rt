@@ -4,7 +4,6 @@
 
 mod begin_error;
 mod beginning;
-mod content;
 mod host;
 mod new_config;
 mod not_opened;

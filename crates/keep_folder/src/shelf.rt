@@ -6,7 +6,6 @@ ghost use Rattle.keep_keyed_folder.specs.Tmp.{IsTmp};
 ghost use Rattle.keep_files.specs.declared.tree_error.TreeError.TheVariants.{Broken};
 ghost use Rattle.keep_shelf.specs.Shelved.{called, failed, shifted, stocked};
 
-use crate::content::put_back;
 use crate::not_opened::NotOpened;
 use keep_files::{FileTree, TreeError};
 use keep_keyed_folder::{KeyPath, KeyedFolder, read_keys};
@@ -126,7 +125,7 @@ impl<T: FileTree> FolderShelf<T> {
         let path = KeyPath::new(self.alloc, key)?;
         let was = self.content.write(key, bytes.clone()?)?;
         if let Err(error) = self.folder.put(&path, bytes) {
-            put_back(&mut self.content, key, was);
+            self.content.put_back(key, was);
             self.is_told = is_told_by(error);
             return Err(Fault);
         }
@@ -152,7 +151,7 @@ impl<T: FileTree> FolderShelf<T> {
         };
         self.content.write(to, bytes)?;
         if let Err(error) = self.folder.shift(&source, &target) {
-            put_back(&mut self.content, to, None);
+            self.content.put_back(to, None);
             self.is_told = is_told_by(error);
             return Err(Fault);
         }
@@ -273,6 +272,16 @@ impl<T: FileTree> Shelf for FolderShelf<T> {
         match self.try_list() {
             Ok(keys) => Ok(keys),
             Err(Fault) => Err(self.fail()),
+        }
+    }
+
+    fn let_go(&mut self, key: Key)
+        ensures same { self.new.shelved ≡ self.old.shelved }
+        ensures told { self.new.is_told ≡ self.old.is_told }
+    {
+        self.content.let_go(key);
+        if let Ok(path) = KeyPath::new(self.alloc, key) {
+            self.folder.let_go(&path);
         }
     }
 

@@ -5,8 +5,7 @@ ghost use Rattle.keep_keyed_folder.specs.Walked.{IsOnTheWay, IsOpened, IsOrderly
 
 use keep_files::{FileTree, Node, TreeError};
 use keep_paths::{holds_keys, key_is_sized, key_of_path};
-use keep_repo::Bytes;
-use keep_shelf::Stock;
+use keep_shelf::{LooseBytes, Stock};
 use std::alloc::Global;
 
 /// How many paths are looked at, at most. A tree that has more is given up.
@@ -74,7 +73,7 @@ fn take_folder<T: FileTree>(
 }
 
 /// Notes the bytes of a key's file, and passes another file over.
-fn take_file(found: &mut Stock, path: &str, bytes: &Bytes) -> Result<(), TreeError>
+fn take_file(found: &mut Stock, path: &str, bytes: &LooseBytes) -> Result<(), TreeError>
     ensures { OnOk result (IsRead path.now bytes.now found.old found.new) }
 {
     if holds_keys(path) {
@@ -84,6 +83,6 @@ fn take_file(found: &mut Stock, path: &str, bytes: &Bytes) -> Result<(), TreeErr
         return Ok(());
     };
     key_is_sized(key);
-    found.write(key, bytes.clone()?)?;
+    found.write(key, bytes.shared()?)?;
     Ok(())
 }

@@ -150,6 +150,15 @@ impl<T: FileTree> KeyedFolder<T> {
         self.files.heed(done)
     }
 
+    /// Gives back the memory of the key's file. The file stays, and a later read of it may fail.
+    pub fn let_go(&mut self, path: &KeyPath)
+        ensures seen { seen_in T.seen self.new ≡ seen_in T.seen self.old }
+        ensures sound { is_sound_in self.new ≡ is_sound_in self.old }
+        ensures tmp { tmp_in self.new ≡ tmp_in self.old }
+    {
+        self.files.tree.let_go(path.as_str());
+    }
+
     /// Takes away what earlier runs left under way: files at the root that are called `tmp`, or by `tmp-` and more.
     pub fn clear_leftovers(&mut self) -> Result<(), TreeError>
         requires { IsClosed (stands_in T.seen self.old) }

@@ -251,4 +251,8 @@ impl<T: FileTree> FileTree for FailingTree<T> {
             },
         }
     }
+
+    fn let_go(&mut self, path: &str) {
+        self.inner.let_go(path);
+    }
 }

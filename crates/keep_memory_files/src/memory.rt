@@ -105,4 +105,8 @@ impl FileTree for MemoryTree {
     fn sync_folder(&mut self, path: &str) -> Result<(), TreeError> {
         self.sync_folder_with(path, || Ok(()))
     }
+
+    fn let_go(&mut self, path: &str) {
+        self.let_go_at(path);
+    }
 }

@@ -43,8 +43,8 @@ fn push_leaf<H: Hashing>(
         × (leaves.new.items ≡ leaves.old.items ++ more) × AreUnder (map.get stock.now) key more) }
 {
     if let Key::Entry(k) = key {
-        if let Some(bytes) = stock.get(key) {
-            leaves.push(leaf_of(alloc, held, hashing, k, bytes)?)?;
+        if let Some(bytes) = stock.shared(key)? {
+            leaves.push(leaf_of(alloc, held, hashing, k, &bytes)?)?;
         }
     }
     Ok(())

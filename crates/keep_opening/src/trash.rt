@@ -85,36 +85,40 @@ pub(crate) fn agree(one: &Stock, other: &Stock) -> Result<bool, AllocError>
 {
     let keys = one.keys()?;
     let others = other.keys()?;
-    Ok(agree_at(one, other, keys.as_slice()) && agree_at(one, other, others.as_slice()))
+    let first = agree_at(one, other, keys.as_slice())?;
+    let second = agree_at(one, other, others.as_slice())?;
+    Ok(first && second)
 }
 
 ghost use Rattle.std.specs.List.{list_all};
 ghost use Rattle.keep_opening.specs.Wanted.{is_same_at, same_bytes};
 
-fn agree_at(one: &Stock, other: &Stock, keys: &[Key]) -> bool
-    ensures { result ≡ list_all (is_same_at one.now other.now) keys.now }
+fn agree_at(one: &Stock, other: &Stock, keys: &[Key]) -> Result<bool, AllocError>
+    ensures { IfOk result (λ same. same ≡ list_all (is_same_at one.now other.now) keys.now) }
 {
     for key in keys {
-        if !is_same(one, other, *key) {
-            return false;
+        if !is_same(one, other, *key)? {
+            return Ok(false);
         }
     }
-    true
+    Ok(true)
 }
 
-fn is_same(one: &Stock, other: &Stock, key: Key) -> bool
-    ensures { result ≡ is_same_at one.now other.now key }
+fn is_same(one: &Stock, other: &Stock, key: Key) -> Result<bool, AllocError>
+    ensures { IfOk result (λ same. same ≡ is_same_at one.now other.now key) }
 {
     match key {
-        Key::Entry(_) => true,
-        Key::Live(_) | Key::Trash(_, _) => hold_same(one.get(key), other.get(key)),
+        Key::Entry(_) => Ok(true),
+        Key::Live(_) | Key::Trash(_, _) => {
+            let held = one.shared(key)?;
+            let others = other.shared(key)?;
+            Ok(hold_same(&held, &others))
+        }
     }
 }
 
-ghost use Rattle.std.specs.Prelude.{option_copied};
-
-fn hold_same(one: Option<&Bytes>, other: Option<&Bytes>) -> bool
-    ensures { result ≡ same_bytes (option_copied one.entry) (option_copied other.entry) }
+fn hold_same(one: &Option<Bytes>, other: &Option<Bytes>) -> bool
+    ensures { result ≡ same_bytes one.now other.now }
 {
     match (one, other) {
         (Some(bytes), Some(others)) => bytes.as_slice() == others.as_slice(),

@@ -24,8 +24,8 @@ fn shelf_of(alloc: Global, stock: &Stock, keys: &[Key]) -> Result<MemoryShelf, O
 {
     let mut copy = MemoryShelf::new(alloc);
     for key in keys {
-        if let Some(bytes) = stock.get(*key) {
-            if let Err(Fault) = copy.write(*key, bytes) {
+        if let Some(bytes) = stock.shared(*key)? {
+            if let Err(Fault) = copy.write(*key, &bytes) {
                 return Err(OpenError::Memory);
             }
         }

@@ -168,6 +168,10 @@ impl<S: Shelf> Shelf for FailingShelf<S> {
         }
     }
 
+    fn let_go(&mut self, key: Key) {
+        self.inner.let_go(key);
+    }
+
     fn is_told(&self) -> bool {
         self.inner.is_told()
     }

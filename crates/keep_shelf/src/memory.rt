@@ -71,6 +71,14 @@ impl MemoryShelf {
         Ok(MemoryShelf::over(self.content.copy()?))
     }
 
+    /// Gives back the memory of an entry's text. By itself a shelf in memory lets nothing go, so that a copy of it can be
+    /// opened; whoever opens none may ask for it.
+    pub fn let_text_go(&mut self, key: Key)
+        ensures { self.new ≡ self.old }
+    {
+        self.content.let_go(key);
+    }
+
     /// A new shelf with this on it.
     fn over(content: Stock) -> MemoryShelf
         ensures { result ≡ stocked content }

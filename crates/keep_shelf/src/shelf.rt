@@ -65,6 +65,12 @@ pub trait Shelf: Drop {
             (shelved self.new ≡ called (shelved self.old) (shelved self.old).content) }
         ensures err { OnErr result (shelved self.new ≡ failed (shelved self.old)) };
 
+    /// Says that nobody here reads the entry under the key any more, so that its memory can be given back. What is under
+    /// the key stays there. A later read of it may fail.
+    fn let_go(&mut self, _key: Key)
+        ensures { shelved self.new ≡ shelved self.old }
+    {}
+
     /// Whether it is known of each call that failed that it wasn't done. Where it isn't, as behind a network that was
     /// cut, what stands there isn't known before the shelf is opened anew.
     fn is_told(&self) -> bool {

@@ -3,6 +3,7 @@ ghost use Rattle.std.specs.FinMap as map;
 ghost use Rattle.keep_shelf.specs.Shelved.{Content, shifted};
 
 use crate::key::Key;
+use crate::loose_bytes::LooseBytes;
 use indexmap::IndexMap;
 use keep_repo::Bytes;
 use std::alloc::{AllocError, Global};
@@ -11,13 +12,14 @@ use std::marker::Model;
 
 /// Bytes by key, in memory. Files are found by the key's hash, and entries by their number.
 ///
-/// Entries are as many as events, and would make the table of the files' hashes large: they stand apart from it.
+/// Entries are as many as events, and would make the table of the files' hashes large: they stand apart from it. The
+/// memory of an entry's text can be given back.
 pub struct Stock {
     alloc: Global,
     /// Live files and the trash.
-    files: IndexMap<Key, Bytes>,
+    files: IndexMap<Key, LooseBytes>,
     /// Entries by number.
-    entries: BTreeMap<u64, Bytes>,
+    entries: BTreeMap<u64, LooseBytes>,
 }
 
 impl Model for Stock {
@@ -68,7 +70,7 @@ impl Stock {
     }
 
     /// What is under the key, lent.
-    pub fn get(&self, key: Key) -> Option<&Bytes>
+    pub fn get(&self, key: Key) -> Option<&LooseBytes>
         ensures { option_copied result ≡ map.get self.now key }
     {
         match key {
@@ -77,13 +79,36 @@ impl Stock {
         }
     }
 
-    /// What is under the key, with another holder.
+    /// What is under the key, with another holder. An entry's text that was let go is in memory no more: it is answered
+    /// as memory that is wanting.
     pub fn shared(&self, key: Key) -> Result<Option<Bytes>, AllocError>
+        ensures { IfOk result (λ found. found ≡ map.get self.now key) }
+    {
+        match self.get(key) {
+            Some(bytes) => Ok(Some(bytes.shared()?)),
+            None => Ok(None),
+        }
+    }
+
+    /// What is under the key, with another holder, be it let go or not.
+    fn held(&self, key: Key) -> Result<Option<LooseBytes>, AllocError>
         ensures { IfOk result (λ found. found ≡ map.get self.now key) }
     {
         match self.get(key) {
             Some(bytes) => Ok(Some(bytes.clone()?)),
             None => Ok(None),
+        }
+    }
+
+    /// Gives back the memory of an entry's text, which is still under the key: it can be moved and erased, and no more be
+    /// read. Of files nothing is let go.
+    pub fn let_go(&mut self, key: Key)
+        ensures { self.new ≡ self.old }
+    {
+        if let Key::Entry(at) = key {
+            if let Some(text) = self.entries.get_mut(&at) {
+                text.let_go();
+            }
         }
     }
 
@@ -100,7 +125,17 @@ impl Stock {
     /// Puts the bytes under the key, and answers what was there.
     ///
     /// In the place of others they take no memory, and else they may take memory for more places.
-    pub fn write(&mut self, key: Key, bytes: Bytes) -> Result<Option<Bytes>, AllocError>
+    pub fn write(&mut self, key: Key, bytes: Bytes) -> Result<Option<LooseBytes>, AllocError>
+        ensures was { IfOk result (λ was. was ≡ map.get self.old key) }
+        ensures ok { OnOk result (self.new ≡ map.insert self.old key bytes) }
+        ensures err { OnErr result (self.new ≡ self.old) }
+        ensures absent { OnErr result (map.get self.old key ≡ None) }
+    {
+        self.put(key, LooseBytes::new(bytes))
+    }
+
+    /// As `write` does, also of what was let go.
+    fn put(&mut self, key: Key, bytes: LooseBytes) -> Result<Option<LooseBytes>, AllocError>
         ensures was { IfOk result (λ was. was ≡ map.get self.old key) }
         ensures ok { OnOk result (self.new ≡ map.insert self.old key bytes) }
         ensures err { OnErr result (self.new ≡ self.old) }
@@ -113,13 +148,13 @@ impl Stock {
     }
 
     /// Takes back that bytes were put under the key, where this was there before.
-    pub(crate) fn put_back(&mut self, key: Key, was: Option<Bytes>)
+    pub fn put_back(&mut self, key: Key, was: Option<LooseBytes>)
         ensures { (before : Content) (put : List ℕ) → map.get before key ≡ was
             → self.old ≡ map.insert before key put → self.new ≡ before }
     {
         match was {
             Some(bytes) => {
-                let _ = self.write(key, bytes);
+                let _ = self.put(key, bytes);
             }
             None => self.erase(key),
         }
@@ -131,8 +166,8 @@ impl Stock {
         ensures ok { OnOk result (self.new ≡ shifted self.old from to) }
         ensures err { OnErr result (self.new ≡ self.old) }
     {
-        if let Some(bytes) = self.shared(from)? {
-            self.write(to, bytes)?;
+        if let Some(bytes) = self.held(from)? {
+            self.put(to, bytes)?;
             self.erase(from);
         }
         Ok(())

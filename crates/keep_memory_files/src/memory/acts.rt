@@ -7,6 +7,7 @@ use super::MemoryTree;
 use crate::done_act::DoneAct;
 use keep_files::{Node, TreeError};
 use keep_repo::Bytes;
+use keep_shelf::LooseBytes;
 use std::alloc::AllocError;
 
 impl MemoryTree {
@@ -26,7 +27,7 @@ impl MemoryTree {
         ensures err { OnErr result (seen_in self.new ≡ seen_in self.old) }
     {
         let deed = DoneAct::Write(String::from_str(self.alloc, path)?, bytes.clone()?);
-        let node = Node::File(bytes.clone()?);
+        let node = Node::File(LooseBytes::new(bytes.clone()?));
         self.add(path, node, &deed, store)
     }
 
