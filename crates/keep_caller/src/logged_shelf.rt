@@ -52,4 +52,8 @@ impl Shelf for LoggedShelf<'_> {
     fn list(&mut self) -> Result<Vec<Key>, Fault> {
         self.within.list()
     }
+
+    fn let_go(&mut self, key: Key) {
+        self.within.let_go(key);
+    }
 }
