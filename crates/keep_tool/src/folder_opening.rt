@@ -1,6 +1,7 @@
 use crate::answer::answer;
 use keep_book::Book;
 use keep_catalog::Hashing;
+use keep_command::NamedShelf;
 use keep_disk::FolderError;
 use keep_folder::FolderShelf;
 use keep_openings::{CountedTree, Unopened, copied, open_counted, refusal_of};
@@ -29,7 +30,7 @@ pub(crate) fn over_folder<H: Hashing + Copy>(
     let copy = copied(run.alloc, &mut shelf);
     drop(shelf);
     match copy {
-        Ok(copy) => over_shelf(run, hashing, &files, copy, command),
+        Ok(copy) => over_shelf(run, hashing, &files, NamedShelf::Memory(copy), command),
         Err(error) => Err(unopened(run, &Unopened::Unread(error))),
     }
 }
