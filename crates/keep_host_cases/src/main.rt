@@ -1,4 +1,5 @@
-//! Gives what lies in a folder beside the program to a printer, and says what the machine says of itself.
+//! Gives what lies in a folder beside the program to a printer, and says what the machine says of itself. The stored
+//! answers are written by hand, of what `data/` has.
 #![tactic(auto)]
 
 mod host_events;

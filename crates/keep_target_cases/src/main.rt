@@ -1,5 +1,5 @@
 //! Reads a table of restores, one a line, puts each into a folder in memory, and answers what is there then and what is
-//! told.
+//! told. The stored answers are written by hand.
 #![tactic(auto)]
 
 mod case_fields;
