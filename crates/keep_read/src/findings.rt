@@ -1,13 +1,12 @@
 ghost use Rattle.std.specs.Prelude.{◌≡◌, ◌++◌, IfOk, OnOk, map};
-ghost use Rattle.keep_read.specs.Findings as spec;
-ghost use Rattle.keep_read.specs.Findings.{findings_in, misnamed_in};
-ghost use Rattle.keep_read.specs.declared.finding.Finding.TheVariants.{Broken, Unreadable, WrongBlob, WrongName};
+ghost use Rattle.keep_read.specs.Findings.{findings_in};
+ghost use Rattle.keep_read.specs.declared.finding.Finding.TheVariants.{Broken, Unreadable, WrongBlob};
 
 use crate::finding::Finding;
-use keep_catalog::{ReachError, Unread};
-use keep_names::{BlobId, FileName, Id, id_of};
+use crate::wrong_names::wrong_names;
+use keep_catalog::{Hashing, OneByOne, ReachError, Unread};
+use keep_names::{BlobId, Id};
 use keep_reach::broken;
-use keep_repo::Repo;
 use keep_view::View;
 use std::alloc::{AllocError, Global};
 
@@ -18,7 +17,18 @@ use std::alloc::{AllocError, Global};
 pub fn audit(alloc: Global, view: &View) -> Result<Vec<Finding>, AllocError>
     ensures { IfOk result (λ findings. findings.items ≡ findings_in view.now.repo) }
 {
-    let mut findings = wrong_names(alloc, view.repo())?;
+    audit_with(alloc, view, &mut OneByOne)
+}
+
+/// All that is wrong, as `audit` finds it. Files are handed in to be hashed, many at a time.
+pub fn audit_with<H: Hashing>(
+    alloc: Global,
+    view: &View,
+    hashing: &mut H,
+) -> Result<Vec<Finding>, AllocError>
+    ensures { IfOk result (λ findings. findings.items ≡ findings_in view.now.repo) }
+{
+    let mut findings = wrong_names(alloc, view.repo(), hashing)?;
     let catalog = view.read_past(alloc)?;
     let unread = catalog.unread(alloc)?;
     add_unread(&mut findings, &unread)?;
@@ -27,28 +37,6 @@ pub fn audit(alloc: Global, view: &View) -> Result<Vec<Finding>, AllocError>
     let broken = broken(alloc, &catalog)?;
     add_broken(&mut findings, &broken)?;
     Ok(findings)
-}
-
-/// The files whose bytes have another SHA-256.
-fn wrong_names(alloc: Global, repo: &Repo) -> Result<Vec<Finding>, AllocError>
-    ensures { IfOk result (λ findings. findings.items ≡ map WrongName (misnamed_in repo.now)) }
-{
-    let (names, _packs) = repo.list()?;
-    names
-        .iter()
-        .filter(|name| is_misnamed(repo, **name))
-        .map(|name| Finding::WrongName(*name))
-        .collect(alloc)
-}
-
-/// Whether the file is there and its bytes have another SHA-256.
-fn is_misnamed(repo: &Repo, name: FileName) -> bool
-    ensures { result ≡ spec.is_misnamed repo.now name }
-{
-    match repo.get(name) {
-        Some(bytes) => id_of(bytes.as_slice()) != name.id,
-        None => false,
-    }
 }
 
 fn add_unread(findings: &mut Vec<Finding>, unread: &[Unread]) -> Result<(), AllocError>

@@ -10,9 +10,10 @@ mod restoration;
 mod restore_error;
 mod restore_laws;
 mod restored;
+mod wrong_names;
 
 pub use finding::Finding;
-pub use findings::audit;
+pub use findings::{audit, audit_with};
 pub use restoration::restore;
 pub use restore_error::RestoreError;
 pub use restore_laws::{paths_are_apart, sound_repositories_lose_no_blob};

@@ -4,10 +4,10 @@ use Rattle.keep_reach.specs.Snapshots.{broken_in}
 use Rattle.keep_catalog.specs.Wrong.{wrong_blobs_in}
 use Rattle.keep_read.specs.Findings.{misnamed_in}
 use Rattle.keep_read.specs.declared.finding.Finding.TheVariants.{Broken, Unreadable, WrongBlob, WrongName}
-use Rattle.keep_read.proofs.findings.audit.Goals as goal
+use Rattle.keep_read.proofs.findings.audit_with.Goals as goal
 
 pub returns : goal.returns
-returns c =
+returns g c =
     let r = c.args.view.now.repo in
     let unread : c.add_unread.new.findings.items ≡ map WrongName (misnamed_in r) ++ map Unreadable (unread_in r) =
     c.in_ok-add_unread.ensures
