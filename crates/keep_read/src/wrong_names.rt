@@ -14,8 +14,8 @@ use std::alloc::{AllocError, Global};
 /// So many files at most are hashed together.
 const MOST_FILES: usize = 4096;
 
-/// Of several files that are hashed together, so many bytes at most: 64 MiB.
-const MOST_BYTES: usize = 67_108_864;
+/// Of several files that are hashed together, so many bytes at most: 256 MiB.
+const MOST_BYTES: usize = 268_435_456;
 
 /// The files whose bytes have another SHA-256. They are hashed by this, many at a time.
 pub(crate) fn wrong_names<H: Hashing>(
