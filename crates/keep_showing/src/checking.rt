@@ -3,13 +3,13 @@ ghost use Rattle.keep_book.specs.Armed.{HasSums};
 use keep_book::Book;
 use keep_catalog::Hashing;
 use keep_names::Id;
-use keep_read::{Finding, audit};
+use keep_read::{Finding, audit_with};
 use keep_rows::FindingRow;
 use keep_run::{Failure, Run, print_rows};
 use keep_shelf::Shelf;
 
-/// `keep check`: all that is wrong. There is something where it fails. Blobs are hashed first, by this, which is let go
-/// before anything is printed.
+/// `keep check`: all that is wrong. There is something where it fails. Blobs are hashed first, and then files, by this,
+/// which is let go before anything is printed.
 pub fn check<S: Shelf, H: Hashing + Drop>(
     run: &Run<'_>,
     book: &mut Book<S>,
@@ -18,8 +18,8 @@ pub fn check<S: Shelf, H: Hashing + Drop>(
     requires { HasSums book.old }
 {
     book.hash_all(&mut hashing);
+    let findings = audit_with(run.alloc, &book.ledger().view(), &mut hashing)?;
     drop(hashing);
-    let findings = audit(run.alloc, &book.ledger().view())?;
     let mut rows = Vec::new(run.alloc);
     for finding in &findings {
         rows.push(row_of(run, *finding)?)?;

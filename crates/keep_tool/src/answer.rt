@@ -77,7 +77,7 @@ fn hash_first<S: Shelf, H: Hashing + Copy>(
         } => "list",
         _ => return,
     };
-    book.hash_all(&mut CountedHashing::new(run.rt, hashing, verb));
+    book.hash_all(&mut CountedHashing::new(run.rt, hashing, verb, "blobs"));
 }
 
 /// The change that the command names, 0 where it names none.

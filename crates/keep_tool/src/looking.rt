@@ -21,7 +21,10 @@ pub(crate) fn look<S: Shelf, H: Hashing + Copy>(
     requires { HasSums book.old }
 {
     match command {
-        Command::Check { .. } => check(run, book, CountedHashing::new(run.rt, hashing, "check")),
+        Command::Check { .. } => {
+            let counted = CountedHashing::new(run.rt, hashing, "check", "blobs and files");
+            check(run, book, counted)
+        }
         Command::History { last } => history(run, book, *last),
         Command::Show { change } => show(run, book, *change),
         Command::Graph { change, dot } => graph(run, book, *change, *dot),
