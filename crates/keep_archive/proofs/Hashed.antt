@@ -1,10 +1,11 @@
 -- Pieces of a file that were hashed together.
-use Rattle.std.proofs.Common.{◌≡◌, ℕ, List, [], ◌∷◌, false, ap, drop, get_or, length, map, refl, arith}
+use Rattle.std.proofs.Common.{◌≡◌, ◌∙◌, ◌++◌, ◌-◌, ℕ, List, [], ◌∷◌, false, ap, drop, get_or, length, map, refl, sym, take, arith}
 use denote.Ref.{Bor}
 use Rattle.std.specs.Global.{Vec}
-use Rattle.std.specs.List.{AllByRecursion, zip}
+use Rattle.std.specs.List.{AllByRecursion, take-map, zip}
 use Rattle.std.specs.Prelude.{All}
-use Rattle.std.proofs.lemmas.List.{length-map}
+use Rattle.std.proofs.lemmas.List.{length-append, length-map, map-append}
+use Rattle.std.proofs.Math.Seq.{take-append_seam}
 use Rattle.std.proofs.lemmas.List.Elements.{All-from_recursion, recursion_from_All}
 use Rattle.keep_names.specs.Sha256.{sha256}
 use Rattle.keep_names.specs.declared.id.Id.{Id}
@@ -69,3 +70,18 @@ hashes_of (text ∷ texts) [] are =
     absurd (omega (arith, count, length-map (text ∷ texts) (λ (text : Bor (List ℕ)). text.now)))
 hashes_of (text ∷ texts) (p ∷ ps) are =
     (λ i. sha256 (ap (λ xs. get_or xs 0 []) are i) ∷ hashes_of texts ps (ap (drop 1) are) i)
+
+-- the ids of all but the last are those of the pieces, where that is the id of the bytes behind them
+pub ids_before : (n : ℕ) (all : List Id) (texts : List (Bor (List ℕ))) (rest : Bor (List ℕ)) (pieces : List (Vec ℕ)) → n ≡ length all
+    → map (λ (text : Bor (List ℕ)). text.now) texts ≡ map (λ (bytes : Vec ℕ). bytes.items) pieces
+    → map (λ (id : Id). id.0) all ≡ map (λ (text : Bor (List ℕ)). sha256 text.now) (texts ++ rest ∷ []) → AreOwn pieces (take (n - 1) all)
+ids_before n all texts rest pieces count lent are =
+    let hash : Bor (List ℕ) → List ℕ = λ (text : Bor (List ℕ)). sha256 text.now in
+    let hashes = map hash texts in
+    let most : length all ≡ length (texts ++ rest ∷ []) = sym (length-map all (λ (id : Id). id.0)) ∙ ap length are ∙ length-map (texts ++ rest ∷ []) hash in
+    let fewer : n - 1 ≡ length hashes = omega (arith, count, most, length-append texts (rest ∷ []), length-map texts hash) in
+    sym (take-map (λ (id : Id). id.0) (n - 1) all)
+    ∙ ap (take (n - 1)) (are ∙ map-append hash texts (rest ∷ []))
+    ∙ ap (λ k. take k (hashes ++ hash rest ∷ [])) fewer
+    ∙ take-append_seam hashes (hash rest ∷ [])
+    ∙ hashes_of texts pieces lent

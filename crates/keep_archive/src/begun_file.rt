@@ -1,13 +1,15 @@
-ghost use Rattle.std.specs.Prelude.{◌≡◌, ◌<◌};
+ghost use Rattle.std.specs.Prelude.{◌≡◌, ◌<◌, Some};
 ghost use Rattle.std.specs.Vec.{vec_len};
+ghost use Rattle.keep_names.specs.Sha256.{sha256};
+ghost use Rattle.keep_names.specs.declared.id.Id as the_id;
 
 use crate::blobs::Blobs;
 use crate::cut_bytes::CutBytes;
 use crate::held::HeldBlob;
-use crate::pieces::hold_pieces;
+use crate::pieces::{HashedPieces, hashed_pieces, hold_pieces};
 use keep_build::Cut;
 use keep_catalog::Hashing;
-use keep_names::{BlobType, Id};
+use keep_names::Id;
 use std::alloc::{AllocError, Global};
 
 /// The file that is being read.
@@ -18,7 +20,10 @@ pub(crate) struct Begun {
     pub(crate) content: Vec<Id>,
     /// Its bytes behind these.
     pub(crate) rest: Vec<u8>,
+    /// The SHA-256 of these, where it was made.
+    pub(crate) hash: Option<Id>,
     pub ghost short: { vec_len rest < cut.bytes },
+    pub ghost own: { (id : the_id.Id) → hash ≡ Some id → id.0 ≡ sha256 rest.items },
 }
 
 impl Begun {
@@ -36,10 +41,11 @@ impl Begun {
             cut,
             content: Vec::new(alloc),
             rest: Vec::new(alloc),
+            hash: None,
         }
     }
 
-    /// With more bytes of it. Pieces that are whole by them are hashed together.
+    /// With more bytes of it. Pieces that are whole by them are hashed together, and the bytes behind these with them.
     pub(crate) fn write<H: Hashing>(
         self,
         alloc: Global,
@@ -54,10 +60,18 @@ impl Begun {
             cut,
             mut content,
             rest,
+            hash: _,
         } = self;
         let CutBytes { cut, whole, rest } = CutBytes::of(alloc, cut, rest).with(alloc, bytes)?;
-        let blobs = hold_pieces(alloc, blobs, &mut content, whole, hashing)?;
-        Ok((Begun { cut, content, rest }, blobs))
+        let HashedPieces { ids, rest: hash } = hashed_pieces(alloc, &whole, &rest, hashing)?;
+        let blobs = hold_pieces(blobs, &mut content, whole, ids)?;
+        let begun = Begun {
+            cut,
+            content,
+            rest,
+            hash,
+        };
+        Ok((begun, blobs))
     }
 
     /// The pieces of the file that was read, and what is there afterwards.
@@ -75,12 +89,13 @@ impl Begun {
             cut,
             mut content,
             rest,
+            hash,
         } = self;
         let begun = Begun::new(alloc, cut);
         if rest.is_empty() {
             return Ok((content, begun, blobs));
         }
-        let held = HeldBlob::of(BlobType::Content, rest);
+        let held = HeldBlob::last_piece(rest, hash);
         content.push(held.blob.id)?;
         let blobs = blobs.hold(held)?;
         Ok((content, begun, blobs))

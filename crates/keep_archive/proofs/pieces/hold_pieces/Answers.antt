@@ -13,27 +13,24 @@ use Rattle.keep_archive.proofs.Hashed.{IsPiece, all_held, all_named, all_pieces,
 use Rattle.keep_archive.proofs.pieces.hold_pieces.Goals as goal
 
 pub piece-requires : goal.piece-requires
-piece-requires g c =
-    let turn = YieldsList-turn (YieldsList-from_zip (YieldsList-from_vec c.args.pieces.items (cc) (cc)) (YieldsList-from_vec c.in_ok-ids.ids.items (cc) (cc)))
+piece-requires c =
+    let turn = YieldsList-turn (YieldsList-from_zip (YieldsList-from_vec c.args.pieces.items (cc) (cc)) (YieldsList-from_vec c.args.ids.items (cc) (cc)))
     c.loop-bytes.yielded c.loop-bytes.bytes-iterator c.loop-bytes.yielded_by c.next.result c.next.new.self (c.in-Some.bytes, c.in-Some.id) c.in-Some.is c.next.ensures.steps in
-    let own = c.in_ok-ids.ensures ∙ ap (map (λ (bytes : Vec ℕ). sha256 bytes.items)) c.deref.ensures.value in
-    let so = subst IsPiece (sym turn.1) (All-get_or IsPiece _ _ _ turn.0 (all_pieces c.args.pieces.items c.in_ok-ids.ids.items own c.requires)) in
+    let so = subst IsPiece (sym turn.1) (All-get_or IsPiece _ _ _ turn.0 (all_pieces c.args.pieces.items c.args.ids.items c.requires.own c.requires.fits)) in
     record { own = so.0; fits = so.1 }
 
 pub returns-clause-content : goal.returns-clause-content
-returns-clause-content g c =
-    let all = YieldsList-end (YieldsList-from_zip (YieldsList-from_vec c.args.pieces.items (cc) (cc)) (YieldsList-from_vec c.in_ok-ids.ids.items (cc) (cc)))
+returns-clause-content c =
+    let all = YieldsList-end (YieldsList-from_zip (YieldsList-from_vec c.args.pieces.items (cc) (cc)) (YieldsList-from_vec c.args.ids.items (cc) (cc)))
     c.loop-bytes.yielded c.loop-bytes.bytes-iterator c.loop-bytes.yielded_by c.next.result c.next.new.self c.in-None.is c.next.ensures.steps in
-    let own = c.in_ok-ids.ensures ∙ ap (map (λ (bytes : Vec ℕ). sha256 bytes.items)) c.deref.ensures.value in
     c.loop-bytes.invariant.2
     ∙ ap (λ given. c.args.content.now.items ++ map (λ (given : Vec ℕ × Id). given.1) given) (sym (map-id c.loop-bytes.yielded) ∙ all.0)
-    ∙ ap (λ ids. c.args.content.now.items ++ ids) (all_named c.args.pieces.items c.in_ok-ids.ids.items own)
+    ∙ ap (λ ids. c.args.content.now.items ++ ids) (all_named c.args.pieces.items c.args.ids.items c.requires.own)
 
 pub returns-clause-held : goal.returns-clause-held
-returns-clause-held g c =
-    let all = YieldsList-end (YieldsList-from_zip (YieldsList-from_vec c.args.pieces.items (cc) (cc)) (YieldsList-from_vec c.in_ok-ids.ids.items (cc) (cc)))
+returns-clause-held c =
+    let all = YieldsList-end (YieldsList-from_zip (YieldsList-from_vec c.args.pieces.items (cc) (cc)) (YieldsList-from_vec c.args.ids.items (cc) (cc)))
     c.loop-bytes.yielded c.loop-bytes.bytes-iterator c.loop-bytes.yielded_by c.next.result c.next.new.self c.in-None.is c.next.ensures.steps in
-    let own = c.in_ok-ids.ensures ∙ ap (map (λ (bytes : Vec ℕ). sha256 bytes.items)) c.deref.ensures.value in
     c.loop-bytes.invariant.3
     ∙ ap (λ given. holding (map piece_given given) (blobs_view c.args.blobs)) (sym (map-id c.loop-bytes.yielded) ∙ all.0)
-    ∙ ap (λ held. holding held (blobs_view c.args.blobs)) (all_held c.args.pieces.items c.in_ok-ids.ids.items own)
+    ∙ ap (λ held. holding held (blobs_view c.args.blobs)) (all_held c.args.pieces.items c.args.ids.items c.requires.own)

@@ -7,8 +7,8 @@ use Rattle.keep_archive.specs.Steps.{piece}
 use Rattle.keep_archive.proofs.Cuts.{cut_behind, none_full}
 use Rattle.keep_archive.proofs.begun_file.Begun.write.Goals as goal
 
-pub hold_pieces-requires : goal.hold_pieces-requires
-hold_pieces-requires g c =
+pub hold_pieces-requires-clause-fits : goal.hold_pieces-requires-clause-fits
+hold_pieces-requires-clause-fits g c =
     let file = c.args.self in
     let made = c.in_ok-cut.field-0 in
     let cut_so = cut_behind file.cut.bytes c.args.bytes.now file.rest.items c.of.result made (ap (λ cut. cut.bytes) c.of.ensures.cut) c.of.ensures.whole
