@@ -18,9 +18,9 @@ pub struct Archive {
 }
 
 impl Archive {
-    ghost use Rattle.std.specs.Prelude.{◌≡◌, ◌-◌, ◌^◌, [], None, Some, IfSome, min, string_bytes};
+    ghost use Rattle.std.specs.Prelude.{◌≡◌, ◌-◌, ◌^◌, [], None, Some, IfSome, map, min, string_bytes};
     ghost use Rattle.keep_build.specs.Packs.{bytes_in};
-    ghost use Rattle.keep_archive.specs.Archive.{archive_view, carried_view};
+    ghost use Rattle.keep_archive.specs.Archive.{archive_view, carried_view, held_view};
     ghost use Rattle.keep_archive.specs.Steps.{AddsOther, Closes, DropsFile, EndsFile, Leaves, LetsGo, Opens, SamesFile, WritesFile, close_refusal, never, node_refusal, open_refusal, other_refusal};
 
     /// An empty root folder is open, and no file is begun. Files are cut so.
@@ -265,6 +265,17 @@ impl Archive {
         match &self.going {
             Some(going) => going.blobs.bytes_held(),
             None => 0,
+        }
+    }
+
+    /// The blobs that wait to be stored; none where it is shut.
+    pub fn waiting(&self) -> &[HeldBlob]
+        ensures open { IfSome (archive_view self.now) (λ a. map held_view result.now ≡ a.blobs.held) }
+        ensures shut { archive_view self.now ≡ None → result.now ≡ [] }
+    {
+        match &self.going {
+            Some(going) => &going.blobs.held,
+            None => &[],
         }
     }
 

@@ -3,11 +3,13 @@ ghost use Rattle.keep_names.specs.Sha256.{sha256};
 ghost use Rattle.keep_names.specs.declared.id.Id as the_id;
 ghost use Rattle.keep_build.specs.Blobs.{is_full};
 
+use keep_catalog::Hashing;
 use keep_names::{BlobId, BlobType, Id, id_of};
+use std::alloc::{AllocError, Global};
 
 /// A blob that waits to be stored, under its own name.
 #[derive(Drop)]
-pub(crate) struct HeldBlob {
+pub struct HeldBlob {
     pub(crate) blob: BlobId,
     pub(crate) bytes: Vec<u8>,
     pub ghost own: { blob.id.0 ≡ sha256 bytes.items },
@@ -59,5 +61,50 @@ impl HeldBlob {
             Some(id) => HeldBlob::piece(id, bytes),
             None => HeldBlob::of(BlobType::Content, bytes),
         }
+    }
+
+    /// Its name.
+    pub fn name(&self) -> BlobId
+        ensures { result ≡ blob_id_of (held_view self.now) }
+    {
+        self.blob
+    }
+
+    /// The SHA-256 of these bytes, which is known where they are this blob's.
+    fn id_for(&self, bytes: &[u8]) -> Id
+        ensures { result.0 ≡ sha256 bytes.now }
+    {
+        if bytes == self.bytes.as_slice() {
+            self.name().id
+        } else {
+            id_of(bytes)
+        }
+    }
+}
+
+/// Hashes no bytes that are those of a blob that is held.
+#[derive(Drop)]
+pub struct KnownHashing<'a> {
+    held: &'a HeldBlob,
+}
+
+impl<'a> KnownHashing<'a> {
+    /// Where it is this blob that comes again.
+    pub fn of(held: &'a HeldBlob) -> KnownHashing<'a>
+        ensures { result.held.now ≡ held.now }
+    {
+        KnownHashing { held }
+    }
+}
+
+impl Hashing for KnownHashing<'_> {
+    fn begin(&mut self, _bytes: u64) {}
+
+    fn ids(&mut self, alloc: Global, pieces: &[&[u8]]) -> Result<Vec<Id>, AllocError> {
+        let mut ids = Vec::with_capacity(alloc, pieces.len())?;
+        for piece in pieces {
+            ids.push(self.held.id_for(piece))?;
+        }
+        Ok(ids)
     }
 }

@@ -21,4 +21,5 @@ mod pieces;
 pub use archive::Archive;
 pub use backup_law::archives_plan_backups;
 pub use carried::Carried;
+pub use held::{HeldBlob, KnownHashing};
 pub use not_planned::NotPlanned;

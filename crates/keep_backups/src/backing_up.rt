@@ -16,7 +16,7 @@ use crate::backed_up::BackedUp;
 use crate::begun::Begun;
 use crate::intake::{Filled, Intake};
 use crate::keeps::Keeps;
-use crate::lent::{Given, Lent};
+use crate::lent::{Given, Lent, remember};
 use crate::not_backed_up::NotBackedUp;
 use keep_backup::BackupFacts;
 use keep_book::Book;
@@ -112,7 +112,7 @@ fn told(filled: Result<Filled, Stop>, refusal: Option<NotBackedUp>) -> Result<Fi
     }
 }
 
-/// Commits the change that adds the snapshot. What it rests on is hashed first.
+/// Commits the change that adds the snapshot. What it rests on is hashed first, unless it was stored by this backup.
 fn add_snapshot<K: Keeps, H: Hashing + Copy>(
     alloc: Global,
     book: &mut K,
@@ -134,6 +134,7 @@ fn add_snapshot<K: Keeps, H: Hashing + Copy>(
         parts,
         skipped,
     } = filled;
+    remember(book, &archive);
     book.hash_blobs(archive.named(), &mut hashing);
     let view = book.view();
     let planned = archive.plan_backup(alloc, &view, wish.facts, wish.tags, &mut hashing)?;

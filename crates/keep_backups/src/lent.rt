@@ -5,7 +5,7 @@ ghost use Rattle.keep_backups.specs.Parts.{IsCauseIfAny, IsPartOn, StoresParts};
 use crate::begun::Begun;
 use crate::keeps::Keeps;
 use crate::not_backed_up::NotBackedUp;
-use keep_archive::Archive;
+use keep_archive::{Archive, KnownHashing};
 use keep_catalog::Hashing;
 use keep_change::Planned;
 use keep_plan::PlanError;
@@ -51,6 +51,7 @@ impl<'b, B: Begun, K: Keeps, H: Hashing + Copy> Lent<'b, B, K, H> {
         match self.part(alloc, archive) {
             Ok(Some(planned)) => {
                 self.commit(planned)?;
+                remember(self.book, archive);
                 Ok(true)
             }
             Ok(None) => Ok(false),
@@ -96,5 +97,16 @@ impl<'b, B: Begun, K: Keeps, H: Hashing + Copy> Lent<'b, B, K, H> {
                 Err(Stop::Refused)
             }
         }
+    }
+}
+
+/// Remembers what the book has of the blobs that the archive holds, as if it were hashed: bytes that are held aren't.
+pub(crate) fn remember<K: Keeps>(book: &mut K, archive: &Archive)
+    requires { AreSums (K.ledger book.old).events (K.hooks book.old).watches (K.tallies book.old) }
+    ensures ledger { K.ledger book.new ≡ K.ledger book.old }
+    ensures sums { AreSums (K.ledger book.new).events (K.hooks book.new).watches (K.tallies book.new) }
+{
+    for held in archive.waiting() {
+        book.hash_blobs(&[held.name()], &mut KnownHashing::of(held));
     }
 }

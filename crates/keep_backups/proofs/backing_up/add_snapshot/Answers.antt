@@ -11,7 +11,7 @@ use Rattle.keep_backups.proofs.backing_up.add_snapshot.Goals as goal
 
 pub returns-in-Ok-clause-added : goal.returns-in-Ok-clause-added
 returns-in-Ok-clause-added g c =
-    let ledger = c.hash_blobs.ensures.ledger in
+    let ledger = c.hash_blobs.ensures.ledger ∙ c.remember.ensures.ledger in
     let shown = c.view-view.ensures ∙ ap shown_by ledger in
     let last = is_last (archive_view c.args.filled.archive) (g.K.Keeps.ledger c.args.book.now) (facts_view c.args.wish.now.facts.now)
     (map string_bytes c.args.wish.now.tags.now) c.in_ok-planned.planned
