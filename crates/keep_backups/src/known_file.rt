@@ -3,24 +3,23 @@ ghost use Rattle.keep_members.specs.Members.{stamp_view};
 ghost use Rattle.keep_tree.specs.Tree.{node_view};
 ghost use Rattle.keep_backups.specs.Known.{known_due, known_view};
 
-use keep_members::{Stamp, members_in};
+use keep_members::{Stamp, mtime_in, size_in};
 use keep_names::Id;
 use keep_sources::{Known, Moment};
 use keep_tree::{Node, NodeKind};
-use std::alloc::{AllocError, Global};
+use std::alloc::AllocError;
 
 /// What is known of a node, if it is a file that says its size and its time.
-pub(crate) fn known_file(alloc: Global, node: &Node) -> Result<Option<Known>, AllocError>
+pub(crate) fn known_file(node: &Node) -> Result<Option<Known>, AllocError>
     ensures { IfOk result (λ known. option_map known_view known ≡ known_due (node_view node.now)) }
 {
     let NodeKind::File { content } = &node.kind else {
         return Ok(None);
     };
-    let found = members_in(alloc, &node.others)?;
-    let Some(size) = found.size else {
+    let Some(size) = size_in(&node.others) else {
         return Ok(None);
     };
-    let Some(mtime) = found.mtime else {
+    let Some(mtime) = mtime_in(&node.others) else {
         return Ok(None);
     };
     Ok(Some(known_with(size, mtime, content)?))

@@ -42,7 +42,7 @@ fn add(
     entry: &PathNode,
     all: &mut BTreeMap<String, Known>,
 ) -> Result<(), AllocError> {
-    let Some(known) = known_file(alloc, &entry.node)? else {
+    let Some(known) = known_file(&entry.node)? else {
         return Ok(());
     };
     let Some(path) = source_path(alloc, entry.path.as_str())? else {

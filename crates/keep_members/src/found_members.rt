@@ -41,7 +41,7 @@ pub fn members_in(alloc: Global, carried: &Map<String, Value>) -> Result<FoundMe
     let link_target = text_at(alloc, carried, "linktarget")?;
     Ok(FoundMembers {
         mode: short_at(carried, "mode"),
-        mtime: stamp_at(carried, "mtime"),
+        mtime: mtime_in(carried),
         atime: stamp_at(carried, "atime"),
         ctime: stamp_at(carried, "ctime"),
         uid: short_at(carried, "uid"),
@@ -50,11 +50,25 @@ pub fn members_in(alloc: Global, carried: &Map<String, Value>) -> Result<FoundMe
         group,
         inode: whole_at(carried, "inode"),
         device_id: whole_at(carried, "device_id"),
-        size: whole_at(carried, "size"),
+        size: size_in(carried),
         links: whole_at(carried, "links"),
         link_target,
         device: whole_at(carried, "device"),
     })
+}
+
+/// The size among what `members_in` finds.
+pub fn size_in(carried: &Map<String, Value>) -> Option<u64>
+    ensures { result ≡ (found_in (members_view carried.now.entries)).size }
+{
+    whole_at(carried, "size")
+}
+
+/// The time of the last modification among what `members_in` finds.
+pub fn mtime_in(carried: &Map<String, Value>) -> Option<Stamp>
+    ensures { option_map stamp_view result ≡ (found_in (members_view carried.now.entries)).mtime }
+{
+    stamp_at(carried, "mtime")
 }
 
 /// The member at a key.

@@ -13,7 +13,7 @@ mod stamp;
 mod time_texts;
 
 pub use carried_members::carried;
-pub use found_members::{FoundMembers, members_in};
+pub use found_members::{FoundMembers, members_in, mtime_in, size_in};
 pub use member_laws::{carried_members_read_back, modes_go_there_and_back};
 pub use members::Members;
 pub use mode::{go_mode, unix_mode};
