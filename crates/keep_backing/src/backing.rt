@@ -17,7 +17,7 @@ use keep_sources::{Known, Scope, Why};
 use keep_tables::utc_time;
 use keep_words::Backup;
 use serde_json::json;
-use std::collections::BTreeMap;
+use std::collections::HashMap;
 use std::io;
 
 /// `keep backup`. Where it is tried alone, the book is one over a copy in memory. This hashes what can be hashed together.
@@ -34,7 +34,7 @@ pub fn backup<S: Shelf, H: Hashing + Copy>(
     match taken(run, hashing, book, words, &facts, known)? {
         // A file that was known lacks a piece by now: all are read.
         Err(NotBackedUp::Unplanned(PlanError::Reach(_))) => {
-            let none = BTreeMap::new(run.alloc);
+            let none = HashMap::new(run.alloc);
             let came = taken(run, hashing, book, words, &facts, none)?;
             tell(run, came, words.dry_run)
         }
@@ -49,7 +49,7 @@ fn taken<S: Shelf, H: Hashing + Copy>(
     book: &mut Book<S>,
     words: &Backup<'_>,
     facts: &BackupFacts,
-    known: BTreeMap<String, Known>,
+    known: HashMap<String, Known>,
 ) -> Result<Result<BackedUp, NotBackedUp>, Failure>
     requires { HasSums book.old }
     ensures { HasSums book.new }
@@ -131,7 +131,7 @@ fn job_of(
     run: &Run<'_>,
     words: &Backup<'_>,
     places: &[String],
-    known: BTreeMap<String, Known>,
+    known: HashMap<String, Known>,
 ) -> Result<Scope, Failure> {
     let mut paths = Vec::new(run.alloc);
     for place in places {

@@ -9,7 +9,7 @@ use keep_run::{Failure, Run};
 use keep_shelf::Shelf;
 use keep_snap::Snap;
 use keep_sources::Known;
-use std::collections::BTreeMap;
+use std::collections::HashMap;
 
 /// The files of the last snapshot of this host and just these paths, which needn't be read again where they are as they
 /// were. A snapshot that can't be listed tells of none.
@@ -17,17 +17,17 @@ pub(crate) fn unchanged<S: Shelf>(
     run: &Run<'_>,
     book: &Book<S>,
     facts: &BackupFacts,
-) -> Result<BTreeMap<String, Known>, Failure> {
+) -> Result<HashMap<String, Known>, Failure> {
     let view = book.ledger().view();
     let catalog = view.read_past(run.alloc)?;
     let rows = snapshots_of(run.alloc, &catalog, book.ledger().history())?;
     let Some(snapshot) = last_of(rows.as_slice(), facts) else {
-        return Ok(BTreeMap::new(run.alloc));
+        return Ok(HashMap::new(run.alloc));
     };
     match known_of(run.alloc, &view, snapshot) {
         Ok(known) => Ok(known),
         Err(RestoreError::Reach(ReachError::Memory)) => Err(Failure::Memory),
-        Err(_) => Ok(BTreeMap::new(run.alloc)),
+        Err(_) => Ok(HashMap::new(run.alloc)),
     }
 }
 

@@ -11,7 +11,7 @@ use keep_read::RestoreError;
 use keep_sources::Known;
 use keep_view::View;
 use std::alloc::{AllocError, Global};
-use std::collections::BTreeMap;
+use std::collections::HashMap;
 
 /// The files of a snapshot by their paths below the root of a source, with names as they were before they were quoted.
 /// A file that says no size or no time, or whose path can't be a source's, isn't among them.
@@ -19,7 +19,7 @@ pub fn known_of(
     alloc: Global,
     view: &View,
     snapshot: Id,
-) -> Result<BTreeMap<String, Known>, RestoreError>
+) -> Result<HashMap<String, Known>, RestoreError>
     ensures { is_filled view.now.repo (snapshot_facet snapshot) ≡ false → result ≡ Err NoSnapshot }
 {
     let entries = nodes_of(alloc, view, snapshot)?;
@@ -28,8 +28,8 @@ pub fn known_of(
 }
 
 /// The files of these nodes by their paths, as far as enough is known of them.
-fn known_in(alloc: Global, entries: &[PathNode]) -> Result<BTreeMap<String, Known>, AllocError> {
-    let mut all = BTreeMap::new(alloc);
+fn known_in(alloc: Global, entries: &[PathNode]) -> Result<HashMap<String, Known>, AllocError> {
+    let mut all = HashMap::new(alloc);
     for entry in entries {
         add(alloc, entry, &mut all)?;
     }
@@ -40,7 +40,7 @@ fn known_in(alloc: Global, entries: &[PathNode]) -> Result<BTreeMap<String, Know
 fn add(
     alloc: Global,
     entry: &PathNode,
-    all: &mut BTreeMap<String, Known>,
+    all: &mut HashMap<String, Known>,
 ) -> Result<(), AllocError> {
     let Some(known) = known_file(&entry.node)? else {
         return Ok(());

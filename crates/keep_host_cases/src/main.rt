@@ -7,7 +7,7 @@ mod host_events;
 use crate::host_events::Events;
 use keep_host_source::{HostSource, host_name, user_id, user_name};
 use keep_sources::{Scope, Taking};
-use std::collections::BTreeMap;
+use std::collections::HashMap;
 use std::io;
 
 fn main(rt: HostRuntime) -> io::Result<()> {
@@ -17,7 +17,7 @@ fn main(rt: HostRuntime) -> io::Result<()> {
     let job = Scope {
         paths: vec![in alloc; String::new(alloc)]?,
         excludes: Vec::new(alloc),
-        known: BTreeMap::new(alloc),
+        known: HashMap::new(alloc),
     };
     if taking.take(&job).is_err() {
         println!(rt; "stopped")?;

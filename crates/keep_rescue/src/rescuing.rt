@@ -11,7 +11,7 @@ use crate::salvage::{Salvage, put_file};
 use keep_sources::{Scope, Skipped, Source, Stop, Taking};
 use keep_targets::{Target, TargetError};
 use std::alloc::{AllocError, Global};
-use std::collections::BTreeMap;
+use std::collections::HashMap;
 
 /// Makes a new folder of what is whole in an old one: each pack, index and snapshot whose bytes have its name, below the
 /// folders in which they lay, and at the end the config, or this new one where the old one isn't there or can't be read.
@@ -86,7 +86,7 @@ fn wanted(alloc: Global) -> Result<Scope, AllocError>
     Ok(Scope {
         paths,
         excludes: Vec::new(alloc),
-        known: BTreeMap::new(alloc),
+        known: HashMap::new(alloc),
     })
 }
 

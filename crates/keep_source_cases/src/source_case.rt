@@ -8,7 +8,7 @@ use keep_names::parse_id;
 use keep_patterns::parse_pattern;
 use keep_sources::{Known, Moment, Scope, StatKind, Taking};
 use std::alloc::Global;
-use std::collections::BTreeMap;
+use std::collections::{BTreeMap, HashMap};
 
 /// What a line asks for: a source, and what is to be taken of it.
 #[derive(Drop)]
@@ -50,7 +50,7 @@ fn read_case(alloc: Global, line: &str) -> Result<Case, No> {
     let job = Scope {
         paths: Vec::new(alloc),
         excludes: Vec::new(alloc),
-        known: BTreeMap::new(alloc),
+        known: HashMap::new(alloc),
     };
     let mut case = Case {
         entries,

@@ -1,7 +1,7 @@
 use crate::stat::Moment;
 use keep_names::Id;
 use keep_patterns::Pattern;
-use std::collections::BTreeMap;
+use std::collections::HashMap;
 
 /// A file as an earlier backup has it.
 #[derive(Drop)]
@@ -20,5 +20,5 @@ pub struct Scope {
     /// What isn't taken, with all below it: what one of them matches by its path below the root.
     pub excludes: Vec<Pattern>,
     /// The files of an earlier backup, by path. One that has the size and the time of one of them isn't read.
-    pub known: BTreeMap<String, Known>,
+    pub known: HashMap<String, Known>,
 }

@@ -1,5 +1,5 @@
 use Rattle.std.proofs.Common.{◌≡◌, Some, rules}
-use Rattle.std.specs.BTreeMap.{get_by_text}
+use Rattle.std.specs.HashMap.{get_by_text}
 use Rattle.keep_sources.proofs.taken_files.unchanged.Goals as goal
 
 pub returns-in-Some : goal.returns-in-Some
