@@ -1,0 +1,10 @@
+use Rattle.std.proofs.Common.{◌≡◌, ◌++◌}
+use Rattle.std.specs.Slice.Iter.{chunks_rest, chunks_size}
+use Rattle.hex.specs.Hex.{encode_lower}
+use Rattle.keep_rope.proofs.in_hex.push_hex.Given as goal
+
+abbrev pub invariant-loop-piece : goal.invariant-loop-piece
+invariant-loop-piece l = record {
+  size : chunks_size l.piece-iterator ≡ 2048;
+  rest : l.text.items ++ encode_lower (chunks_rest l.piece-iterator) ≡ l.fn.text.items ++ encode_lower l.bytes;
+}
