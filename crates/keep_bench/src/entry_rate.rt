@@ -10,5 +10,6 @@ pub(crate) fn is_written_so(alloc: Global, entry: &Entry, bytes: &[u8]) -> Resul
     ensures { IfOk result (λ same. IsTrue same ↔ (bytes.now ≡ entry_text entry.now.event)) }
 {
     let text = write_entry(alloc, entry)?;
+    let text = text.bytes(alloc)?;
     Ok(bytes == text.as_slice())
 }

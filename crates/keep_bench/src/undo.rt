@@ -5,6 +5,7 @@ use keep_book::Book;
 use keep_change::{Change, Listed, Planned, StoredFile};
 use keep_ledger::{Refusal, Told};
 use keep_names::Kind;
+use keep_rope::Rope;
 use keep_shelf::{Key, MemoryShelf, Shelf};
 use std::alloc::{AllocError, Global};
 
@@ -46,7 +47,8 @@ fn filled(alloc: Global) -> Result<MemoryShelf, Refusal> {
     let mut shelf = MemoryShelf::new(alloc);
     for number in 0..FILES {
         let file = file(alloc, number)?;
-        shelf.write(Key::Live(file.name()), file.bytes())?;
+        let bytes = Rope::of(file.bytes().clone()?);
+        shelf.write(Key::Live(file.name()), &bytes)?;
     }
     Ok(shelf)
 }

@@ -1,6 +1,6 @@
 ghost use Rattle.std.specs.Prelude.{◌≡◌};
 
-use keepd::{Bytes, Fault, Key, MemoryShelf, Shelf};
+use keepd::{Fault, Key, MemoryShelf, Rope, Shelf};
 use std::alloc::Global;
 
 /// A shelf in memory that counts the calls that change it. What its promise asks is what the shelf within promises: each
@@ -30,11 +30,11 @@ impl<'a> LoggedShelf<'a> {
 impl Shelf for LoggedShelf<'_> {
     ghost shelved = { λ logged. logged.within };
 
-    fn read(&mut self, key: Key) -> Result<Option<Bytes>, Fault> {
+    fn read(&mut self, key: Key) -> Result<Option<Rope>, Fault> {
         self.within.read(key)
     }
 
-    fn write(&mut self, key: Key, bytes: &Bytes) -> Result<(), Fault> {
+    fn write(&mut self, key: Key, bytes: &Rope) -> Result<(), Fault> {
         self.count();
         self.within.write(key, bytes)
     }
@@ -51,9 +51,5 @@ impl Shelf for LoggedShelf<'_> {
 
     fn list(&mut self) -> Result<Vec<Key>, Fault> {
         self.within.list()
-    }
-
-    fn let_go(&mut self, key: Key) {
-        self.within.let_go(key);
     }
 }

@@ -2,7 +2,7 @@ use crate::shelves::Shelves;
 use crate::unopened::Unopened;
 use keep_book::Book;
 use keep_folder::{FolderError, FolderShelf, HostTree, open_folder};
-use keep_repo::Bytes;
+use keep_rope::Rope;
 use keep_shelf::{Fault, Key, MemoryShelf, Shelf};
 use std::mem;
 
@@ -59,14 +59,14 @@ impl Shelf for NamedShelf<'_> {
 
     ghost shelved = { shelved_of };
 
-    fn read(&mut self, key: Key) -> Result<Option<Bytes>, Fault> {
+    fn read(&mut self, key: Key) -> Result<Option<Rope>, Fault> {
         match self {
             NamedShelf::Memory(shelf) => shelf.read(key),
             NamedShelf::Folder(shelf) => shelf.read(key),
         }
     }
 
-    fn write(&mut self, key: Key, bytes: &Bytes) -> Result<(), Fault> {
+    fn write(&mut self, key: Key, bytes: &Rope) -> Result<(), Fault> {
         match self {
             NamedShelf::Memory(shelf) => shelf.write(key, bytes),
             NamedShelf::Folder(shelf) => shelf.write(key, bytes),
@@ -91,14 +91,6 @@ impl Shelf for NamedShelf<'_> {
         match self {
             NamedShelf::Memory(shelf) => shelf.list(),
             NamedShelf::Folder(shelf) => shelf.list(),
-        }
-    }
-
-    /// What is in memory alone isn't opened again, so its entries are let go too.
-    fn let_go(&mut self, key: Key) {
-        match self {
-            NamedShelf::Memory(shelf) => shelf.let_text_go(key),
-            NamedShelf::Folder(shelf) => shelf.let_go(key),
         }
     }
 

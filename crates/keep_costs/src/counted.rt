@@ -1,6 +1,6 @@
 ghost use Rattle.std.specs.Prelude.{◌≡◌};
 
-use keep_repo::Bytes;
+use keep_rope::Rope;
 use keep_shelf::{Fault, Key, Shelf};
 
 /// A shelf that hands each call on to the shelf behind it, and counts it.
@@ -30,12 +30,12 @@ impl<S: Shelf> Counted<S> {
 impl<S: Shelf> Shelf for Counted<S> {
     ghost shelved = { λ s. S.shelved s.inner };
 
-    fn read(&mut self, key: Key) -> Result<Option<Bytes>, Fault> {
+    fn read(&mut self, key: Key) -> Result<Option<Rope>, Fault> {
         self.count();
         self.inner.read(key)
     }
 
-    fn write(&mut self, key: Key, bytes: &Bytes) -> Result<(), Fault> {
+    fn write(&mut self, key: Key, bytes: &Rope) -> Result<(), Fault> {
         self.count();
         self.inner.write(key, bytes)
     }

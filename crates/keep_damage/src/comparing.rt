@@ -68,8 +68,8 @@ fn difference_at(
     match key {
         Key::Entry(_) => Ok(None),
         Key::Live(_) | Key::Trash(_, _) => {
-            let held = there.shared(key)?;
-            let others = asked.shared(key)?;
+            let held = there.bytes(key)?;
+            let others = asked.bytes(key)?;
             Ok(difference_between(history, key, &held, &others))
         }
     }

@@ -1,6 +1,7 @@
 use keep_change::{Change, Listed, Planned, StoredFile};
 use keep_ledger::Refusal;
 use keep_names::Kind;
+use keep_rope::Rope;
 use keep_shelf::{Key, MemoryShelf, Shelf};
 use std::alloc::{AllocError, Global};
 
@@ -12,7 +13,8 @@ pub(crate) fn filled(alloc: Global) -> Result<MemoryShelf, Refusal> {
     let mut shelf = MemoryShelf::new(alloc);
     for number in 0..FILES {
         let file = index(alloc, format!(in alloc; "{number}")?)?;
-        shelf.write(Key::Live(file.name()), file.bytes())?;
+        let bytes = Rope::of(file.bytes().clone()?);
+        shelf.write(Key::Live(file.name()), &bytes)?;
     }
     Ok(shelf)
 }

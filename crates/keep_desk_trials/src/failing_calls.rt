@@ -190,8 +190,8 @@ fn files_on(alloc: Global, shelf: &MemoryShelf) -> Result<Repo, Fail> {
         let Key::Live(name) = key else {
             continue;
         };
-        if let Some(bytes) = shelf.read(key)? {
-            repo.insert_file(name, bytes)?;
+        if let Some(rope) = shelf.read(key)? {
+            repo.insert_file(name, rope.bytes(alloc)?)?;
         }
     }
     Ok(repo)

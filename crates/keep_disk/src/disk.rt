@@ -8,6 +8,7 @@ use crate::new_file::write_lasting;
 use crate::private::{make_dir, make_file};
 use crate::sight::{after_making, after_removal, after_rename, after_writing, is_at, look};
 use keep_files::TreeError;
+use keep_rope::Rope;
 use std::alloc::{AllocError, Global};
 use std::fs::{File, Files};
 use std::io::ErrorKind;
@@ -34,7 +35,7 @@ impl<R: Files<File = File> + Alloc<A = Global> + Clone + Drop> Disk<R> {
     }
 
     /// Writes a new file, and syncs it. A link that lies at the path isn't followed: it makes the call fail.
-    pub(crate) fn write_new(&mut self, path: &str, bytes: &[u8]) -> Result<(), TreeError> {
+    pub(crate) fn write_new(&mut self, path: &str, bytes: &Rope) -> Result<(), TreeError> {
         let place = self.below_root(path)?;
         self.prepare(path)?;
         let error = match self.fill(place.as_str(), bytes) {
@@ -110,9 +111,9 @@ impl<R: Files<File = File> + Alloc<A = Global> + Clone + Drop> Disk<R> {
     }
 
     /// Makes a file and has its bytes outlast a loss of power.
-    fn fill(&self, place: &str, bytes: &[u8]) -> io::Result<()> {
+    fn fill(&self, place: &str, bytes: &Rope) -> io::Result<()> {
         let mut file = make_file(&self.rt, place)?;
-        write_lasting(&mut file, bytes)
+        write_lasting(self.rt.alloc(), &mut file, bytes)
     }
 
     /// Whether a link to a folder lies at the root.

@@ -1,12 +1,13 @@
 use crate::disk::Disk;
 use keep_files::{FileTree, Node, TreeError};
 use keep_memory_files::MemoryTree;
-use keep_repo::Bytes;
+use keep_rope::Rope;
 use std::alloc::Global;
 use std::fs::{File, Files};
 
 /// The files below a folder of a disk, where keys lie, and an image of them in memory. What is read is answered from the
-/// image, and each act is done on the disk and in the image, or in neither.
+/// image, and each act is done on the disk and in the image, or in neither. An entry's text is held there without the hex
+/// of files that lie in the folder too.
 ///
 /// All contracts speak of the image. That the disk is like it is trusted, in four sentences:
 ///
@@ -38,10 +39,10 @@ impl<R: Files<File = File> + Alloc<A = Global> + Clone + Drop> FileTree for Disk
         self.image.list(folder)
     }
 
-    fn write_new(&mut self, path: &str, bytes: &Bytes) -> Result<(), TreeError> {
+    fn write_new(&mut self, path: &str, bytes: &Rope) -> Result<(), TreeError> {
         let disk = &mut self.disk;
         self.image
-            .write_new_with(path, bytes, || disk.write_new(path, bytes.as_slice()))
+            .write_new_with(path, bytes, || disk.write_new(path, bytes))
     }
 
     fn rename(&mut self, from: &str, to: &str) -> Result<(), TreeError> {
@@ -62,9 +63,5 @@ impl<R: Files<File = File> + Alloc<A = Global> + Clone + Drop> FileTree for Disk
     fn sync_folder(&mut self, path: &str) -> Result<(), TreeError> {
         let disk = &mut self.disk;
         self.image.sync_folder_with(path, || disk.sync_folder(path))
-    }
-
-    fn let_go(&mut self, path: &str) {
-        self.image.let_go(path);
     }
 }

@@ -9,13 +9,19 @@ use crate::lock::Lock;
 use keep_files::acts_keep_folders;
 use keep_memory_files::MemoryTree;
 use keep_paths::{holds_keys, key_of_path};
-use keep_repo::Bytes;
+use keep_repo::{Bytes, Repo};
+use keep_rope::Rope;
+use keep_shelf::Key;
 use std::alloc::Global;
 use std::fs::{File, Files};
 use std::io::ErrorKind;
 use std::{fs, io};
 
 /// What was read so far, and the folders that are to be read, by their paths below the root.
+///
+/// The journal is read last. Of an entry's text the hex of files that were read isn't held, neither of live ones nor of
+/// those in the trash: it is held in pieces as soon as it was read, and of the texts just the one that is being read is
+/// held whole.
 #[derive(Drop)]
 pub(crate) struct Scan<'a, R> {
     rt: &'a R,
@@ -24,6 +30,8 @@ pub(crate) struct Scan<'a, R> {
     /// Under which all is read.
     lock: Lock,
     folders: Vec<String>,
+    /// Each file that was read, by its name. Where two files have one name it is either of them.
+    held: Repo,
     image: MemoryTree,
 }
 
@@ -37,6 +45,7 @@ impl<'a, R: Files<File = File> + Alloc<A = Global> + Clone + Drop> Scan<'a, R> {
             piece,
             lock,
             folders: Vec::new(rt.alloc()),
+            held: Repo::new(rt.alloc()),
             image: MemoryTree::new(rt.alloc()),
         }
     }
@@ -46,13 +55,14 @@ impl<'a, R: Files<File = File> + Alloc<A = Global> + Clone + Drop> Scan<'a, R> {
         ensures config { IfOk result (λ read. (seen_in read.1).stands (codes "config") ≡ Some (the_node.File config)) }
         ensures closed { IfOk result (λ read. IsClosed (seen_in self.entry.image).stands → IsClosed (seen_in read.1).stands) }
     {
-        self.add_file("config", &config)?;
+        self.add_file("config", &Rope::of(config))?;
         let Scan {
             rt: _,
             root: _,
             piece: _,
             lock,
             folders: _,
+            held: _,
             image,
         } = self;
         Ok((lock, image))
@@ -90,8 +100,8 @@ impl<'a, R: Files<File = File> + Alloc<A = Global> + Clone + Drop> Scan<'a, R> {
         let path = self.below_root(folder)?;
         for name in names_in(self.rt, path.as_str())? {
             let path = format!(in self.rt.alloc(); "{folder}/{name}")?;
-            if key_of_path(path.as_str()).is_some() {
-                self.take_file(path.as_str())?;
+            if let Some(key) = key_of_path(path.as_str()) {
+                self.take_file(path.as_str(), key)?;
             } else if holds_keys(path.as_str()) {
                 self.require_folder(path.as_str())?;
                 self.take_inner(path)?;
@@ -100,22 +110,42 @@ impl<'a, R: Files<File = File> + Alloc<A = Global> + Clone + Drop> Scan<'a, R> {
         Ok(())
     }
 
-    /// Reads a file that lies where a key does.
-    fn take_file(&mut self, path: &str) -> io::Result<()>
+    /// Reads a file that lies where this key does.
+    fn take_file(&mut self, path: &str, key: Key) -> io::Result<()>
         ensures { IsClosed (seen_in self.old.image).stands → IsClosed (seen_in self.new.image).stands }
     {
         let place = self.below_root(path)?;
         let bytes = read_file(self.rt, place.as_str(), self.piece.as_mut_slice())?;
-        let bytes = Bytes::new(self.rt.alloc(), bytes)?;
+        let bytes = self.hold(key, bytes)?;
         self.add_file(path, &bytes)
     }
 
-    /// Notes a folder, to be read.
+    /// What was read, as it is held from now on: a file whole, and an entry's text without the hex of files that are held.
+    fn hold(&mut self, key: Key, bytes: Vec<u8>) -> io::Result<Rope>
+        ensures value { IfOk result (λ held. held ≡ bytes.items) }
+        ensures image { self.new.image ≡ self.old.image }
+    {
+        let alloc = self.rt.alloc();
+        match key {
+            Key::Entry(_) => Ok(Rope::cut(alloc, bytes.as_slice(), &self.held)?),
+            Key::Live(name) | Key::Trash(_, name) => {
+                let bytes = Bytes::new(alloc, bytes)?;
+                self.held.insert_file(name, bytes.clone()?)?;
+                Ok(Rope::of(bytes))
+            }
+        }
+    }
+
+    /// Notes a folder, to be read. The one that was noted last is read first, but the journal is read last of all.
     fn take_inner(&mut self, folder: String) -> io::Result<()>
         ensures { IsClosed (seen_in self.old.image).stands → IsClosed (seen_in self.new.image).stands }
     {
         self.add_folder(folder.as_str())?;
-        self.folders.push(folder)?;
+        if folder.as_str() == "journal" {
+            self.folders.insert(0, folder)?;
+        } else {
+            self.folders.push(folder)?;
+        }
         Ok(())
     }
 
@@ -130,7 +160,7 @@ impl<'a, R: Files<File = File> + Alloc<A = Global> + Clone + Drop> Scan<'a, R> {
     }
 
     /// Puts a file that was read into the image.
-    fn add_file(&mut self, path: &str, bytes: &Bytes) -> io::Result<()>
+    fn add_file(&mut self, path: &str, bytes: &Rope) -> io::Result<()>
         ensures closed { IsClosed (seen_in self.old.image).stands → IsClosed (seen_in self.new.image).stands }
         ensures added { OnOk result ((seen_in self.new.image).stands path.now ≡ Some (the_node.File bytes.now)) }
     {

@@ -1,10 +1,10 @@
 -- Texts that are written one after the other.
-use Rattle.std.proofs.Common.{◌≡◌, ◌<◌, ◌≤◌, ◌+◌, Bool, true, ℕ, ℤ, pos, negsuc, List, [], ◌∷◌, ◌++◌, codes, length, get_or, drop, map, subst, take, Result, Ok, Err, OnOk, refl, sym, ap, ap₂, ◌∙◌, append_assoc, append-nil, slice_index, ◌/◌, ◌%◌, arith}
-use Rattle.std.proofs.lemmas.List.{drop_more, nil_from_length}
+use Rattle.std.proofs.Common.{◌≡◌, ◌<◌, ◌≤◌, ◌+◌, Bool, true, ℕ, ℤ, pos, negsuc, List, [], ◌∷◌, ◌++◌, codes, length, get_or, drop, map, subst, take, Result, Ok, Err, OnOk, refl, sym, ap, ap₂, ◌∙◌, append_assoc, arith}
+use Rattle.std.proofs.lemmas.List.{drop_more}
 use Rattle.std.proofs.lemmas.List.Elements.{All-from_recursion, All-head, All-more, All-tail, recursion_from_All}
 use Rattle.std.specs.Fmt.{signed_decimal}
 use Rattle.std.specs.List.{AllByRecursion, AllPass}
-use Rattle.hex.specs.Hex.{IsBytes, encode_lower, encode_with, lower_digits}
+use Rattle.hex.specs.Hex.{IsBytes, encode_lower}
 use Rattle.json.specs.Print.{escape, escape_byte, quoted}
 use Rattle.json.proofs.Printed.Strings.{escape_byte_plain}
 use Rattle.serde_json.specs.Data.{Data}
@@ -84,27 +84,6 @@ pub digits_written : (old : List ℕ) {new digits : List ℕ} (bytes : List ℕ)
     → new ≡ old ++ escape (encode_lower bytes)
 digits_written old bytes h is e =
     e ∙ ap (λ s. old ++ s) (is ∙ sym (digits_plain (encode_lower bytes) (AllPass-encode_lower bytes h)))
-
-encode_more : (table piece rest : List ℕ) → encode_with table (piece ++ rest) ≡ encode_with table piece ++ encode_with table rest
-unfolding encode_with
-encode_more table [] rest = refl
-encode_more table (b ∷ piece) rest =
-    ap (λ (text : List ℕ). slice_index table (b / 16) ∷ slice_index table (b % 16) ∷ text) (encode_more table piece rest)
-
--- the digits of a piece, and those of what is left
-pub digits_more : (old : List ℕ) {new left : List ℕ} (piece rest : List ℕ) → left ≡ piece ++ rest → new ≡ old ++ encode_lower piece
-    → new ++ encode_lower rest ≡ old ++ encode_lower left
-digits_more old piece rest parts e =
-    piece_more old (encode_lower piece) (encode_lower rest) e
-    ∙ ap (λ s. old ++ s) (sym (encode_more lower_digits piece rest) ∙ sym (ap encode_lower parts))
-
--- nothing is left
-pub all_digits : (old : List ℕ) {new : List ℕ} (bytes rest : List ℕ) → IsBytes bytes → length rest ≡ 0
-    → new ++ encode_lower rest ≡ old ++ encode_lower bytes → new ≡ old ++ escape (encode_lower bytes)
-unfolding encode_with
-all_digits old {new} bytes rest h none e =
-    let nothing : encode_lower rest ≡ [] = ap encode_lower (nil_from_length rest none) in
-    digits_written old bytes h refl (sym (append-nil new) ∙ sym (ap (λ s. new ++ s) nothing) ∙ e)
 
 -- the word for a kind and the slash are, too
 pub name_quoted : (kind : Kind) (digits : List ℕ) {opening : List ℕ} → opening ≡ codes "\"" ++ (kind_text kind ++ codes "/")

@@ -1,6 +1,5 @@
 pub mod Appended
 pub mod Exact
-pub mod GivenTexts
 pub mod HeldFiles
 pub mod HexBytes
 pub mod OpenHistories

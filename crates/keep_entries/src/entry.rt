@@ -10,11 +10,13 @@ use crate::event_in::read_in;
 use crate::event_text::event_text;
 use crate::misread::Misread;
 use keep_journal::{Entry, Event};
+use keep_rope::Rope;
 use std::alloc::{AllocError, Global};
 
-/// The text of an entry's event. The entry's own number doesn't stand in it.
-pub fn write_entry(alloc: Global, entry: &Entry) -> Result<Vec<u8>, AllocError>
-    ensures text { IfOk result (λ bytes. bytes.items ≡ entry_text entry.now.event) }
+/// The text of an entry's event. The entry's own number doesn't stand in it. The hex of files isn't held, but made where
+/// the text's bytes are.
+pub fn write_entry(alloc: Global, entry: &Entry) -> Result<Rope, AllocError>
+    ensures text { IfOk result (λ text. text ≡ entry_text entry.now.event) }
     ensures fits { IfOk result (λ _. Fits entry.now.event) }
 {
     event_text(alloc, &entry.event)

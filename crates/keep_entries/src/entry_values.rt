@@ -1,6 +1,6 @@
-ghost use Rattle.std.specs.Prelude.{◌≡◌, ◌≤◌, ◌++◌, codes, decimal, length, map, OnOk};
+ghost use Rattle.std.specs.Prelude.{◌≡◌, ◌++◌, codes, decimal, map, OnOk};
 ghost use Rattle.std.specs.List.{AllByRecursion};
-ghost use Rattle.hex.specs.Hex.{encode_lower};
+ghost use Rattle.hex.specs.Hex.{IsBytes};
 ghost use Rattle.json.specs.Print.{escape};
 ghost use Rattle.serde_json.specs.Written.{comma_if, compact_text};
 ghost use Rattle.keep_docs.specs.Fields.{id_data};
@@ -11,16 +11,14 @@ ghost use Rattle.keep_entries.specs.Members.{list_text};
 ghost use Rattle.keep_entries.specs.Spelling.{file_data, mark_data, name_data};
 ghost use Rattle.keep_entries.specs.declared.form.Form.TheVariants.{Moments};
 
-use crate::text_out::{Stopped, TextOut};
 use keep_change::{PackMark, StoredFile};
 use keep_names::{FileName, Id, Kind};
-
-/// So many bytes are written in hex at a time.
-const PIECE: usize = 2048;
+use keep_rope::RopeWriter;
+use std::alloc::AllocError;
 
 /// Writes the names that a list holds, without its brackets.
-pub(crate) fn put_names<O: TextOut>(out: &mut O, names: &[FileName]) -> Result<(), Stopped>
-    ensures text { OnOk result (O.written out.new ++ codes "]" ≡ O.written out.old ++ list_text (map name_data names.now)) }
+pub(crate) fn put_names(out: &mut RopeWriter, names: &[FileName]) -> Result<(), AllocError>
+    ensures text { OnOk result (out.new ++ codes "]" ≡ out.old ++ list_text (map name_data names.now)) }
     ensures fit { OnOk result (AllByRecursion FitsName names.now) }
 {
     let mut later = false;
@@ -33,8 +31,8 @@ pub(crate) fn put_names<O: TextOut>(out: &mut O, names: &[FileName]) -> Result<(
 }
 
 /// Writes the files that a list holds, without its brackets.
-pub(crate) fn put_files<O: TextOut>(out: &mut O, files: &[StoredFile]) -> Result<(), Stopped>
-    ensures text { OnOk result (O.written out.new ++ codes "]" ≡ O.written out.old ++ list_text (map file_data files.now)) }
+pub(crate) fn put_files(out: &mut RopeWriter, files: &[StoredFile]) -> Result<(), AllocError>
+    ensures text { OnOk result (out.new ++ codes "]" ≡ out.old ++ list_text (map file_data files.now)) }
     ensures fit { OnOk result (AllByRecursion FitsFile files.now) }
 {
     let mut later = false;
@@ -47,9 +45,9 @@ pub(crate) fn put_files<O: TextOut>(out: &mut O, files: &[StoredFile]) -> Result
 }
 
 /// Writes the marks that a list holds, without its brackets.
-pub(crate) fn put_marks<O: TextOut>(out: &mut O, marks: &[PackMark]) -> Result<(), Stopped>
-    ensures text { OnOk result (O.written out.new ++ codes "]"
-        ≡ O.written out.old ++ list_text (map (mark_data Moments) marks.now)) }
+pub(crate) fn put_marks(out: &mut RopeWriter, marks: &[PackMark]) -> Result<(), AllocError>
+    ensures text { OnOk result (out.new ++ codes "]"
+        ≡ out.old ++ list_text (map (mark_data Moments) marks.now)) }
     ensures fit { OnOk result (AllByRecursion FitsMark marks.now) }
 {
     let mut later = false;
@@ -62,8 +60,8 @@ pub(crate) fn put_marks<O: TextOut>(out: &mut O, marks: &[PackMark]) -> Result<(
 }
 
 /// Writes the packs that a list holds, without its brackets.
-pub(crate) fn put_packs<O: TextOut>(out: &mut O, packs: &[Id]) -> Result<(), Stopped>
-    ensures text { OnOk result (O.written out.new ++ codes "]" ≡ O.written out.old ++ list_text (map id_data packs.now)) }
+pub(crate) fn put_packs(out: &mut RopeWriter, packs: &[Id]) -> Result<(), AllocError>
+    ensures text { OnOk result (out.new ++ codes "]" ≡ out.old ++ list_text (map id_data packs.now)) }
     ensures fit { OnOk result (AllByRecursion IsDigest packs.now) }
 {
     let mut later = false;
@@ -76,16 +74,16 @@ pub(crate) fn put_packs<O: TextOut>(out: &mut O, packs: &[Id]) -> Result<(), Sto
 }
 
 /// Writes a number.
-pub(crate) fn put_number<O: TextOut>(out: &mut O, number: u64) -> Result<(), Stopped>
-    ensures { OnOk result (O.written out.new ≡ O.written out.old ++ decimal number) }
+pub(crate) fn put_number(out: &mut RopeWriter, number: u64) -> Result<(), AllocError>
+    ensures { OnOk result (out.new ≡ out.old ++ decimal number) }
 {
     let mut digits = itoa::Buffer::new();
     out.put(digits.format(number).as_bytes())
 }
 
 /// Writes the comma before what isn't the first.
-fn put_comma<O: TextOut>(out: &mut O, later: bool) -> Result<(), Stopped>
-    ensures { OnOk result (O.written out.new ≡ O.written out.old ++ comma_if later) }
+fn put_comma(out: &mut RopeWriter, later: bool) -> Result<(), AllocError>
+    ensures { OnOk result (out.new ≡ out.old ++ comma_if later) }
 {
     if later {
         return out.put(b",");
@@ -94,8 +92,8 @@ fn put_comma<O: TextOut>(out: &mut O, later: bool) -> Result<(), Stopped>
 }
 
 /// Writes a file's name.
-fn put_name<O: TextOut>(out: &mut O, name: FileName) -> Result<(), Stopped>
-    ensures text { OnOk result (O.written out.new ≡ O.written out.old ++ compact_text (name_data name)) }
+fn put_name(out: &mut RopeWriter, name: FileName) -> Result<(), AllocError>
+    ensures text { OnOk result (out.new ≡ out.old ++ compact_text (name_data name)) }
     ensures fit { OnOk result (FitsName name) }
 {
     out.put(opening_of(name.kind))?;
@@ -115,21 +113,27 @@ fn opening_of(kind: Kind) -> &'static [u8]
 }
 
 /// Writes a file: its bytes in hex, and its name.
-fn put_file<O: TextOut>(out: &mut O, file: &StoredFile) -> Result<(), Stopped>
-    ensures text { OnOk result (O.written out.new ≡ O.written out.old ++ compact_text (file_data file.now)) }
+fn put_file(out: &mut RopeWriter, file: &StoredFile) -> Result<(), AllocError>
+    ensures text { OnOk result (out.new ≡ out.old ++ compact_text (file_data file.now)) }
     ensures fit { OnOk result (FitsFile file.now) }
 {
-    let bytes = file.bytes().as_slice();
+    let bytes = file.bytes();
+    are_bytes(bytes.as_slice());
     out.put(b"{\"bytes\":\"")?;
-    put_hex(out, bytes)?;
+    out.put_hex(bytes)?;
     out.put(b"\",\"file\":")?;
     put_name(out, file.name())?;
     out.put(b"}")
 }
 
+/// Each item of a slice of bytes is one.
+fn are_bytes(bytes: &[u8])
+    ensures { IsBytes bytes.now }
+{}
+
 /// Writes a mark with its moment.
-fn put_mark<O: TextOut>(out: &mut O, mark: PackMark) -> Result<(), Stopped>
-    ensures text { OnOk result (O.written out.new ≡ O.written out.old ++ compact_text (mark_data Moments mark)) }
+fn put_mark(out: &mut RopeWriter, mark: PackMark) -> Result<(), AllocError>
+    ensures text { OnOk result (out.new ≡ out.old ++ compact_text (mark_data Moments mark)) }
     ensures fit { OnOk result (FitsMark mark) }
 {
     let mut moment = itoa::Buffer::new();
@@ -141,8 +145,8 @@ fn put_mark<O: TextOut>(out: &mut O, mark: PackMark) -> Result<(), Stopped>
 }
 
 /// Writes a pack's id.
-fn put_pack<O: TextOut>(out: &mut O, pack: Id) -> Result<(), Stopped>
-    ensures text { OnOk result (O.written out.new ≡ O.written out.old ++ compact_text (id_data pack)) }
+fn put_pack(out: &mut RopeWriter, pack: Id) -> Result<(), AllocError>
+    ensures text { OnOk result (out.new ≡ out.old ++ compact_text (id_data pack)) }
     ensures fit { OnOk result (IsDigest pack) }
 {
     out.put(b"\"")?;
@@ -151,31 +155,10 @@ fn put_pack<O: TextOut>(out: &mut O, pack: Id) -> Result<(), Stopped>
 }
 
 /// Writes an id's digits, which stand between quotes as they are.
-fn put_digits<O: TextOut>(out: &mut O, id: Id) -> Result<(), Stopped>
-    ensures { OnOk result (O.written out.new ≡ O.written out.old ++ escape (id_text id)) }
+fn put_digits(out: &mut RopeWriter, id: Id) -> Result<(), AllocError>
+    ensures { OnOk result (out.new ≡ out.old ++ escape (id_text id)) }
 {
     let mut digits = [0u8; 64];
     hex::encode_to_slice(id.0, &mut digits).unwrap();
     out.put(&digits)
-}
-
-/// Writes bytes in hex, which stands between quotes as it is.
-fn put_hex<O: TextOut>(out: &mut O, bytes: &[u8]) -> Result<(), Stopped>
-    ensures { OnOk result (O.written out.new ≡ O.written out.old ++ escape (encode_lower bytes.now)) }
-{
-    for piece in bytes.chunks(PIECE) {
-        put_piece(out, piece)?;
-    }
-    Ok(())
-}
-
-/// Writes a piece of bytes in hex.
-fn put_piece<O: TextOut>(out: &mut O, piece: &[u8]) -> Result<(), Stopped>
-    requires { length piece.now ≤ 2048 }
-    ensures { OnOk result (O.written out.new ≡ O.written out.old ++ encode_lower piece.now) }
-{
-    let mut buffer = [0u8; 2 * PIECE];
-    let digits = &mut buffer[..2 * piece.len()];
-    hex::encode_to_slice(piece, digits).unwrap();
-    out.put(digits)
 }

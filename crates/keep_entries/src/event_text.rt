@@ -7,75 +7,37 @@ ghost use Rattle.keep_entries.specs.declared.form.Form.TheVariants.{Moments};
 
 use crate::entry_values::{put_marks, put_number};
 use crate::object_text::{put_first, put_last, put_middle};
-use crate::text_out::{GivenText, Stopped, TextOut};
-use keep_change::{Change, PackMark, StoredFile};
+use keep_change::{Change, PackMark};
 use keep_journal::{Event, EventKind};
+use keep_rope::{Rope, RopeWriter};
 use std::alloc::{AllocError, Global};
 
-/// Room for what stands around an event's lists.
-const ROOM: usize = 256;
-
-/// Room for an item of a list, and for what stands around the hex of a file.
-const ROOM_OF_ITEM: usize = 128;
-
-/// The text of an event.
-pub(crate) fn event_text(alloc: Global, event: &Event) -> Result<Vec<u8>, AllocError>
-    ensures text { IfOk result (λ bytes. bytes.items ≡ entry_text event.now) }
+/// The text of an event. The hex of files' bytes isn't held.
+pub(crate) fn event_text(alloc: Global, event: &Event) -> Result<Rope, AllocError>
+    ensures text { IfOk result (λ text. text ≡ entry_text event.now) }
     ensures fits { IfOk result (λ _. Fits event.now) }
 {
-    let mut bytes = Vec::with_capacity(alloc, room_for(event))?;
-    match put_event(&mut bytes, event) {
-        Ok(()) => Ok(bytes),
-        Err(Stopped) => Err(AllocError),
-    }
+    let mut out = RopeWriter::new(alloc);
+    put_event(&mut out, event)?;
+    out.finish()
 }
 
-/// Whether the bytes are the text of an event. The text isn't made.
-pub(crate) fn is_text_of_event(event: &Event, bytes: &[u8]) -> bool
-    ensures text { IsTrue result → bytes.now ≡ entry_text event.now }
-    ensures fits { IsTrue result → Fits event.now }
+/// Whether the text has just the pieces of an event's.
+pub(crate) fn is_text_of_event(
+    alloc: Global,
+    event: &Event,
+    text: &Rope,
+) -> Result<bool, AllocError>
+    ensures text { IfOk result (λ is. IsTrue is → text.now ≡ entry_text event.now) }
+    ensures fits { IfOk result (λ is. IsTrue is → Fits event.now) }
 {
-    let mut given = GivenText::new(bytes);
-    match put_event(&mut given, event) {
-        Ok(()) => given.is_passed(bytes.len()),
-        Err(Stopped) => false,
-    }
-}
-
-/// Room for an event's text, so that it is made in one place.
-fn room_for(event: &Event) -> usize {
-    match &event.kind {
-        EventKind::Commit(change) => room_for_change(change.as_change()),
-        EventKind::Undo | EventKind::Redo => ROOM,
-        EventKind::Empty(marks) => room_for_items(marks.as_slice().len()),
-    }
-}
-
-/// Room for a commit's text.
-fn room_for_change(change: &Change) -> usize {
-    room_for_items(change.facet_count())
-        .saturating_add(room_for_hex(change.adds.as_slice()))
-        .saturating_add(room_for_hex(change.drops.as_slice()))
-}
-
-/// Room for lists of so many items together.
-fn room_for_items(count: usize) -> usize {
-    count.saturating_mul(ROOM_OF_ITEM).saturating_add(ROOM)
-}
-
-/// Room for the hex of these files, two digits for a byte.
-fn room_for_hex(files: &[StoredFile]) -> usize {
-    let mut room: usize = 0;
-    for file in files {
-        let digits = file.bytes().as_slice().len().saturating_mul(2);
-        room = room.saturating_add(digits);
-    }
-    room
+    let written = event_text(alloc, event)?;
+    Ok(written.has_pieces_of(text))
 }
 
 /// Writes an event.
-fn put_event<O: TextOut>(out: &mut O, event: &Event) -> Result<(), Stopped>
-    ensures text { OnOk result (O.written out.new ≡ O.written out.old ++ compact_text (event_data Moments event.now)) }
+fn put_event(out: &mut RopeWriter, event: &Event) -> Result<(), AllocError>
+    ensures text { OnOk result (out.new ≡ out.old ++ compact_text (event_data Moments event.now)) }
     ensures fits { OnOk result (Fits event.now) }
 {
     let number = event.number;
@@ -88,8 +50,8 @@ fn put_event<O: TextOut>(out: &mut O, event: &Event) -> Result<(), Stopped>
 }
 
 /// Writes a commit.
-fn put_commit<O: TextOut>(out: &mut O, number: u64, change: &Change) -> Result<(), Stopped>
-    ensures text { OnOk result (O.written out.new ≡ O.written out.old ++ compact_text (commit_data Moments number change.now)) }
+fn put_commit(out: &mut RopeWriter, number: u64, change: &Change) -> Result<(), AllocError>
+    ensures text { OnOk result (out.new ≡ out.old ++ compact_text (commit_data Moments number change.now)) }
     ensures number { OnOk result (number < 2 ^ 64) }
     ensures files { OnOk result (FilesFit change.now) }
     ensures marks { OnOk result (MarksFit change.now) }
@@ -100,8 +62,8 @@ fn put_commit<O: TextOut>(out: &mut O, number: u64, change: &Change) -> Result<(
 }
 
 /// Writes an undo or a redo: the text up to its number, which says the one or the other, and the rest.
-fn put_turn<O: TextOut>(out: &mut O, beginning: &[u8], number: u64) -> Result<(), Stopped>
-    ensures text { OnOk result (O.written out.new ≡ O.written out.old ++ (beginning.now ++ (decimal number ++ codes "}"))) }
+fn put_turn(out: &mut RopeWriter, beginning: &[u8], number: u64) -> Result<(), AllocError>
+    ensures text { OnOk result (out.new ≡ out.old ++ (beginning.now ++ (decimal number ++ codes "}"))) }
     ensures number { OnOk result (number < 2 ^ 64) }
 {
     out.put(beginning)?;
@@ -110,8 +72,8 @@ fn put_turn<O: TextOut>(out: &mut O, beginning: &[u8], number: u64) -> Result<()
 }
 
 /// Writes an emptying.
-fn put_empty<O: TextOut>(out: &mut O, number: u64, marks: &[PackMark]) -> Result<(), Stopped>
-    ensures text { OnOk result (O.written out.new ≡ O.written out.old ++ compact_text (empty_data Moments number marks.now)) }
+fn put_empty(out: &mut RopeWriter, number: u64, marks: &[PackMark]) -> Result<(), AllocError>
+    ensures text { OnOk result (out.new ≡ out.old ++ compact_text (empty_data Moments number marks.now)) }
     ensures number { OnOk result (number < 2 ^ 64) }
     ensures fit { OnOk result (AllByRecursion FitsMark marks.now) }
 {

@@ -10,50 +10,51 @@ use crate::event_text::is_text_of_event;
 use crate::form::Form;
 use crate::held_files::fill;
 use crate::misread::Misread;
-use crate::short_text::without_hex;
 use keep_change::{Change, SharedChange};
 use keep_docs::{read_doc, u64_at};
 use keep_hashing::Hashing;
 use keep_journal::{Entry, Event, EventKind};
 use keep_repo::Repo;
+use keep_rope::{Piece, Rope};
 use std::alloc::{AllocError, Global};
 
-/// Reads the entry of number k as `read_entry` does. Where it is a commit whose files are held under their names, their
-/// bytes aren't read out of its text, but shared, and those that are added are hashed together.
+/// Reads the entry of number k as `read_entry` does. Where it is a commit whose files' hex isn't held, their bytes aren't
+/// read out of its text, but shared with the files that are held under their names, and those that are added are hashed
+/// together.
 pub fn read_entry_with<H: Hashing>(
     alloc: Global,
     held: &Repo,
     hashing: &mut H,
     k: u64,
-    bytes: &[u8],
+    rope: &Rope,
 ) -> Result<Entry, EntryError>
     ensures number { IfOk result (λ entry. entry.at ≡ k) }
     ensures entry { IfOk result IsEntry }
-    ensures spelled { IfOk result (λ entry. Spells bytes.now entry.event) }
+    ensures spelled { IfOk result (λ entry. Spells rope.now entry.event) }
     ensures bad { IfErr result (λ why. why ≢ Memory → why ≡ BadEntry k) }
-    ensures nothing { IfErr result (λ why. why ≢ Memory → TellsNothing k bytes.now) }
+    ensures nothing { IfErr result (λ why. why ≢ Memory → TellsNothing k rope.now) }
 {
-    let found = held_entry(alloc, held, hashing, k, bytes)?;
+    let found = held_entry(alloc, held, hashing, k, rope)?;
     match found {
         Some(entry) => Ok(entry),
-        None => read_entry(alloc, k, bytes),
+        None => read_entry(alloc, k, rope.bytes(alloc)?.as_slice()),
     }
 }
 
-/// The entry of number k, where it is a commit whose files are held. It is guessed by its text without their bytes, and
-/// is right where its text is just this one.
+/// The entry of number k, where it is a commit whose files are held. It is guessed by its text without their hex, and is
+/// right where its text has the pieces of this one.
 fn held_entry<H: Hashing>(
     alloc: Global,
     held: &Repo,
     hashing: &mut H,
     k: u64,
-    bytes: &[u8],
+    rope: &Rope,
 ) -> Result<Option<Entry>, AllocError>
     ensures number { IfOk result (λ found. IfSome found (λ entry. entry.at ≡ k)) }
     ensures entry { IfOk result (λ found. IfSome found IsEntry) }
-    ensures spelled { IfOk result (λ found. IfSome found (λ entry. Spells bytes.now entry.event)) }
+    ensures spelled { IfOk result (λ found. IfSome found (λ entry. Spells rope.now entry.event)) }
 {
-    let Some(event) = guess(alloc, held, hashing, bytes)? else {
+    let Some(event) = guess(alloc, held, hashing, rope)? else {
         return Ok(None);
     };
     if k == 0 || event.number == 0 {
@@ -62,7 +63,7 @@ fn held_entry<H: Hashing>(
     if !is_proper(&event.kind) {
         return Ok(None);
     }
-    if !is_text_of_event(&event, bytes) {
+    if !is_text_of_event(alloc, &event, rope)? {
         return Ok(None);
     }
     Ok(Some(Entry { at: k, event }))
@@ -73,16 +74,23 @@ fn guess<H: Hashing>(
     alloc: Global,
     held: &Repo,
     hashing: &mut H,
-    text: &[u8],
+    rope: &Rope,
 ) -> Result<Option<Event>, AllocError> {
-    let short = without_hex(alloc, text)?;
-    if short.len() == text.len() {
+    if !has_hex(rope) {
         return Ok(None);
     }
-    match numbered_change(alloc, &short) {
+    match numbered_change(alloc, rope.plain(alloc)?.as_slice()) {
         Ok((number, change)) => commit_of(alloc, held, hashing, number, change),
         Err(Misread::OtherShape) => Ok(None),
         Err(Misread::Memory) => Err(AllocError),
+    }
+}
+
+/// Whether the text has hex that isn't held.
+fn has_hex(rope: &Rope) -> bool {
+    match rope.pieces() {
+        Some(pieces) => pieces.iter().any(|piece| matches!(piece, Piece::Hex(_))),
+        None => false,
     }
 }
 

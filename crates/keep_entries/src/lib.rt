@@ -15,8 +15,6 @@ mod lists_at;
 mod misread;
 mod object_text;
 mod read_parts;
-mod short_text;
-mod text_out;
 
 pub use entry::{read_entry, write_entry};
 pub use entry_error::EntryError;

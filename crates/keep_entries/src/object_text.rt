@@ -10,13 +10,14 @@ ghost use Rattle.keep_entries.specs.Members.{first_members, last_members, middle
 ghost use Rattle.keep_entries.specs.declared.form.Form.TheVariants.{Moments};
 
 use crate::entry_values::{put_files, put_marks, put_names, put_number, put_packs};
-use crate::text_out::{Stopped, TextOut};
 use keep_change::Change;
+use keep_rope::RopeWriter;
+use std::alloc::AllocError;
 
 /// Writes a commit's opening bracket, and the members that come first.
-pub(crate) fn put_first<O: TextOut>(out: &mut O, change: &Change) -> Result<(), Stopped>
-    ensures text { OnOk result ((ms : Members) → O.written out.new ++ members_text true ms
-        ≡ O.written out.old ++ compact_text (object (first_members Moments change.now ms))) }
+pub(crate) fn put_first(out: &mut RopeWriter, change: &Change) -> Result<(), AllocError>
+    ensures text { OnOk result ((ms : Members) → out.new ++ members_text true ms
+        ≡ out.old ++ compact_text (object (first_members Moments change.now ms))) }
     ensures absent { OnOk result (AllByRecursion FitsName change.now.absent) }
     ensures adds { OnOk result (AllByRecursion FitsFile change.now.adds) }
     ensures clears { OnOk result (AllByRecursion FitsMark change.now.clears) }
@@ -34,13 +35,13 @@ pub(crate) fn put_first<O: TextOut>(out: &mut O, change: &Change) -> Result<(), 
 }
 
 /// Writes those that come then.
-pub(crate) fn put_middle<O: TextOut>(
-    out: &mut O,
+pub(crate) fn put_middle(
+    out: &mut RopeWriter,
     number: u64,
     change: &Change,
-) -> Result<(), Stopped>
-    ensures text { OnOk result ((ms : Members) → O.written out.new ++ members_text true ms
-        ≡ O.written out.old ++ members_text true (middle_members Moments number change.now ms)) }
+) -> Result<(), AllocError>
+    ensures text { OnOk result ((ms : Members) → out.new ++ members_text true ms
+        ≡ out.old ++ members_text true (middle_members Moments number change.now ms)) }
     ensures marked { OnOk result (AllByRecursion IsDigest change.now.marked) }
 {
     out.put(b",\"event\":\"commit\",\"form\":2,\"marked\":[")?;
@@ -50,9 +51,9 @@ pub(crate) fn put_middle<O: TextOut>(
 }
 
 /// Writes those that come last, and the closing bracket.
-pub(crate) fn put_last<O: TextOut>(out: &mut O, change: &Change) -> Result<(), Stopped>
-    ensures text { OnOk result (O.written out.new
-        ≡ O.written out.old ++ members_text true (last_members Moments change.now no_members)) }
+pub(crate) fn put_last(out: &mut RopeWriter, change: &Change) -> Result<(), AllocError>
+    ensures text { OnOk result (out.new
+        ≡ out.old ++ members_text true (last_members Moments change.now no_members)) }
     ensures present { OnOk result (AllByRecursion FitsName change.now.present) }
     ensures sets { OnOk result (AllByRecursion FitsMark change.now.sets) }
     ensures unmarked { OnOk result (AllByRecursion IsDigest change.now.unmarked) }

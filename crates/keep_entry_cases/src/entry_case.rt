@@ -65,15 +65,15 @@ fn told(alloc: Global, number: u64, bytes: &[u8]) -> Result<String, No> {
 }
 
 fn is_same(alloc: Global, entry: &Entry, bytes: &[u8]) -> Result<bool, No> {
-    let text = write_entry(alloc, entry)?;
+    let text = write_entry(alloc, entry)?.bytes(alloc)?;
     Ok(text.as_slice() == bytes)
 }
 
 /// How an entry that was read is written.
 fn written(alloc: Global, number: u64, bytes: &[u8]) -> Result<String, No> {
     let entry = read_entry(alloc, number, bytes)?;
-    let text = write_entry(alloc, &entry)?;
-    Ok(String::from_utf8_lossy(alloc, &text)?)
+    let text = write_entry(alloc, &entry)?.bytes(alloc)?;
+    Ok(String::from_utf8_lossy(alloc, text.as_slice())?)
 }
 
 /// The number that is written in decimal.

@@ -8,8 +8,8 @@ use std::alloc::Global;
 /// How many facets are read of an entry that was written with so many, one of them an added file.
 pub(crate) fn facets(alloc: Global, number: u64, count: u32) -> Result<String, No> {
     let written = entry_of(alloc, number, count)?;
-    let text = write_entry(alloc, &written)?;
-    let entry = read_entry(alloc, number, &text)?;
+    let text = write_entry(alloc, &written)?.bytes(alloc)?;
+    let entry = read_entry(alloc, number, text.as_slice())?;
     match &entry.event.kind {
         EventKind::Commit(change) => {
             let count = change.as_change().facet_count();

@@ -1,11 +1,12 @@
 use crate::no_entry::No;
 use crate::told_entry::tell;
-use keep_change::StoredFile;
-use keep_entries::read_entry_with;
+use keep_change::{Change, StoredFile};
+use keep_entries::{read_entry_with, write_entry};
 use keep_hashing::{Hashing, OneByOne};
 use keep_journal::{Entry, EventKind};
 use keep_names::Id;
 use keep_repo::Repo;
+use keep_rope::Rope;
 use std::alloc::{AllocError, Global};
 
 /// Hashes one piece after another, and counts how often it is asked to.
@@ -23,8 +24,8 @@ impl Hashing for CountedHashing {
     }
 }
 
-/// Whether the entry is read alike where its files are held. One that is written so, and has bytes of files, has them hashed
-/// in one batch.
+/// Whether the entry is read alike where its files are held, and their hex isn't held with its text. One that is written
+/// so has the pieces that it is written in, and where it has files, has them hashed in one batch.
 pub(crate) fn is_read_alike(
     alloc: Global,
     entry: &Entry,
@@ -37,21 +38,24 @@ pub(crate) fn is_read_alike(
         let change = change.as_change();
         hold(&mut held, change.adds.as_slice())?;
         hold(&mut held, change.drops.as_slice())?;
-        if have_bytes(change.adds.as_slice()) || have_bytes(change.drops.as_slice()) {
+        if has_files(change) {
             batches = 1;
         }
     }
     let mut hashing = CountedHashing { batches: 0 };
-    let again = read_entry_with(alloc, &held, &mut hashing, entry.at, bytes)?;
+    let text = Rope::cut(alloc, bytes, &held)?;
+    let again = read_entry_with(alloc, &held, &mut hashing, entry.at, &text)?;
     let told = tell(alloc, entry)?;
     let told_again = tell(alloc, &again)?;
     let is_hashed_so = !is_written_so || hashing.batches == batches;
-    Ok(is_hashed_so && told.as_str() == told_again.as_str())
+    let is_cut_so = !is_written_so || write_entry(alloc, entry)?.has_pieces_of(&text);
+    let is_kept = text.bytes(alloc)?.as_slice() == bytes;
+    Ok(is_hashed_so && is_cut_so && is_kept && told.as_str() == told_again.as_str())
 }
 
-/// Whether a file has bytes.
-fn have_bytes(files: &[StoredFile]) -> bool {
-    files.iter().any(|file| !file.bytes().as_slice().is_empty())
+/// Whether the change adds or drops files.
+fn has_files(change: &Change) -> bool {
+    !change.adds.as_slice().is_empty() || !change.drops.as_slice().is_empty()
 }
 
 /// Puts the files under their names.

@@ -6,7 +6,7 @@ ghost use Rattle.keep_files.specs.declared.tree_error.TreeError.TheVariants as t
 
 use crate::node::Node;
 use crate::tree_error::TreeError;
-use keep_repo::Bytes;
+use keep_rope::Rope;
 
 /// The files and folders below a root, which is always there.
 ///
@@ -43,7 +43,7 @@ pub trait FileTree: Drop {
         ensures told { result ≢ Err the_error.Unknown };
 
     /// Writes a new file. Its bytes outlast a loss of power, and its name does once its folder is synced.
-    fn write_new(&mut self, path: &str, bytes: &Bytes) -> Result<(), TreeError>
+    fn write_new(&mut self, path: &str, bytes: &Rope) -> Result<(), TreeError>
         ensures can { OnOk result (CanDo (seen self.old).stands (Wrote path.now bytes.now)) }
         ensures ok { OnOk result (seen self.new ≡ done (seen self.old) (Wrote path.now bytes.now)) }
         ensures err { IfErr result (λ error.
@@ -77,10 +77,4 @@ pub trait FileTree: Drop {
         ensures ok { OnOk result (seen self.new ≡ done (seen self.old) (Synced path.now)) }
         ensures err { OnErr result (seen self.new ≡ failed (seen self.old)) }
         ensures told { result ≢ Err the_error.Unknown };
-
-    /// Says that nobody here reads the file at the path any more, so that its memory can be given back. The file stays, and a
-    /// later read of it may fail.
-    fn let_go(&mut self, _path: &str)
-        ensures { seen self.new ≡ seen self.old }
-    {}
 }

@@ -1,6 +1,6 @@
 use keep_disk::DiskTree;
 use keep_files::{FileTree, Node, TreeError};
-use keep_repo::Bytes;
+use keep_rope::Rope;
 
 /// The files below a folder of the machine that the program runs on.
 ///
@@ -28,7 +28,7 @@ impl FileTree for HostTree<'_> {
         self.tree.list(folder)
     }
 
-    fn write_new(&mut self, path: &str, bytes: &Bytes) -> Result<(), TreeError> {
+    fn write_new(&mut self, path: &str, bytes: &Rope) -> Result<(), TreeError> {
         self.tree.write_new(path, bytes)
     }
 
@@ -46,9 +46,5 @@ impl FileTree for HostTree<'_> {
 
     fn sync_folder(&mut self, path: &str) -> Result<(), TreeError> {
         self.tree.sync_folder(path)
-    }
-
-    fn let_go(&mut self, path: &str) {
-        self.tree.let_go(path);
     }
 }

@@ -11,7 +11,7 @@ use keep_files::{FileTree, TreeError};
 use keep_keyed_folder::{KeyPath, KeyedFolder, read_keys};
 use keep_log::Log;
 use keep_paths::key_is_sized;
-use keep_repo::Bytes;
+use keep_rope::Rope;
 use keep_shelf::{Fault, Key, Shelf, Stock};
 use std::alloc::Global;
 use std::marker::Model;
@@ -88,7 +88,7 @@ impl<T: FileTree> FolderShelf<T> {
         }
     }
 
-    fn try_read(&mut self, key: Key) -> Result<Option<Bytes>, Fault>
+    fn try_read(&mut self, key: Key) -> Result<Option<Rope>, Fault>
         ensures found { IfOk result (λ found. found ≡ map.get self.old.shelved.content key) }
         ensures ok { OnOk result (self.new.shelved ≡ called self.old.shelved self.old.shelved.content) }
         ensures err { OnErr result (self.new.shelved ≡ self.old.shelved) }
@@ -114,7 +114,7 @@ impl<T: FileTree> FolderShelf<T> {
         Ok(keys)
     }
 
-    fn try_write(&mut self, key: Key, bytes: &Bytes) -> Result<(), Fault>
+    fn try_write(&mut self, key: Key, bytes: &Rope) -> Result<(), Fault>
         ensures ok { OnOk result (self.new.shelved
             ≡ called self.old.shelved (map.insert self.old.shelved.content key bytes.now)) }
         ensures err { OnErr result (self.new.shelved ≡ self.old.shelved) }
@@ -210,7 +210,7 @@ impl<T: FileTree> FolderShelf<T> {
 impl<T: FileTree> Shelf for FolderShelf<T> {
     ghost shelved = { λ s. s.shelved };
 
-    fn read(&mut self, key: Key) -> Result<Option<Bytes>, Fault>
+    fn read(&mut self, key: Key) -> Result<Option<Rope>, Fault>
         ensures found { IfOk result (λ found. found ≡ map.get self.old.shelved.content key) }
         ensures ok { OnOk result (self.new.shelved ≡ called self.old.shelved self.old.shelved.content) }
         ensures err { OnErr result (self.new.shelved ≡ failed self.old.shelved) }
@@ -222,7 +222,7 @@ impl<T: FileTree> Shelf for FolderShelf<T> {
         }
     }
 
-    fn write(&mut self, key: Key, bytes: &Bytes) -> Result<(), Fault>
+    fn write(&mut self, key: Key, bytes: &Rope) -> Result<(), Fault>
         ensures ok { OnOk result (self.new.shelved
             ≡ called self.old.shelved (map.insert self.old.shelved.content key bytes.now)) }
         ensures err { OnErr result (self.new.shelved ≡ failed self.old.shelved) }
@@ -272,16 +272,6 @@ impl<T: FileTree> Shelf for FolderShelf<T> {
         match self.try_list() {
             Ok(keys) => Ok(keys),
             Err(Fault) => Err(self.fail()),
-        }
-    }
-
-    fn let_go(&mut self, key: Key)
-        ensures same { self.new.shelved ≡ self.old.shelved }
-        ensures told { self.new.is_told ≡ self.old.is_told }
-    {
-        self.content.let_go(key);
-        if let Ok(path) = KeyPath::new(self.alloc, key) {
-            self.folder.let_go(&path);
         }
     }
 

@@ -5,7 +5,8 @@ ghost use Rattle.keep_keyed_folder.specs.Walked.{IsOnTheWay, IsOpened, IsOrderly
 
 use keep_files::{FileTree, Node, TreeError};
 use keep_paths::{holds_keys, key_is_sized, key_of_path};
-use keep_shelf::{LooseBytes, Stock};
+use keep_rope::Rope;
+use keep_shelf::Stock;
 use std::alloc::Global;
 
 /// How many paths are looked at, at most. A tree that has more is given up.
@@ -73,7 +74,7 @@ fn take_folder<T: FileTree>(
 }
 
 /// Notes the bytes of a key's file, and passes another file over.
-fn take_file(found: &mut Stock, path: &str, bytes: &LooseBytes) -> Result<(), TreeError>
+fn take_file(found: &mut Stock, path: &str, bytes: &Rope) -> Result<(), TreeError>
     ensures { OnOk result (IsRead path.now bytes.now found.old found.new) }
 {
     if holds_keys(path) {
@@ -83,6 +84,6 @@ fn take_file(found: &mut Stock, path: &str, bytes: &LooseBytes) -> Result<(), Tr
         return Ok(());
     };
     key_is_sized(key);
-    found.write(key, bytes.shared()?)?;
+    found.write(key, bytes.clone()?)?;
     Ok(())
 }

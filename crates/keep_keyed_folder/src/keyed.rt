@@ -15,7 +15,7 @@ use crate::leftovers::clear;
 use crate::sound_files::SoundFiles;
 use keep_files::{FileTree, TreeError};
 use keep_paths::{key_is_sized, path_names_key};
-use keep_repo::Bytes;
+use keep_rope::Rope;
 
 /// Files by keys in a tree.
 ///
@@ -64,7 +64,7 @@ impl<T: FileTree> KeyedFolder<T> {
     }
 
     /// Puts the bytes into the key's file, or into a new one.
-    pub fn put(&mut self, path: &KeyPath, bytes: &Bytes) -> Result<(), TreeError>
+    pub fn put(&mut self, path: &KeyPath, bytes: &Rope) -> Result<(), TreeError>
         requires { IsClosed (stands_in T.seen self.old) }
         ensures closed { IsClosed (stands_in T.seen self.new) }
         ensures left { let before = stands_in T.seen self.old in let after = stands_in T.seen self.new in
@@ -148,15 +148,6 @@ impl<T: FileTree> KeyedFolder<T> {
         key_is_sized(path.key);
         let done = self.files.remove(path.as_str());
         self.files.heed(done)
-    }
-
-    /// Gives back the memory of the key's file. The file stays, and a later read of it may fail.
-    pub fn let_go(&mut self, path: &KeyPath)
-        ensures seen { seen_in T.seen self.new ≡ seen_in T.seen self.old }
-        ensures sound { is_sound_in self.new ≡ is_sound_in self.old }
-        ensures tmp { tmp_in self.new ≡ tmp_in self.old }
-    {
-        self.files.tree.let_go(path.as_str());
     }
 
     /// Takes away what earlier runs left under way: files at the root that are called `tmp`, or by `tmp-` and more.

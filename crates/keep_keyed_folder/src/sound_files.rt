@@ -10,7 +10,7 @@ ghost use Rattle.keep_keyed_folder.specs.Stops.{Keeps};
 ghost use Rattle.keep_files.specs.declared.tree_error.TreeError.TheVariants as the_error;
 
 use keep_files::{FileTree, TreeError, home_of};
-use keep_repo::Bytes;
+use keep_rope::Rope;
 
 /// A tree, and whether all that was done in it is known, and known to outlast a loss of power.
 #[derive(Drop)]
@@ -22,7 +22,7 @@ pub(crate) struct SoundFiles<T> {
 impl<T: FileTree> SoundFiles<T> {
     /// Puts a file at the path, in the place of the file that stands there. It is written elsewhere first, and what
     /// comes last is a rename, so that it is seen whole or not at all.
-    pub(crate) fn put(&mut self, tmp: &str, path: &str, bytes: &Bytes) -> Result<(), TreeError>
+    pub(crate) fn put(&mut self, tmp: &str, path: &str, bytes: &Rope) -> Result<(), TreeError>
         requires closed { IsClosed (T.seen self.old.tree).stands }
         requires sound { IsTrue self.old.is_sound }
         requires apart { path.now ≢ tmp.now }

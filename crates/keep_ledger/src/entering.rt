@@ -157,7 +157,7 @@ fn turn_live<S: Shelf>(
     Ok(())
 }
 
-/// Reads these files from the trash of the event's change, and writes the entry, which nobody here reads again.
+/// Reads these files from the trash of the event's change, and writes the entry.
 fn look_and_write<S: Shelf>(
     shelf: &mut S,
     returning: &[StoredFile],
@@ -170,7 +170,5 @@ fn look_and_write<S: Shelf>(
 {
     let entry = prepared.entry.as_entry();
     look(shelf, entry.event.number, returning)?;
-    shelf.write(Key::Entry(entry.at), &prepared.text)?;
-    shelf.let_go(Key::Entry(entry.at));
-    Ok(())
+    shelf.write(Key::Entry(entry.at), &prepared.text)
 }

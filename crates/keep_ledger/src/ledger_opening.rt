@@ -9,7 +9,7 @@ use keep_catalog::{Hashing, LiveRepo};
 use keep_journal::History;
 use keep_moves::Move;
 use keep_opening::{OpenError, Opened, due_moves, read, take_in};
-use keep_shelf::{Key, Shelf};
+use keep_shelf::Shelf;
 use keep_touch::Touch;
 use std::alloc::Global;
 
@@ -27,7 +27,6 @@ impl<S: Shelf> Ledger<S> {
         let mut shelf = shelf;
         match find(alloc, &mut shelf, hashing) {
             Ok(found) => {
-                let_entries_go(&mut shelf, &found.history);
                 let ShelfReading {
                     live,
                     history,
@@ -46,15 +45,6 @@ impl<S: Shelf> Ledger<S> {
             }
             Err(error) => Err(NotOpened { shelf, error }),
         }
-    }
-}
-
-/// Says of each entry that it was read for the last time.
-fn let_entries_go<S: Shelf>(shelf: &mut S, history: &History)
-    ensures { S.shelved shelf.new ≡ S.shelved shelf.old }
-{
-    for notice in history.notices() {
-        shelf.let_go(Key::Entry(notice.at));
     }
 }
 

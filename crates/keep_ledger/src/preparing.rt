@@ -13,14 +13,15 @@ use crate::opening_marks::marks_under;
 use keep_change::{SharedChange, Turn};
 use keep_journal::{Entry, Event, EventKind, History, Posting, Request};
 use keep_moves::{Move, entry_of, first_moves, swept_moves, turn_moves};
-use keep_repo::{Bytes, Repo};
+use keep_repo::Repo;
+use keep_rope::Rope;
 use std::alloc::{AllocError, Global};
 
 /// What takes memory of an event: its entry, the entry's text, and its moves.
 #[derive(Drop)]
 pub(crate) struct Prepared {
     pub entry: Posting,
-    pub text: Bytes,
+    pub text: Rope,
     pub moves: Vec<Move>,
 }
 

@@ -1,5 +1,5 @@
 -- What is put at a path and taken away there, in a tree in memory.
-use Rattle.std.proofs.Common.{◌≡◌, ◌∙◌, ℕ, Bool, true, false, cond, List, [], ◌∷◌, length, Option, Some, None, IsTrue, is_some, refl, sym, ap, arith}
+use Rattle.std.proofs.Common.{◌≡◌, ◌∙◌, ℕ, Bool, true, false, cond, List, [], ◌∷◌, length, Option, Some, None, IsTrue, is_some, refl, ap, arith}
 use Rattle.std.specs.Prelude.{◌==◌}
 use Rattle.std.proofs.lemmas.Bool.Decides.{nat_tests}
 use Rattle.std.proofs.lemmas.Map.Text.{btree_map_updates_text}
@@ -37,15 +37,6 @@ again false path q stands put same = refl
 pub put_again : (stands : Stands) (path : List ℕ) (node : Option Node) → put_at (put_at stands path node) path (stands path) ≡ stands
 put_again stands path node = same_stands (put_at (put_at stands path node) path (stands path)) stands (λ q.
     again (bytes_eq path q) path q stands node (bytes_eq-Decides path q).0)
-
-same_at : (b : Bool) (path q : List ℕ) (stands : Stands) (node : Option Node) → stands path ≡ node → (b ≡ true → path ≡ q) → cond b node (stands q) ≡ stands q
-same_at true path q stands node stood same = sym stood ∙ ap stands (same refl)
-same_at false path q stands node stood same = refl
-
--- what stands at a path is put there
-pub put_same : (stands : Stands) (path : List ℕ) (node : Option Node) → stands path ≡ node → put_at stands path node ≡ stands
-put_same stands path node stood = same_stands (put_at stands path node) stands (λ q.
-    same_at (bytes_eq path q) path q stands node stood (bytes_eq-Decides path q).0)
 
 -- what was put at a path is taken back
 pub taken_back : (old between after : Seen) (path : List ℕ) (node was : Option Node) → between ≡ changed old (put_at old.stands path node)

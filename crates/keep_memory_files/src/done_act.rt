@@ -1,9 +1,9 @@
-use keep_repo::Bytes;
+use keep_rope::Rope;
 
 /// What was done with a tree in memory, by paths.
 #[derive(Drop)]
 pub(crate) enum DoneAct {
-    Write(String, Bytes),
+    Write(String, Rope),
     /// From the first path to the second.
     Rename(String, String),
     Remove(String),

@@ -8,7 +8,7 @@ ghost use Rattle.keep_shelf.specs.Shelved.{risen};
 
 use crate::tree_failures::{Fate, Plan};
 use keep_files::{FileTree, Node, TreeError};
-use keep_repo::Bytes;
+use keep_rope::Rope;
 
 /// A tree that fails when it is told to, and is otherwise the one that it stands before. It counts the failures of both.
 #[derive(Debug, Drop)]
@@ -145,7 +145,7 @@ impl<T: FileTree> FileTree for FailingTree<T> {
         }
     }
 
-    fn write_new(&mut self, path: &str, bytes: &Bytes) -> Result<(), TreeError>
+    fn write_new(&mut self, path: &str, bytes: &Rope) -> Result<(), TreeError>
         ensures can { OnOk result (CanDo (outside T.seen self.old).stands (Wrote path.now bytes.now)) }
         ensures ok { OnOk result
             (outside T.seen self.new ≡ done (outside T.seen self.old) (Wrote path.now bytes.now)) }
@@ -250,9 +250,5 @@ impl<T: FileTree> FileTree for FailingTree<T> {
                 Err(_) => Err(self.fail(TreeError::Broken)),
             },
         }
-    }
-
-    fn let_go(&mut self, path: &str) {
-        self.inner.let_go(path);
     }
 }

@@ -8,7 +8,7 @@ mod nodes;
 use crate::done_act::DoneAct;
 use keep_files::{FileTree, Node, TreeError};
 use keep_log::Log;
-use keep_repo::Bytes;
+use keep_rope::Rope;
 use std::alloc::{AllocError, Global};
 use std::collections::BTreeMap;
 
@@ -86,7 +86,7 @@ impl FileTree for MemoryTree {
         }
     }
 
-    fn write_new(&mut self, path: &str, bytes: &Bytes) -> Result<(), TreeError> {
+    fn write_new(&mut self, path: &str, bytes: &Rope) -> Result<(), TreeError> {
         self.write_new_with(path, bytes, || Ok(()))
     }
 
@@ -104,9 +104,5 @@ impl FileTree for MemoryTree {
 
     fn sync_folder(&mut self, path: &str) -> Result<(), TreeError> {
         self.sync_folder_with(path, || Ok(()))
-    }
-
-    fn let_go(&mut self, path: &str) {
-        self.let_go_at(path);
     }
 }

@@ -4,14 +4,13 @@ ghost use Rattle.keep_entries.specs.Spelling.{entry_text};
 
 use keep_entries::write_entry;
 use keep_journal::Entry;
-use keep_repo::Bytes;
+use keep_rope::Rope;
 use std::alloc::{AllocError, Global};
 
 /// The text of the entry's event, as it is put on a shelf.
-pub fn entry_of(alloc: Global, entry: &Entry) -> Result<Bytes, AllocError>
-    ensures text { IfOk result (λ bytes. bytes ≡ entry_text entry.now.event) }
+pub fn entry_of(alloc: Global, entry: &Entry) -> Result<Rope, AllocError>
+    ensures text { IfOk result (λ text. text ≡ entry_text entry.now.event) }
     ensures fits { IfOk result (λ _. Fits entry.now.event) }
 {
-    let text = write_entry(alloc, entry)?;
-    Bytes::new(alloc, text)
+    write_entry(alloc, entry)
 }

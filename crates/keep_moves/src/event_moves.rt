@@ -3,6 +3,7 @@ ghost use Rattle.keep_moves.specs.Lists.{back_of, commit_moves, moves_turned, ou
 
 use crate::moves::Move;
 use keep_change::{Change, StoredFile, Turn};
+use keep_rope::Rope;
 use keep_shelf::Key;
 use std::alloc::{AllocError, Global};
 
@@ -12,7 +13,8 @@ pub fn first_moves(alloc: Global, n: u64, change: &Change) -> Result<Vec<Move>, 
 {
     let mut moves = Vec::new(alloc);
     for file in change.adds.as_slice() {
-        moves.push(Move::Put(Key::Live(file.name()), file.bytes().clone()?))?;
+        let bytes = Rope::of(file.bytes().clone()?);
+        moves.push(Move::Put(Key::Live(file.name()), bytes))?;
     }
     push_out(&mut moves, n, change.drops.as_slice())?;
     Ok(moves)

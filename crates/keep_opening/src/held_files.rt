@@ -8,7 +8,7 @@ pub(crate) fn files_held(alloc: Global, stock: &Stock, keys: &[Key]) -> Result<R
     let mut held = Repo::new(alloc);
     for key in keys {
         if let Key::Live(name) | Key::Trash(_, name) = key {
-            if let Some(bytes) = stock.shared(*key)? {
+            if let Some(bytes) = stock.bytes(*key)? {
                 held.insert_file(*name, bytes)?;
             }
         }

@@ -8,7 +8,8 @@ use crate::held_files::files_held;
 use keep_entries::{EntryError, read_entry_with};
 use keep_hashing::Hashing;
 use keep_reading::Leaf;
-use keep_repo::{Bytes, Repo};
+use keep_repo::Repo;
+use keep_rope::Rope;
 use keep_shelf::{Key, Stock};
 use std::alloc::{AllocError, Global};
 
@@ -43,25 +44,25 @@ fn push_leaf<H: Hashing>(
         × (leaves.new.items ≡ leaves.old.items ++ more) × AreUnder (map.get stock.now) key more) }
 {
     if let Key::Entry(k) = key {
-        if let Some(bytes) = stock.shared(key)? {
-            leaves.push(leaf_of(alloc, held, hashing, k, &bytes)?)?;
+        if let Some(text) = stock.get(key) {
+            leaves.push(leaf_of(alloc, held, hashing, k, text)?)?;
         }
     }
     Ok(())
 }
 
-/// The leaf of this number, with these bytes.
+/// The leaf of this number, with this text.
 fn leaf_of<H: Hashing>(
     alloc: Global,
     held: &Repo,
     hashing: &mut H,
     k: u64,
-    bytes: &Bytes,
+    text: &Rope,
 ) -> Result<Leaf, AllocError>
     ensures number { IfOk result (λ leaf. leaf.at ≡ k) }
-    ensures tells { IfOk result (λ leaf. Tells k bytes.now leaf.event) }
+    ensures tells { IfOk result (λ leaf. Tells k text.now leaf.event) }
 {
-    match read_entry_with(alloc, held, hashing, k, bytes.as_slice()) {
+    match read_entry_with(alloc, held, hashing, k, text) {
         Ok(entry) => Ok(Leaf {
             at: k,
             event: Some(entry.event),

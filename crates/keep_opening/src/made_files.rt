@@ -35,7 +35,7 @@ fn put_key(stock: &Stock, key: Key, repo: &mut Repo) -> Result<(), AllocError>
     ensures { OnOk result (repo.new ≡ with_live key (map.get stock.now key) repo.old) }
 {
     if let Key::Live(name) = key {
-        if let Some(bytes) = stock.shared(key)? {
+        if let Some(bytes) = stock.bytes(key)? {
             repo.insert_file(name, bytes)?;
         }
     }

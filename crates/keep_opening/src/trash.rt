@@ -12,6 +12,7 @@ use keep_change::StoredFile;
 use keep_journal::History;
 use keep_names::FileName;
 use keep_repo::{Bytes, Repo};
+use keep_rope::Rope;
 use keep_shelf::{Key, Stock};
 use std::alloc::{AllocError, Global};
 
@@ -36,7 +37,7 @@ fn put_names(live: &Repo, names: &[FileName], stock: &mut Stock) -> Result<(), A
 {
     for name in names {
         if let Some(bytes) = live.get(*name) {
-            stock.write(Key::Live(*name), bytes.clone()?)?;
+            stock.write(Key::Live(*name), Rope::of(bytes.clone()?))?;
         }
     }
     Ok(())
@@ -74,7 +75,8 @@ fn put_out(n: u64, files: &[StoredFile], stock: &mut Stock) -> Result<(), AllocE
     ensures { OnOk result (stock.new ≡ trash_put n files.now stock.old) }
 {
     for file in files {
-        stock.write(Key::Trash(n, file.name()), file.bytes().clone()?)?;
+        let bytes = Rope::of(file.bytes().clone()?);
+        stock.write(Key::Trash(n, file.name()), bytes)?;
     }
     Ok(())
 }
@@ -110,8 +112,8 @@ fn is_same(one: &Stock, other: &Stock, key: Key) -> Result<bool, AllocError>
     match key {
         Key::Entry(_) => Ok(true),
         Key::Live(_) | Key::Trash(_, _) => {
-            let held = one.shared(key)?;
-            let others = other.shared(key)?;
+            let held = one.bytes(key)?;
+            let others = other.bytes(key)?;
             Ok(hold_same(&held, &others))
         }
     }

@@ -1,7 +1,7 @@
 use keep_disk::DiskTree;
 use keep_files::{FileTree, Node, TreeError};
 use keep_progress::CountedFiles;
-use keep_repo::Bytes;
+use keep_rope::Rope;
 
 /// The files below a folder of the machine, which are counted as they are read.
 #[derive(Drop)]
@@ -26,7 +26,7 @@ impl FileTree for CountedTree<'_> {
         self.tree.list(folder)
     }
 
-    fn write_new(&mut self, path: &str, bytes: &Bytes) -> Result<(), TreeError> {
+    fn write_new(&mut self, path: &str, bytes: &Rope) -> Result<(), TreeError> {
         self.tree.write_new(path, bytes)
     }
 
@@ -44,9 +44,5 @@ impl FileTree for CountedTree<'_> {
 
     fn sync_folder(&mut self, path: &str) -> Result<(), TreeError> {
         self.tree.sync_folder(path)
-    }
-
-    fn let_go(&mut self, path: &str) {
-        self.tree.let_go(path);
     }
 }

@@ -46,14 +46,3 @@ pub back_written : {E : Type 0} (before held after : Content) (key : Key) (put b
     → map.get before key ≡ Some bytes → held ≡ map.insert before key put → OnOk written (after ≡ map.insert held key bytes) → OnErr written (map.get held key ≡ None) → after ≡ before
 back_written {E} before held after key put bytes (Ok was) h put_is done absent = back_some before held after key put bytes h put_is done
 back_written {E} before held after key put bytes (Err e) h put_is done absent = cc (sym (put_there before held key put put_is) ∙ absent)
-
-same_at : (content : Content) (key : Key) (bytes : List ℕ) (q : Key) (same : Bool) → eq_by_cmp key_cmp q key ≡ same → map.get content key ≡ Some bytes
-    → cond same (Some bytes) (map.get content q) ≡ map.get content q
-same_at content key bytes q true same h = sym h ∙ ap (λ k. map.get content k) (sym ((apart_from key_total key_exact q key).0 same))
-same_at content key bytes q false other h = refl
-
--- what is under a key is put there again
-pub put_again : (content : Content) (key : Key) (bytes : List ℕ) → map.get content key ≡ Some bytes → map.insert content key bytes ≡ content
-put_again content key bytes h =
-    same_map key_total key_exact (map.insert content key bytes) content (λ q.
-    get-insert key_total content key bytes q ∙ same_at content key bytes q (eq_by_cmp key_cmp q key) refl h)

@@ -5,7 +5,7 @@ ghost use Rattle.keep_shelf.specs.Shelved.{called, failed, risen, shifted};
 use crate::call_failures::Plan;
 use crate::key::Key;
 use crate::shelf::{Fault, Shelf};
-use keep_repo::Bytes;
+use keep_rope::Rope;
 
 /// A shelf that fails when it is told to, and is otherwise the one that it stands before. It counts the failures of
 /// both.
@@ -79,7 +79,7 @@ impl<S: Shelf> Shelf for FailingShelf<S> {
 
     ghost shelved = { outside S.shelved };
 
-    fn read(&mut self, key: Key) -> Result<Option<Bytes>, Fault>
+    fn read(&mut self, key: Key) -> Result<Option<Rope>, Fault>
         ensures found { let before = outside S.shelved self.old in
             IfOk result (λ found. found ≡ map.get before.content key) }
         ensures ok { let before = outside S.shelved self.old in
@@ -97,7 +97,7 @@ impl<S: Shelf> Shelf for FailingShelf<S> {
         }
     }
 
-    fn write(&mut self, key: Key, bytes: &Bytes) -> Result<(), Fault>
+    fn write(&mut self, key: Key, bytes: &Rope) -> Result<(), Fault>
         ensures ok { let before = outside S.shelved self.old in
             OnOk result (outside S.shelved self.new
             ≡ called before (map.insert before.content key bytes.now)) }
@@ -166,10 +166,6 @@ impl<S: Shelf> Shelf for FailingShelf<S> {
             Ok(keys) => Ok(keys),
             Err(Fault) => Err(self.fail()),
         }
-    }
-
-    fn let_go(&mut self, key: Key) {
-        self.inner.let_go(key);
     }
 
     fn is_told(&self) -> bool {

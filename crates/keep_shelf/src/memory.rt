@@ -8,7 +8,7 @@ use crate::key::Key;
 use crate::shelf::{Fault, Shelf};
 use crate::stock::Stock;
 use keep_log::Log;
-use keep_repo::Bytes;
+use keep_rope::Rope;
 use std::alloc::{AllocError, Global};
 use std::marker::Model;
 
@@ -71,14 +71,6 @@ impl MemoryShelf {
         Ok(MemoryShelf::over(self.content.copy()?))
     }
 
-    /// Gives back the memory of an entry's text. By itself a shelf in memory lets nothing go, so that a copy of it can be
-    /// opened; whoever opens none may ask for it.
-    pub fn let_text_go(&mut self, key: Key)
-        ensures { self.new ≡ self.old }
-    {
-        self.content.let_go(key);
-    }
-
     /// A new shelf with this on it.
     fn over(content: Stock) -> MemoryShelf
         ensures { result ≡ stocked content }
@@ -99,7 +91,7 @@ impl MemoryShelf {
         self.calls = self.calls.and(&self.content);
     }
 
-    fn try_read(&mut self, key: Key) -> Result<Option<Bytes>, AllocError>
+    fn try_read(&mut self, key: Key) -> Result<Option<Rope>, AllocError>
         ensures found { IfOk result (λ found. found ≡ map.get self.old.content key) }
         ensures ok { OnOk result (self.new ≡ called self.old self.old.content) }
         ensures err { OnErr result (self.new ≡ self.old) }
@@ -131,14 +123,14 @@ impl MemoryShelf {
 impl Shelf for MemoryShelf {
     ghost shelved = { λ s. s };
 
-    fn read(&mut self, key: Key) -> Result<Option<Bytes>, Fault> {
+    fn read(&mut self, key: Key) -> Result<Option<Rope>, Fault> {
         match self.try_read(key) {
             Ok(found) => Ok(found),
             Err(AllocError) => Err(self.fail()),
         }
     }
 
-    fn write(&mut self, key: Key, bytes: &Bytes) -> Result<(), Fault> {
+    fn write(&mut self, key: Key, bytes: &Rope) -> Result<(), Fault> {
         self.write_with(key, bytes, || Ok(()))
     }
 

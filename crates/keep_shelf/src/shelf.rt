@@ -3,7 +3,7 @@ ghost use Rattle.std.specs.FinMap as map;
 ghost use Rattle.keep_shelf.specs.Shelved.{called, failed, shifted};
 
 use crate::key::Key;
-use keep_repo::Bytes;
+use keep_rope::Rope;
 use std::alloc::AllocError;
 
 /// A call failed, and what stands on the shelf is as it was.
@@ -23,6 +23,8 @@ impl From<AllocError> for Fault {
 
 /// Keeps bytes under keys.
 ///
+/// Bytes come and go as ropes: of an entry, which has files in hex that stand there too, the hex need not be held.
+///
 /// Each call is one atomic act: it is done whole or not at all, also where the program stops in the middle of it. A
 /// call that is done is in the record, and one that failed is counted. Want of memory is a failure like any other.
 pub trait Shelf: Drop {
@@ -32,14 +34,14 @@ pub trait Shelf: Drop {
     ghost shelved: { Self → Shelved };
 
     /// The bytes under the key, if there are any.
-    fn read(&mut self, key: Key) -> Result<Option<Bytes>, Fault>
+    fn read(&mut self, key: Key) -> Result<Option<Rope>, Fault>
         ensures found { IfOk result (λ found. found ≡ map.get (shelved self.old).content key) }
         ensures ok { OnOk result
             (shelved self.new ≡ called (shelved self.old) (shelved self.old).content) }
         ensures err { OnErr result (shelved self.new ≡ failed (shelved self.old)) };
 
     /// Puts the bytes under the key, in the place of those that are there.
-    fn write(&mut self, key: Key, bytes: &Bytes) -> Result<(), Fault>
+    fn write(&mut self, key: Key, bytes: &Rope) -> Result<(), Fault>
         ensures ok { let content = map.insert (shelved self.old).content key bytes.now in
             OnOk result (shelved self.new ≡ called (shelved self.old) content) }
         ensures err { OnErr result (shelved self.new ≡ failed (shelved self.old)) };
@@ -64,12 +66,6 @@ pub trait Shelf: Drop {
         ensures ok { OnOk result
             (shelved self.new ≡ called (shelved self.old) (shelved self.old).content) }
         ensures err { OnErr result (shelved self.new ≡ failed (shelved self.old)) };
-
-    /// Says that nobody here reads the entry under the key any more, so that its memory can be given back. What is under
-    /// the key stays there. A later read of it may fail.
-    fn let_go(&mut self, _key: Key)
-        ensures { shelved self.new ≡ shelved self.old }
-    {}
 
     /// Whether it is known of each call that failed that it wasn't done. Where it isn't, as behind a network that was
     /// cut, what stands there isn't known before the shelf is opened anew.

@@ -3,23 +3,22 @@ ghost use Rattle.std.specs.FinMap as map;
 ghost use Rattle.keep_shelf.specs.Shelved.{Content, shifted};
 
 use crate::key::Key;
-use crate::loose_bytes::LooseBytes;
 use indexmap::IndexMap;
 use keep_repo::Bytes;
+use keep_rope::Rope;
 use std::alloc::{AllocError, Global};
 use std::collections::BTreeMap;
 use std::marker::Model;
 
 /// Bytes by key, in memory. Files are found by the key's hash, and entries by their number.
 ///
-/// Entries are as many as events, and would make the table of the files' hashes large: they stand apart from it. The
-/// memory of an entry's text can be given back.
+/// Entries are as many as events, and would make the table of the files' hashes large: they stand apart from it.
 pub struct Stock {
     alloc: Global,
     /// Live files and the trash.
-    files: IndexMap<Key, LooseBytes>,
+    files: IndexMap<Key, Rope>,
     /// Entries by number.
-    entries: BTreeMap<u64, LooseBytes>,
+    entries: BTreeMap<u64, Rope>,
 }
 
 impl Model for Stock {
@@ -70,7 +69,7 @@ impl Stock {
     }
 
     /// What is under the key, lent.
-    pub fn get(&self, key: Key) -> Option<&LooseBytes>
+    pub fn get(&self, key: Key) -> Option<&Rope>
         ensures { option_copied result ≡ map.get self.now key }
     {
         match key {
@@ -79,19 +78,8 @@ impl Stock {
         }
     }
 
-    /// What is under the key, with another holder. An entry's text that was let go is in memory no more: it is answered
-    /// as memory that is wanting.
-    pub fn shared(&self, key: Key) -> Result<Option<Bytes>, AllocError>
-        ensures { IfOk result (λ found. found ≡ map.get self.now key) }
-    {
-        match self.get(key) {
-            Some(bytes) => Ok(Some(bytes.shared()?)),
-            None => Ok(None),
-        }
-    }
-
-    /// What is under the key, with another holder, be it let go or not.
-    fn held(&self, key: Key) -> Result<Option<LooseBytes>, AllocError>
+    /// What is under the key, with another holder.
+    pub fn shared(&self, key: Key) -> Result<Option<Rope>, AllocError>
         ensures { IfOk result (λ found. found ≡ map.get self.now key) }
     {
         match self.get(key) {
@@ -100,15 +88,13 @@ impl Stock {
         }
     }
 
-    /// Gives back the memory of an entry's text, which is still under the key: it can be moved and erased, and no more be
-    /// read. Of files nothing is let go.
-    pub fn let_go(&mut self, key: Key)
-        ensures { self.new ≡ self.old }
+    /// The bytes under the key, shared where they are held whole, and else made of the pieces.
+    pub fn bytes(&self, key: Key) -> Result<Option<Bytes>, AllocError>
+        ensures { IfOk result (λ found. found ≡ map.get self.now key) }
     {
-        if let Key::Entry(at) = key {
-            if let Some(text) = self.entries.get_mut(&at) {
-                text.let_go();
-            }
+        match self.get(key) {
+            Some(rope) => Ok(Some(rope.bytes(self.alloc)?)),
+            None => Ok(None),
         }
     }
 
@@ -125,17 +111,7 @@ impl Stock {
     /// Puts the bytes under the key, and answers what was there.
     ///
     /// In the place of others they take no memory, and else they may take memory for more places.
-    pub fn write(&mut self, key: Key, bytes: Bytes) -> Result<Option<LooseBytes>, AllocError>
-        ensures was { IfOk result (λ was. was ≡ map.get self.old key) }
-        ensures ok { OnOk result (self.new ≡ map.insert self.old key bytes) }
-        ensures err { OnErr result (self.new ≡ self.old) }
-        ensures absent { OnErr result (map.get self.old key ≡ None) }
-    {
-        self.put(key, LooseBytes::new(bytes))
-    }
-
-    /// As `write` does, also of what was let go.
-    fn put(&mut self, key: Key, bytes: LooseBytes) -> Result<Option<LooseBytes>, AllocError>
+    pub fn write(&mut self, key: Key, bytes: Rope) -> Result<Option<Rope>, AllocError>
         ensures was { IfOk result (λ was. was ≡ map.get self.old key) }
         ensures ok { OnOk result (self.new ≡ map.insert self.old key bytes) }
         ensures err { OnErr result (self.new ≡ self.old) }
@@ -148,13 +124,13 @@ impl Stock {
     }
 
     /// Takes back that bytes were put under the key, where this was there before.
-    pub fn put_back(&mut self, key: Key, was: Option<LooseBytes>)
+    pub fn put_back(&mut self, key: Key, was: Option<Rope>)
         ensures { (before : Content) (put : List ℕ) → map.get before key ≡ was
             → self.old ≡ map.insert before key put → self.new ≡ before }
     {
         match was {
             Some(bytes) => {
-                let _ = self.put(key, bytes);
+                let _ = self.write(key, bytes);
             }
             None => self.erase(key),
         }
@@ -166,8 +142,8 @@ impl Stock {
         ensures ok { OnOk result (self.new ≡ shifted self.old from to) }
         ensures err { OnErr result (self.new ≡ self.old) }
     {
-        if let Some(bytes) = self.held(from)? {
-            self.put(to, bytes)?;
+        if let Some(bytes) = self.shared(from)? {
+            self.write(to, bytes)?;
             self.erase(from);
         }
         Ok(())

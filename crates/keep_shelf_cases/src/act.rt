@@ -2,7 +2,7 @@ ghost use Rattle.std.specs.Prelude.{◌≡◌, IfOk, OnOk, OnErr};
 ghost use Rattle.keep_shelf.specs.Shelved.{shifted};
 ghost use Rattle.keep_shelf_cases.specs.Acts.{content_after, done};
 
-use keep_repo::Bytes;
+use keep_rope::Rope;
 use keep_shelf::{Fault, Key, MemoryShelf, Shelf};
 
 /// What a call did.
@@ -10,7 +10,7 @@ use keep_shelf::{Fault, Key, MemoryShelf, Shelf};
 pub(crate) enum Act {
     /// Bytes were read, or the keys listed.
     Looked,
-    Wrote(Key, Bytes),
+    Wrote(Key, Rope),
     /// From the first key to the second.
     Shifted(Key, Key),
     Erased(Key),

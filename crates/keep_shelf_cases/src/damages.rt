@@ -3,6 +3,7 @@ use crate::shelf_stop::Stop;
 use crate::stops::show_stop;
 use keep_paths::key_of_path;
 use keep_repo::Bytes;
+use keep_rope::Rope;
 use keep_shelf::{Key, MemoryShelf, Shelf};
 use std::alloc::Global;
 use std::fmt::Write;
@@ -36,10 +37,12 @@ fn harm(alloc: Global, damage: &str, content: &mut MemoryShelf) -> Result<(), St
 }
 
 /// The first bytes, as many as the word says.
-fn beginning(alloc: Global, bytes: &Bytes, count: &str) -> Result<Bytes, Stop> {
+fn beginning(alloc: Global, whole: &Rope, count: &str) -> Result<Rope, Stop> {
     let count: usize = count.parse().ok().ok_or(Stop::NoRow)?;
+    let bytes = whole.bytes(alloc)?;
     let kept = bytes.as_slice().get(..count).ok_or(Stop::NoRow)?;
-    Ok(Bytes::new(alloc, Vec::from_slice(alloc, kept)?)?)
+    let kept = Bytes::new(alloc, Vec::from_slice(alloc, kept)?)?;
+    Ok(Rope::of(kept))
 }
 
 /// What stands under the key and what stands at the path come to stand in each other's place.

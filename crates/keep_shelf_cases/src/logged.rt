@@ -1,7 +1,7 @@
 ghost use Rattle.std.specs.Prelude.{◌≡◌};
 
 use crate::call::{Act, Call};
-use keep_repo::Bytes;
+use keep_rope::Rope;
 use keep_shelf::{Fault, Key, Shelf};
 use std::alloc::{AllocError, Global};
 
@@ -48,13 +48,13 @@ impl<S: Shelf> Logged<S> {
 impl<S: Shelf> Shelf for Logged<S> {
     ghost shelved = { λ s. S.shelved s.inner };
 
-    fn read(&mut self, key: Key) -> Result<Option<Bytes>, Fault> {
+    fn read(&mut self, key: Key) -> Result<Option<Rope>, Fault> {
         let found = self.inner.read(key);
         self.note(Act::Read(key), found.is_err());
         found
     }
 
-    fn write(&mut self, key: Key, bytes: &Bytes) -> Result<(), Fault> {
+    fn write(&mut self, key: Key, bytes: &Rope) -> Result<(), Fault> {
         let done = self.inner.write(key, bytes);
         self.note(Act::Write(key), done.is_err());
         done

@@ -4,7 +4,7 @@ ghost use Rattle.keep_shelf.specs.Shelved.{called, failed, shifted, stocked};
 
 use crate::act::{Act, perform_all};
 use crate::shelf_copy::read_all;
-use keep_repo::Bytes;
+use keep_rope::Rope;
 use keep_shelf::{Fault, Key, MemoryShelf, Shelf};
 use std::alloc::{AllocError, Global};
 use std::marker::Model;
@@ -102,7 +102,7 @@ impl<S: Shelf> RecordingShelf<S> {
     }
 
     #[tactic(auto, using(crate::proofs::Acting::acting))]
-    fn try_read(&mut self, key: Key) -> Result<Option<Bytes>, Fault>
+    fn try_read(&mut self, key: Key) -> Result<Option<Rope>, Fault>
         ensures found { IfOk result (λ found. found ≡ map.get self.old.content key) }
         ensures ok { OnOk result (self.new ≡ called self.old self.old.content) }
         ensures err { OnErr result (self.new ≡ self.old) }
@@ -114,7 +114,7 @@ impl<S: Shelf> RecordingShelf<S> {
     }
 
     #[tactic(auto, using(crate::proofs::Acting::acting))]
-    fn try_write(&mut self, key: Key, bytes: &Bytes) -> Result<(), Fault>
+    fn try_write(&mut self, key: Key, bytes: &Rope) -> Result<(), Fault>
         ensures ok { OnOk result
             (self.new ≡ called self.old (map.insert self.old.content key bytes.now)) }
         ensures err { OnErr result (self.new ≡ self.old) }
@@ -166,14 +166,14 @@ impl<S: Shelf> RecordingShelf<S> {
 impl<S: Shelf> Shelf for RecordingShelf<S> {
     ghost shelved = { λ s. s };
 
-    fn read(&mut self, key: Key) -> Result<Option<Bytes>, Fault> {
+    fn read(&mut self, key: Key) -> Result<Option<Rope>, Fault> {
         match self.try_read(key) {
             Ok(found) => Ok(found),
             Err(Fault) => Err(self.fail()),
         }
     }
 
-    fn write(&mut self, key: Key, bytes: &Bytes) -> Result<(), Fault> {
+    fn write(&mut self, key: Key, bytes: &Rope) -> Result<(), Fault> {
         match self.try_write(key, bytes) {
             Ok(()) => Ok(()),
             Err(Fault) => Err(self.fail()),

@@ -2,6 +2,9 @@ use crate::call::Call;
 use crate::running::{Answered, CaseShelf, recording};
 use crate::shelf_stop::Stop;
 use keep_book::Book;
+use keep_names::FileName;
+use keep_repo::Repo;
+use keep_rope::Rope;
 use keep_script::RunStatus;
 use keep_shelf::{Key, Shelf};
 use std::alloc::{AllocError, Global};
@@ -108,6 +111,20 @@ pub(crate) fn behind_word(alloc: Global, book: &Book<CaseShelf>) -> Result<&'sta
     Ok("")
 }
 
+/// Whether the repository has just what was found on the shelf under this name.
+fn is_in(
+    alloc: Global,
+    repo: &Repo,
+    name: FileName,
+    found: Option<Rope>,
+) -> Result<bool, AllocError> {
+    let bytes = match found {
+        Some(rope) => Some(rope.bytes(alloc)?),
+        None => None,
+    };
+    Ok(bytes.as_ref() == repo.get(name))
+}
+
 /// Whether the live files on the shelf aren't those of the repository.
 fn is_behind(alloc: Global, book: &Book<CaseShelf>) -> Result<bool, Stop> {
     let recording = recording(book);
@@ -116,7 +133,7 @@ fn is_behind(alloc: Global, book: &Book<CaseShelf>) -> Result<bool, Stop> {
     let mut names = Vec::new(alloc);
     for key in &shelf.list()? {
         if let Key::Live(name) = *key {
-            if shelf.read(*key)?.as_ref() != repo.get(name) {
+            if !is_in(alloc, repo, name, shelf.read(*key)?)? {
                 return Ok(true);
             }
             names.push(name)?;

@@ -5,6 +5,7 @@ use crate::shelf_stop::Stop;
 use keep_names::decode_hex;
 use keep_paths::key_of_path;
 use keep_repo::Bytes;
+use keep_rope::Rope;
 use keep_shelf::Shelf;
 
 /// Takes a row of the table. One that begins a case first has the case before it answered.
@@ -58,6 +59,7 @@ fn put_text(case: &mut Case, rest: &str) -> Result<(), Stop> {
 
 fn write(case: &mut Case, path: &str, bytes: Vec<u8>) -> Result<(), Stop> {
     let key = key_of_path(path).ok_or(Stop::NoRow)?;
-    case.shelf.write(key, &Bytes::new(case.alloc, bytes)?)?;
+    let bytes = Bytes::new(case.alloc, bytes)?;
+    case.shelf.write(key, &Rope::of(bytes))?;
     Ok(())
 }

@@ -6,6 +6,7 @@ use keep_hooks::NoHooks;
 use keep_journal::History;
 use keep_ledger::{Ledger, OpenError, Refusal, Request, Told};
 use keep_repo::Repo;
+use keep_rope::Rope;
 use keep_shelf::{Key, MemoryShelf, Shelf};
 use keep_view::View;
 use std::alloc::Global;
@@ -78,7 +79,8 @@ fn ledger_over(alloc: Global, repo: &Repo) -> Result<Ledger<MemoryShelf>, Stop> 
     }
     for name in &names {
         if let Some(bytes) = repo.get(*name) {
-            shelf.write(Key::Live(*name), bytes)?;
+            let bytes = Rope::of(bytes.clone()?);
+            shelf.write(Key::Live(*name), &bytes)?;
         }
     }
     Ok(Ledger::open(alloc, shelf).map_err(OpenError::from)?)

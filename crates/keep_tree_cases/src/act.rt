@@ -6,7 +6,7 @@ use crate::tree_stop::Stop;
 use keep_files::{FileTree, TreeError};
 use keep_keyed_folder::{KeyPath, KeyedFolder};
 use keep_paths::key_is_sized;
-use keep_repo::Bytes;
+use keep_rope::Rope;
 use keep_shelf::{Key, Stock};
 use std::alloc::Global;
 
@@ -14,7 +14,7 @@ use std::alloc::Global;
 #[derive(Drop)]
 pub(crate) enum Act {
     Walk,
-    Put(Key, Bytes),
+    Put(Key, Rope),
     /// From the first key to the second.
     Shift(Key, Key),
     Remove(Key),

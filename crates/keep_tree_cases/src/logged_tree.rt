@@ -1,7 +1,7 @@
 ghost use Rattle.std.specs.Prelude.{◌≡◌};
 
 use keep_files::{FileTree, Node, TreeError};
-use keep_repo::Bytes;
+use keep_rope::Rope;
 use std::alloc::{AllocError, Global};
 use std::fmt::Write;
 
@@ -84,7 +84,7 @@ impl<T: FileTree> FileTree for Logged<T> {
         found
     }
 
-    fn write_new(&mut self, path: &str, bytes: &Bytes) -> Result<(), TreeError> {
+    fn write_new(&mut self, path: &str, bytes: &Rope) -> Result<(), TreeError> {
         let done = self.inner.write_new(path, bytes);
         self.note("write_new", path, done.is_err());
         done

@@ -22,7 +22,7 @@ pub(crate) fn word_of(error: TreeError) -> &'static str {
 pub(crate) fn show_keys(alloc: Global, found: Stock, out: &mut String) -> Result<(), Stop> {
     out.push_str("keys")?;
     for key in &found.keys()? {
-        if let Some(bytes) = found.shared(*key)? {
+        if let Some(bytes) = found.bytes(*key)? {
             let path = path_of_key(alloc, *key)?;
             show_file(path.as_str(), &bytes, out)?;
         }
@@ -36,7 +36,7 @@ pub(crate) fn show_tree(alloc: Global, tree: MemoryTree, out: &mut String) -> Re
     for path in &paths_of(alloc, &mut tree)? {
         match tree.read(path.as_str())? {
             Some(Node::Folder) => write!(out, " {path}/")?,
-            Some(Node::File(bytes)) => show_file(path.as_str(), &bytes.shared()?, out)?,
+            Some(Node::File(rope)) => show_file(path.as_str(), &rope.bytes(alloc)?, out)?,
             None => {}
         }
     }

@@ -5,14 +5,14 @@ ghost use Rattle.keep_memory_files.specs.Memory.{seen_in};
 use crate::tree_stop::Stop;
 use keep_files::FileTree;
 use keep_memory_files::MemoryTree;
-use keep_repo::Bytes;
+use keep_rope::Rope;
 use std::alloc::Global;
 
 /// What stands at a path at the beginning.
 #[derive(Drop)]
 pub(crate) enum Entry {
     Folder(String),
-    File(String, Bytes),
+    File(String, Rope),
 }
 
 /// What stands in the tree of a case at the beginning.

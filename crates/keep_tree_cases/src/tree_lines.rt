@@ -4,6 +4,7 @@ use crate::tree_case::{Case, Entry};
 use crate::tree_stop::Stop;
 use keep_paths::key_of_path;
 use keep_repo::Bytes;
+use keep_rope::Rope;
 use keep_shelf::Key;
 use std::alloc::{AllocError, Global};
 use std::fmt::Write;
@@ -58,7 +59,7 @@ fn key_at(path: &str) -> Result<Key, Stop> {
 }
 
 /// The bytes of a text.
-fn bytes_of(alloc: Global, text: &str) -> Result<Bytes, AllocError> {
+fn bytes_of(alloc: Global, text: &str) -> Result<Rope, AllocError> {
     let text = String::from_str(alloc, text)?;
-    Bytes::new(alloc, text.into_bytes())
+    Ok(Rope::of(Bytes::new(alloc, text.into_bytes())?))
 }

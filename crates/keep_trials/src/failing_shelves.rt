@@ -2,6 +2,7 @@ use crate::scripts::end_over;
 use keep_ledger::OpenError;
 use keep_names::{FileName, id_of};
 use keep_repo::Bytes;
+use keep_rope::Rope;
 use keep_script::RunStatus;
 use keep_shelf::{FailingShelf, Key, MemoryShelf, Shelf};
 use std::test::Fail;
@@ -52,7 +53,7 @@ fn all_is_as_before_where_an_entry_is_not_written(rt: HostRuntime) {
 fn a_shelf_with_trash_and_an_entry_is_not_opened(rt: HostRuntime) -> Result<(), Fail> {
     let alloc = rt.alloc();
     let mut shelf = MemoryShelf::new(alloc);
-    let bytes = Bytes::new(alloc, Vec::new(alloc))?;
+    let bytes = Rope::of(Bytes::new(alloc, Vec::new(alloc))?);
     let name = FileName::index(id_of(b"one"));
     shelf.write(Key::Trash(1, name), &bytes)?;
     shelf.write(Key::Entry(3), &bytes)?;

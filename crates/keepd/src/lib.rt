@@ -9,6 +9,7 @@ pub use keep_journal::{History, Request, Told};
 pub use keep_ledger::{Ledger, NotOpened, OpenError, Refusal};
 pub use keep_names::{FileName, Id, Kind};
 pub use keep_repo::{Bytes, Facet, Repo};
+pub use keep_rope::Rope;
 
 // Jobs, their planners, and what a repository gives back.
 pub use keep_jobs::{BackupFacts, Cut, Job, Settings, Task, plan};

@@ -6,8 +6,7 @@ ghost use Rattle.keep_files.specs.Stands.{HasHome, is_file, put_at};
 use super::MemoryTree;
 use crate::done_act::DoneAct;
 use keep_files::{Node, TreeError};
-use keep_repo::Bytes;
-use keep_shelf::LooseBytes;
+use keep_rope::Rope;
 use std::alloc::AllocError;
 
 impl MemoryTree {
@@ -16,7 +15,7 @@ impl MemoryTree {
     pub(super) fn try_write_new<F: FnOnce() -> Result<(), TreeError> + Drop>(
         &mut self,
         path: &str,
-        bytes: &Bytes,
+        bytes: &Rope,
         store: F,
     ) -> Result<(), TreeError>
         requires { F.pre store }
@@ -27,7 +26,7 @@ impl MemoryTree {
         ensures err { OnErr result (seen_in self.new ≡ seen_in self.old) }
     {
         let deed = DoneAct::Write(String::from_str(self.alloc, path)?, bytes.clone()?);
-        let node = Node::File(LooseBytes::new(bytes.clone()?));
+        let node = Node::File(bytes.clone()?);
         self.add(path, node, &deed, store)
     }
 

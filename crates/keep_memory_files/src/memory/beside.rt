@@ -7,7 +7,7 @@ ghost use Rattle.keep_files.specs.declared.tree_error.TreeError.TheVariants as t
 
 use super::MemoryTree;
 use keep_files::TreeError;
-use keep_repo::Bytes;
+use keep_rope::Rope;
 
 impl MemoryTree {
     ghost use Rattle.keep_memory_files.specs.Memory.{seen_in};
@@ -16,7 +16,7 @@ impl MemoryTree {
     pub fn write_new_with<F: FnOnce() -> Result<(), TreeError> + Drop>(
         &mut self,
         path: &str,
-        bytes: &Bytes,
+        bytes: &Rope,
         store: F,
     ) -> Result<(), TreeError>
         requires { F.pre store }

@@ -23,15 +23,6 @@ impl MemoryTree {
         }
     }
 
-    /// Gives back the memory of the file's bytes.
-    pub(super) fn let_go_at(&mut self, path: &str)
-        ensures { seen_in self.new ≡ seen_in self.old }
-    {
-        if let Some(node) = self.nodes.get_mut(path) {
-            node.let_go();
-        }
-    }
-
     /// Whether a folder stands at the path.
     pub(super) fn is_folder(&self, path: &str) -> bool
         ensures { result ≡ stands.is_folder ((seen_in self.now).stands path.now) }

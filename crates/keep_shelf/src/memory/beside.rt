@@ -6,7 +6,7 @@ ghost use Rattle.keep_shelf.specs.Shelved.{called, failed, shifted};
 use super::MemoryShelf;
 use crate::key::Key;
 use crate::shelf::Fault;
-use keep_repo::Bytes;
+use keep_rope::Rope;
 
 impl MemoryShelf {
     /// Puts the bytes under the key, and has them put by `store` where they are kept beside. Where that can't be done,
@@ -14,7 +14,7 @@ impl MemoryShelf {
     pub fn write_with<F: FnOnce() -> Result<(), Fault> + Drop>(
         &mut self,
         key: Key,
-        bytes: &Bytes,
+        bytes: &Rope,
         store: F,
     ) -> Result<(), Fault>
         requires { F.pre store }
@@ -71,7 +71,7 @@ impl MemoryShelf {
     fn try_write<F: FnOnce() -> Result<(), Fault> + Drop>(
         &mut self,
         key: Key,
-        bytes: &Bytes,
+        bytes: &Rope,
         store: F,
     ) -> Result<(), Fault>
         requires { F.pre store }

@@ -8,7 +8,7 @@ use Rattle.keep_entries.specs.Members.{list_text}
 use Rattle.keep_entries.proofs.entry_values.put_files.Given as goal
 
 abbrev pub invariant-loop-file : goal.invariant-loop-file
-invariant-loop-file g l = record {
-  rest : g.O.TextOut.written l.out ++ items_text l.later (items_of (map file_data (drop l.file-index l.files))) ≡ g.O.TextOut.written l.fn.out ++ list_text (map file_data l.files);
+invariant-loop-file l = record {
+  rest : l.out ++ items_text l.later (items_of (map file_data (drop l.file-index l.files))) ≡ l.fn.out ++ list_text (map file_data l.files);
   fit : AllByRecursion FitsFile (take l.file-index l.files);
 }

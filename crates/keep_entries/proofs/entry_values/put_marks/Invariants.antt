@@ -9,7 +9,7 @@ use Rattle.keep_entries.specs.Members.{list_text}
 use Rattle.keep_entries.proofs.entry_values.put_marks.Given as goal
 
 abbrev pub invariant-loop-mark : goal.invariant-loop-mark
-invariant-loop-mark g l = record {
-  rest : g.O.TextOut.written l.out ++ items_text l.later (items_of (map (mark_data Moments) (drop l.mark-index l.marks))) ≡ g.O.TextOut.written l.fn.out ++ list_text (map (mark_data Moments) l.marks);
+invariant-loop-mark l = record {
+  rest : l.out ++ items_text l.later (items_of (map (mark_data Moments) (drop l.mark-index l.marks))) ≡ l.fn.out ++ list_text (map (mark_data Moments) l.marks);
   fit : AllByRecursion FitsMark (take l.mark-index l.marks);
 }

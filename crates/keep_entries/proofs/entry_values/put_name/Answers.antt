@@ -5,9 +5,9 @@ use Rattle.keep_entries.proofs.Appended.{name_quoted, on_ok, piece_last, piece_m
 use Rattle.keep_entries.proofs.entry_values.put_name.Goals as goal
 
 pub returns-clause-text : goal.returns-clause-text
-returns-clause-text g c =
+returns-clause-text c =
     let name = c.args.name in
-    let old = (g.O.TextOut.written c.args.out.now) in
+    let old = c.args.out.now in
     on_ok c.put-2.result
     (λ last. piece_last _ (codes "\"") last
     ∙ piece_more _ (escape (id_text name.id)) _ c.in_ok-put_digits.ensures

@@ -8,7 +8,7 @@ use Rattle.keep_entries.specs.Members.{list_text}
 use Rattle.keep_entries.proofs.entry_values.put_names.Given as goal
 
 abbrev pub invariant-loop-name : goal.invariant-loop-name
-invariant-loop-name g l = record {
-  rest : g.O.TextOut.written l.out ++ items_text l.later (items_of (map name_data (drop l.name-index l.names))) ≡ g.O.TextOut.written l.fn.out ++ list_text (map name_data l.names);
+invariant-loop-name l = record {
+  rest : l.out ++ items_text l.later (items_of (map name_data (drop l.name-index l.names))) ≡ l.fn.out ++ list_text (map name_data l.names);
   fit : AllByRecursion FitsName (take l.name-index l.names);
 }

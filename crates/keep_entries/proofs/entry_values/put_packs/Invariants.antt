@@ -8,7 +8,7 @@ use Rattle.keep_entries.specs.Members.{list_text}
 use Rattle.keep_entries.proofs.entry_values.put_packs.Given as goal
 
 abbrev pub invariant-loop-pack : goal.invariant-loop-pack
-invariant-loop-pack g l = record {
-  rest : g.O.TextOut.written l.out ++ items_text l.later (items_of (map id_data (drop l.pack-index l.packs))) ≡ g.O.TextOut.written l.fn.out ++ list_text (map id_data l.packs);
+invariant-loop-pack l = record {
+  rest : l.out ++ items_text l.later (items_of (map id_data (drop l.pack-index l.packs))) ≡ l.fn.out ++ list_text (map id_data l.packs);
   fit : AllByRecursion IsDigest (take l.pack-index l.packs);
 }

@@ -6,7 +6,7 @@ use Rattle.keep_entries.specs.declared.form.Form.TheVariants.{Moments}
 use Rattle.keep_entries.proofs.event_text.put_commit.Goals as goal
 
 pub returns-clause-text : goal.returns-clause-text
-returns-clause-text g c =
+returns-clause-text c =
     let change = c.args.change.now in
     let behind = last_members Moments change no_members in
     on_ok c.put_last.result

@@ -8,11 +8,11 @@ use Rattle.keep_entries.proofs.event_text.put_empty.Goals as goal
 
 pub returns-clause-text : goal.returns-clause-text
 unfolding escape_byte digits
-returns-clause-text g c =
+returns-clause-text c =
     on_ok c.put-3.result
     (λ last. piece_last _ (codes "}") last
     ∙ piece_more _ (decimal c.args.number) _ c.in_ok-put_number.ensures
     ∙ piece_more _ (codes "],\"number\":") _ c.in_ok-put-2.ensures
-    ∙ list_more (mark_data Moments) _ (g.O.TextOut.written c.put_marks.new.out) _ refl c.in_ok-put_marks.ensures.text
-    ∙ piece_more (g.O.TextOut.written c.args.out.now) (codes "{\"event\":\"empty\",\"form\":2,\"marks\":[") _ c.in_ok-put.ensures)
+    ∙ list_more (mark_data Moments) _ c.put_marks.new.out _ refl c.in_ok-put_marks.ensures.text
+    ∙ piece_more c.args.out.now (codes "{\"event\":\"empty\",\"form\":2,\"marks\":[") _ c.in_ok-put.ensures)
     c.put-3.ensures

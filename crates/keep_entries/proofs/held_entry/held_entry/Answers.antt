@@ -7,5 +7,5 @@ use Rattle.keep_entries.proofs.held_entry.held_entry.Goals as goal
 pub returns-clause-spelled : goal.returns-clause-spelled
 returns-clause-spelled g c =
     let event = c.in-Some.event in
-    let is : c.args.bytes.now ≡ entry_text event = c.is_text_of_event.ensures.text (search rules) in
+    let is : c.args.rope.now ≡ entry_text event = c.in_ok-is_text_of_event.ensures.text (search rules) in
     subst (λ (bytes : List ℕ). Spells bytes event) (sym is) (text_spells event)

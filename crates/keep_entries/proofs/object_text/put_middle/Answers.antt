@@ -8,10 +8,10 @@ use Rattle.keep_entries.proofs.object_text.put_middle.Goals as goal
 
 pub returns-clause-text : goal.returns-clause-text
 unfolding escape_byte digits
-returns-clause-text g c =
+returns-clause-text c =
     on_ok c.put_number.result
     (λ last ms. piece_more _ (decimal c.args.number) (members_text true ms) last
     ∙ piece_more _ (codes "],\"number\":") _ c.in_ok-put-2.ensures
-    ∙ list_more id_data _ (g.O.TextOut.written c.put_packs.new.out) _ c.as_slice.ensures c.in_ok-put_packs.ensures.text
-    ∙ piece_more (g.O.TextOut.written c.args.out.now) (codes ",\"event\":\"commit\",\"form\":2,\"marked\":[") _ c.in_ok-put.ensures)
+    ∙ list_more id_data _ c.put_packs.new.out _ c.as_slice.ensures c.in_ok-put_packs.ensures.text
+    ∙ piece_more c.args.out.now (codes ",\"event\":\"commit\",\"form\":2,\"marked\":[") _ c.in_ok-put.ensures)
     c.put_number.ensures

@@ -7,4 +7,4 @@ returns-in-None c = λ before put h put_is. back_none before c.args.self.now c.e
 
 pub returns-in-Some : goal.returns-in-Some
 returns-in-Some c = λ before put h put_is.
-    back_written before c.args.self.now c.put.new.self c.args.key put c.in-Some.bytes c.put.result (h ∙ c.in-Some.is) put_is c.put.ensures.ok c.put.ensures.absent
+    back_written before c.args.self.now c.write.new.self c.args.key put c.in-Some.bytes c.write.result (h ∙ c.in-Some.is) put_is c.write.ensures.ok c.write.ensures.absent

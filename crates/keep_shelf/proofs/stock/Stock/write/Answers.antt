@@ -8,7 +8,7 @@ use Rattle.keep_shelf.proofs.Stocked.{entry_differs, file_differs, get_entry, ge
 use Rattle.keep_shelf.specs.Shelved.{Content}
 use Rattle.keep_shelf.specs.Stocked.{files_and_entries}
 use Rattle.keep_shelf.specs.declared.key.Key.TheVariants.{Entry}
-use Rattle.keep_shelf.proofs.stock.Stock.put.Goals as goal
+use Rattle.keep_shelf.proofs.stock.Stock.write.Goals as goal
 
 pub returns-in_ok-insert-in-Entry-clause-was : goal.returns-in_ok-insert-in-Entry-clause-was
 returns-in_ok-insert-in-Entry-clause-was c =
