@@ -29,6 +29,10 @@ pub use keep_plan::{AskFacts, Filter, Pick, has_path, has_tag};
 pub use keep_folder::{FolderError, FolderShelf, open_folder};
 pub use keep_shelf::{FailingShelf, Fault, Key, MemoryShelf, Shelf};
 
+// Many operators at one book, each in a thread of its own, and what they are asked for.
+pub use keep_desk as desk;
+pub use keep_operators as operators;
+
 // Scripts.
 pub use keep_jobs::Kit;
 pub use keep_script::{RunStatus, Setup, run, run_on};
