@@ -42,8 +42,8 @@ fn try_both(rt: &HostRuntime, out: &mut String) -> Result<(), Stop> {
     Ok(())
 }
 
-/// Works with a repository on this shelf: with a veto that spares snapshots, a watch that counts files, and a filter for
-/// the snapshots of one host.
+/// Works with a repository on this shelf: a veto spares snapshots, a watch counts files, and a filter takes the
+/// snapshots of one host.
 fn work<S: Shelf>(alloc: Global, shelf: S, out: &mut String) -> Result<(), Stop> {
     let mut book = Book::open(alloc, shelf)?;
     let ask: AskOutline = Box::new(alloc, |outline: &Outline| snapshots_dropped(outline) > 0)?;
