@@ -19,7 +19,7 @@ pub(crate) fn read_config_of<R: Files<File = File> + Alloc<A = Global>>(
     ensures { IfOk result (λ bytes. IsOk (config_of bytes)) }
 {
     let path = format!(in rt.alloc(); "{root}/config")?;
-    match read_file(rt, path.as_str(), piece) {
+    match read_file(rt, path.as_str(), Vec::new(rt.alloc()), piece) {
         Ok(bytes) => {
             judge_config(rt.alloc(), bytes.as_slice())?;
             Ok(Bytes::new(rt.alloc(), bytes)?)

@@ -1,6 +1,6 @@
 ghost use Rattle.std.specs.Io.KnownBytes.{Consumes, IsAtEnd};
 ghost use Rattle.std.specs.IoError.{error_kind};
-ghost use Rattle.std.specs.Prelude.{◌≡◌, ◌≢◌, ◌<◌, IfErr, IfOk, OnOk, length};
+ghost use Rattle.std.specs.Prelude.{◌≡◌, ◌≢◌, ◌<◌, [], IfErr, IfOk, OnOk, length};
 
 use std::alloc::Global;
 use std::fs::{File, Files};
@@ -13,32 +13,31 @@ pub(crate) const MAX_TURNS: u32 = 67_108_864;
 /// How many bytes are read at once.
 pub(crate) const PIECE: usize = 65_536;
 
-/// The bytes of the file of this path. A link in its place is refused, and so is all that isn't a file, before it is
-/// opened: to open a pipe would be to wait for whoever writes into it.
+/// The bytes of the file of this path, in the memory of those that are given. A link in its place is refused, and so is all
+/// that isn't a file, before it is opened: to open a pipe would be to wait for whoever writes into it.
 pub(crate) fn read_file<R: Files<File = File> + Alloc<A = Global>>(
     rt: &R,
     path: &str,
+    room: Vec<u8>,
     piece: &mut [u8],
 ) -> io::Result<Vec<u8>> {
     require_file(rt, path)?;
     let mut file = File::open(rt, path)?;
     let length = usize::try_from(file.metadata()?.len()).unwrap_or(0);
-    read_rest(rt.alloc(), &mut file, length, piece)
+    let mut room = room;
+    room.clear();
+    room.reserve_exact(length)?;
+    read_rest(&mut file, room, piece)
 }
 
-/// All that the reader has left, piece by piece, with room for so many bytes from the beginning. A read that was interrupted
-/// is made again.
-fn read_rest<F: Read>(
-    alloc: Global,
-    reader: &mut F,
-    room: usize,
-    piece: &mut [u8],
-) -> io::Result<Vec<u8>>
+/// All that the reader has left, piece by piece, in this room. A read that was interrupted is made again.
+fn read_rest<F: Read>(reader: &mut F, room: Vec<u8>, piece: &mut [u8]) -> io::Result<Vec<u8>>
+    requires empty { room.items ≡ [] }
     ensures all { IfOk result (λ bytes. Consumes (F.remaining reader.old) (F.remaining reader.new) bytes.items) }
     ensures end { 0 < length piece.old → OnOk result (IsAtEnd (F.remaining reader.new)) }
     ensures retried { IfErr result (λ error. error_kind error ≢ ErrorKind.Interrupted) }
 {
-    let mut bytes = Vec::with_capacity(alloc, room)?;
+    let mut bytes = room;
     for _ in 0..MAX_TURNS {
         match reader.read(piece) {
             Ok(0) => return Ok(bytes),

@@ -15,7 +15,7 @@ use keep_shelf::Key;
 use std::alloc::Global;
 use std::fs::{File, Files};
 use std::io::ErrorKind;
-use std::{fs, io};
+use std::{fs, io, mem};
 
 /// What was read so far, and the folders that are to be read, by their paths below the root.
 ///
@@ -27,6 +27,8 @@ pub(crate) struct Scan<'a, R> {
     rt: &'a R,
     root: &'a str,
     piece: Vec<u8>,
+    /// Room for an entry's text, which is the next one's too.
+    text: Vec<u8>,
     /// Under which all is read.
     lock: Lock,
     folders: Vec<String>,
@@ -43,6 +45,7 @@ impl<'a, R: Files<File = File> + Alloc<A = Global> + Clone + Drop> Scan<'a, R> {
             rt,
             root,
             piece,
+            text: Vec::new(rt.alloc()),
             lock,
             folders: Vec::new(rt.alloc()),
             held: Repo::new(rt.alloc()),
@@ -60,6 +63,7 @@ impl<'a, R: Files<File = File> + Alloc<A = Global> + Clone + Drop> Scan<'a, R> {
             rt: _,
             root: _,
             piece: _,
+            text: _,
             lock,
             folders: _,
             held: _,
@@ -115,7 +119,8 @@ impl<'a, R: Files<File = File> + Alloc<A = Global> + Clone + Drop> Scan<'a, R> {
         ensures { IsClosed (seen_in self.old.image).stands → IsClosed (seen_in self.new.image).stands }
     {
         let place = self.below_root(path)?;
-        let bytes = read_file(self.rt, place.as_str(), self.piece.as_mut_slice())?;
+        let room = mem::replace(&mut self.text, Vec::new(self.rt.alloc()));
+        let bytes = read_file(self.rt, place.as_str(), room, self.piece.as_mut_slice())?;
         let bytes = self.hold(key, bytes)?;
         self.add_file(path, &bytes)
     }
@@ -127,7 +132,11 @@ impl<'a, R: Files<File = File> + Alloc<A = Global> + Clone + Drop> Scan<'a, R> {
     {
         let alloc = self.rt.alloc();
         match key {
-            Key::Entry(_) => Ok(Rope::cut(alloc, bytes.as_slice(), &self.held)?),
+            Key::Entry(_) => {
+                let text = Rope::cut(alloc, bytes.as_slice(), &self.held)?;
+                self.text = bytes;
+                Ok(text)
+            }
             Key::Live(name) | Key::Trash(_, name) => {
                 let bytes = Bytes::new(alloc, bytes)?;
                 self.held.insert_file(name, bytes.clone()?)?;
