@@ -1,6 +1,6 @@
 -- The hex of bytes, piece by piece.
-use Rattle.std.proofs.Common.{◌≡◌, ℕ, List, [], ◌∷◌, ◌++◌, length, refl, sym, ap, ◌∙◌, append_assoc, append-nil, slice_index, ◌/◌, ◌%◌}
-use Rattle.std.proofs.lemmas.List.{nil_from_length}
+use Rattle.std.proofs.Common.{◌≡◌, ℕ, List, [], ◌∷◌, ◌++◌, length, refl, sym, ap, ◌∙◌, append_assoc, append-nil, slice_index, slice_index_or, get_or, take, arith, ◌<◌, ◌+◌, ◌*◌, ◌/◌, ◌%◌}
+use Rattle.std.proofs.lemmas.List.{nil_from_length, take_more}
 use Rattle.hex.specs.Hex.{encode_lower, encode_with, lower_digits}
 
 encode_more : (table piece rest : List ℕ) → encode_with table (piece ++ rest) ≡ encode_with table piece ++ encode_with table rest
@@ -27,3 +27,20 @@ digits_more old piece rest parts e =
 -- nothing is left
 pub all_digits : {old new : List ℕ} (rest : List ℕ) → length rest ≡ 0 → new ++ encode_lower rest ≡ old → new ≡ old
 all_digits {old} {new} rest none e = sym (append-nil new) ∙ sym (ap (λ s. new ++ s) (no_digits rest none)) ∙ e
+
+-- one byte more, and its two digits in the text
+pub byte_more : (text bytes : List ℕ) (i : ℕ) → length text ≡ 2 * length bytes → i < length bytes → take (2 * i) text ≡ encode_lower (take i bytes)
+    → slice_index_or text (2 * i) 0 ≡ slice_index lower_digits (slice_index_or bytes i 0 / 16) → slice_index_or text (2 * i + 1) 0 ≡ slice_index lower_digits (slice_index_or bytes i 0 % 16)
+    → take (2 * (i + 1)) text ≡ encode_lower (take (i + 1) bytes)
+unfolding encode_with
+byte_more text bytes i sizes less before high low =
+    let one : take (2 * i + 1) text ≡ take (2 * i) text ++ (get_or text (2 * i) 0 ∷ []) = take_more text (2 * i) 0 (omega arith) in
+    let two : take (2 * i + 1 + 1) text ≡ take (2 * i + 1) text ++ (get_or text (2 * i + 1) 0 ∷ []) = take_more text (2 * i + 1) 0 (omega arith) in
+    let next : 2 * (i + 1) ≡ 2 * i + 1 + 1 = omega arith in
+    let b = slice_index_or bytes i 0 in
+    ap (λ n. take n text) next ∙ two ∙ ap (λ front. front ++ (get_or text (2 * i + 1) 0 ∷ [])) one
+    ∙ append_assoc (take (2 * i) text) (get_or text (2 * i) 0 ∷ []) (get_or text (2 * i + 1) 0 ∷ [])
+    ∙ ap (λ front. front ++ (get_or text (2 * i) 0 ∷ get_or text (2 * i + 1) 0 ∷ [])) before
+    ∙ ap (λ d. encode_lower (take i bytes) ++ (d ∷ get_or text (2 * i + 1) 0 ∷ [])) high
+    ∙ ap (λ d. encode_lower (take i bytes) ++ (slice_index lower_digits (b / 16) ∷ d ∷ [])) low
+    ∙ sym (digits_apart (take i bytes) (b ∷ []) (take_more bytes i 0 less))

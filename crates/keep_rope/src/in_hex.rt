@@ -1,5 +1,5 @@
-ghost use Rattle.std.specs.Prelude.{◌≡◌, ◌++◌, ◌≤◌, IfSome, IsTrue, OnOk, length};
-ghost use Rattle.hex.specs.Hex.{encode_lower};
+ghost use Rattle.std.specs.Prelude.{◌≡◌, ◌++◌, ◌<◌, ◌≤◌, IsTrue, OnOk, length, slice_index};
+ghost use Rattle.hex.specs.Hex.{encode_lower, lower_digits};
 
 use std::alloc::AllocError;
 
@@ -27,31 +27,31 @@ fn push_digits(text: &mut Vec<u8>, piece: &[u8]) -> Result<(), AllocError>
     Ok(())
 }
 
-/// Whether the text is the hex of the bytes. The hex isn't made as a whole.
+/// Whether the text is the hex of the bytes. No hex is made, and no step of the loop rests on a test, so that it is
+/// done for many bytes at once.
 pub(crate) fn is_hex_of(text: &[u8], bytes: &[u8]) -> bool
     ensures { IsTrue result → text.now ≡ encode_lower bytes.now }
 {
-    let mut rest = text;
-    for piece in bytes.chunks(PIECE) {
-        match behind_digits(rest, piece) {
-            Some(behind) => rest = behind,
-            None => return false,
-        }
+    if text.len() != 2 * bytes.len() {
+        return false;
     }
-    rest.is_empty()
+    let mut is_same = true;
+    for i in 0..bytes.len() {
+        let high = text[2 * i] == digit_of(bytes[i] / 16);
+        let low = text[2 * i + 1] == digit_of(bytes[i] % 16);
+        is_same = is_same & high & low;
+    }
+    is_same
 }
 
-/// What stands behind the hex of the piece, if the text begins with that.
-fn behind_digits<'a>(text: &'a [u8], piece: &[u8]) -> Option<&'a [u8]>
-    requires { length piece.now ≤ 2048 }
-    ensures { IfSome result (λ rest. text.now ≡ encode_lower piece.now ++ rest.now) }
+/// The digit of a number below 16.
+fn digit_of(number: u8) -> u8
+    requires { number < 16 }
+    ensures { result ≡ slice_index lower_digits number }
 {
-    let mut buffer = [0u8; 2 * PIECE];
-    let digits = &mut buffer[..2 * piece.len()];
-    hex::encode_to_slice(piece, digits).unwrap();
-    if text.len() < digits.len() {
-        return None;
+    if number < 10 {
+        b'0' + number
+    } else {
+        b'a' + (number - 10)
     }
-    let (first, rest) = text.split_at(digits.len());
-    if first == digits { Some(rest) } else { None }
 }

@@ -1,26 +1,17 @@
-use Rattle.std.proofs.Common.{◌≡◌, ◌==◌, ◌++◌, ◌∙◌, ap, length, sym, true, eqb-true}
-use Rattle.std.proofs.lemmas.List.{nil_from_length}
-use Rattle.std.specs.Slice.Iter.{chunks_rest}
-use Rattle.hex.specs.Hex.{encode_lower}
-use Rattle.keep_rope.proofs.Digits.{digits_apart, no_digits}
+use Rattle.std.proofs.Common.{rules, ◌≡◌, ◌+◌, ◌*◌, ◌∙◌, length, slice_index_or, refl, true}
+use Rattle.hex.specs.Hex.{encode_with}
+use Rattle.keep_rope.proofs.Digits.{byte_more}
 use Rattle.keep_rope.proofs.in_hex.is_hex_of.Goals as goal
 
-pub loop-piece-preserved : goal.loop-piece-preserved
-loop-piece-preserved c =
-    let steps = c.in-Some.ensures.steps in
-    let piece = c.in-Some.piece.now in
-    record {
-      size = steps.0 ∙ c.loop-piece.invariant.size;
-      left = λ same.
-          c.loop-piece.invariant.left
-          (c.in-Some-behind_digits.ensures ∙ ap (λ s. encode_lower piece ++ s) same
-          ∙ sym (digits_apart piece (chunks_rest c.next.new.self) steps.1.0));
-    }
+pub loop-i-init : goal.loop-i-init
+unfolding encode_with
+loop-i-init c = λ _. refl
 
-pub returns : goal.returns
-returns c = λ is.
-    let rest = c.loop-piece.rest.now in
-    let none : (length rest == 0) ≡ true = sym c.is_empty.ensures ∙ is in
-    c.loop-piece.invariant.left
-    (nil_from_length rest (eqb-true (length rest) 0 none)
-    ∙ sym (no_digits (chunks_rest c.loop-piece.piece-iterator) c.in-None.ensures.steps.1.0))
+pub loop-i-preserved : goal.loop-i-preserved
+loop-i-preserved c = λ same.
+    let text = c.args.text.now in
+    let i = c.loop-i.i in
+    let sizes : length text ≡ 2 * length c.args.bytes.now = search rules in
+    let parts : (c.loop-i.is_same ≡ true) × ((slice_index_or text (2 * i) 0 ≡ c.digit_of.result) × (slice_index_or text (2 * i + 1) 0 ≡ c.digit_of-in-loop-i.result)) = search rules in
+    byte_more text c.args.bytes.now i sizes c.loop-i-test.true (c.loop-i.invariant parts.0)
+    (parts.1.0 ∙ c.digit_of.ensures) (parts.1.1 ∙ c.digit_of-in-loop-i.ensures)
