@@ -36,9 +36,9 @@ pub(crate) fn is_hex_of(text: &[u8], bytes: &[u8]) -> bool
         return false;
     }
     let mut is_same = true;
-    for i in 0..bytes.len() {
-        let high = text[2 * i] == digit_of(bytes[i] / 16);
-        let low = text[2 * i + 1] == digit_of(bytes[i] % 16);
+    for (pair, byte) in text.as_chunks::<2>().0.iter().zip(bytes) {
+        let high = pair[0] == digit_of(*byte / 16);
+        let low = pair[1] == digit_of(*byte % 16);
         is_same = is_same & high & low;
     }
     is_same
