@@ -5,6 +5,7 @@ use Rattle.std.specs.List.Sorted.{IsStrictlySortedBy}
 use Rattle.keep_names.specs.Laws.{TellsApart}
 use Rattle.keep_names.specs.Orders.{id_cmp, name_cmp}
 use Rattle.keep_names.specs.declared.id.Id.{Id}
+use Rattle.keep_names.specs.declared.file_name.Kind.TheVariants.{Snapshot}
 use Rattle.keep_repo.specs.Repository.{Repository, held}
 use Rattle.keep_change.specs.Change.{is_met}
 use Rattle.keep_change.specs.Form.{IsWellFormed}
@@ -22,14 +23,15 @@ use Rattle.keep_snap.specs.Facts.{FactsData}
 use Rattle.keep_labels.specs.Edits.{is_empty}
 use Rattle.keep_labels.specs.Forgetting.{forget_change, forgetting, forgetting_of, has_no_rule}
 use Rattle.keep_labels.specs.Keeping.{PolicyData, dropped_names, keeps}
-use Rattle.keep_labels.specs.Swapping.{snapshot_files, swapping}
+use Rattle.keep_plan.specs.FilesThere.{files_there}
+use Rattle.keep_labels.specs.Swapping.{swapping}
 use Rattle.keep_plan.proofs.Rising.{rise_kept}
 use Rattle.keep_labels.proofs.Swapped.{CanBeSwapped, swap_met, swap_well_formed}
-use Rattle.keep_labels.proofs.Taken.{files_rise, files_there, taken_rise}
+use Rattle.keep_labels.proofs.Taken.{files_held, files_rise, taken_rise}
 
 -- the files of the taken snapshots that the policy doesn't keep
 abbrev pub forgotten : Repository → Pick → PolicyData → List NamedBytes
-forgotten r rule policy = snapshot_files r (dropped_names policy (taken_in rule r))
+forgotten r rule policy = files_there r Snapshot (dropped_names policy (taken_in rule r))
 
 -- what the files that are dropped make so, a planned forget is
 module _ (r : Repository) (rule : Pick) (policy : PolicyData) (P : Change → Type 0) (so : forgotten r rule policy ≢ [] → P (swapping (forgotten r rule policy) [])) (c : Change) where
@@ -70,7 +72,7 @@ module _ (apart : TellsApart name_cmp) (r : Repository) (rule : Pick) (policy : 
   can_be some = record {
     drops_in_order = files_rise r (dropped_names policy (taken_in rule r)) names_rise;
     adds_in_order = none_in_order;
-    there = files_there r (dropped_names policy (taken_in rule r));
+    there = files_held r (dropped_names policy (taken_in rule r));
     absent = All-nil _;
     named = All-nil _;
     some = some;

@@ -8,6 +8,7 @@ use Rattle.keep_names.specs.Orders.{id_cmp, name_cmp}
 use Rattle.keep_names.specs.Sha256.{sha256}
 use Rattle.keep_names.specs.declared.blob.BlobId.{BlobId}
 use Rattle.keep_names.specs.declared.id.Id.{Id}
+use Rattle.keep_names.specs.declared.file_name.Kind.TheVariants.{Snapshot}
 use Rattle.keep_repo.specs.Repository.{Repository, held}
 use Rattle.keep_change.specs.Change.{is_met}
 use Rattle.keep_change.specs.Form.{AreNamedByBytes, IsWellFormed}
@@ -26,11 +27,12 @@ use Rattle.keep_plan.specs.declared.plan_error.PlanError.TheVariants.{Memory, No
 use Rattle.keep_snap.specs.Facts.{FactsData}
 use Rattle.keep_snap.specs.Snap.{SnapData}
 use Rattle.keep_labels.specs.Edits.{EditData, Tags, are_same, edited, is_empty}
-use Rattle.keep_labels.specs.Swapping.{snapshot_files, swapping}
+use Rattle.keep_plan.specs.FilesThere.{files_there}
+use Rattle.keep_labels.specs.Swapping.{swapping}
 use Rattle.keep_labels.specs.Tagging.{bad_edit, changed_by, retagged_file, retagged_files, tag_change, tagged_file, tagging_of}
 use Rattle.keep_plan.proofs.Rising.{rise_kept}
 use Rattle.keep_labels.proofs.Swapped.{CanBeSwapped, swap_met, swap_well_formed}
-use Rattle.keep_labels.proofs.Taken.{files_rise, files_there, names_of, taken_rise}
+use Rattle.keep_labels.proofs.Taken.{files_held, files_rise, names_of, taken_rise}
 
 -- what becomes of files that are built, where no blob is used
 abbrev pub WhatIsStoredCanBeMade : Type 0
@@ -42,7 +44,7 @@ module _ (r : Repository) (rule : Pick) (edit : EditData) where
   changed = changed_by edit (taken_in rule r)
 
   abbrev pub old_files : List NamedBytes
-  old_files = snapshot_files r (names_of changed)
+  old_files = files_there r Snapshot (names_of changed)
 
   abbrev pub new_files : List NamedBytes
   new_files = retagged_files r edit changed
@@ -108,7 +110,7 @@ module _ (r : Repository) (rule : Pick) (edit : EditData) where
     adds_of can some = record {
       drops_in_order = files_rise r (names_of changed) names_rise;
       adds_in_order = can.adds_in_order;
-      there = files_there r (names_of changed);
+      there = files_held r (names_of changed);
       absent = can.adds;
       named = can.named;
       some = some;

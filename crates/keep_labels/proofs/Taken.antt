@@ -23,7 +23,7 @@ use Rattle.keep_catalog.specs.Files.{snaps_in}
 use Rattle.keep_plan.specs.Picks.{picks}
 use Rattle.keep_plan.specs.Taking.{named_facts, taken_in}
 use Rattle.keep_plan.specs.declared.pick.Pick.{Pick}
-use Rattle.keep_labels.specs.Swapping.{snapshot_file, snapshot_files}
+use Rattle.keep_plan.specs.FilesThere.{file_there, files_there}
 use Rattle.keep_plan.proofs.Rising.{rise_kept, rise_made}
 
 -- ---- taken snapshots
@@ -63,32 +63,32 @@ made_as r id (Some bytes) f is =
     let same : record { name = named Snapshot id; bytes = bytes } ≡ f = cc is in
     (sym (ap (λ (g : NamedBytes). g.name) same), ap (λ (g : NamedBytes). Some g.bytes) same)
 
-file_name : (r : Repository) (id : Id) (f : NamedBytes) → snapshot_file r id ≡ Some f → f.name ≡ named Snapshot id
+file_name : (r : Repository) (id : Id) (f : NamedBytes) → file_there r (named Snapshot id) ≡ Some f → f.name ≡ named Snapshot id
 file_name r id f is = (made_as r id (get r.files (named Snapshot id)) f is).0
 
-pub files_rise : (r : Repository) (ids : List Id) → IsStrictlySortedBy id_cmp ids → IsStrictlySortedBy name_cmp (file_names (snapshot_files r ids))
-unfolding snapshot_files
+pub files_rise : (r : Repository) (ids : List Id) → IsStrictlySortedBy id_cmp ids → IsStrictlySortedBy name_cmp (file_names (files_there r Snapshot ids))
+unfolding files_there
 files_rise r ids h = made (named_rise ids h) where
-  made : IsStrictlySortedBy name_cmp (map (named Snapshot) ids) → IsStrictlySortedBy name_cmp (file_names (filter_map (snapshot_file r) ids))
-  made g = rise_made name_cmp (named Snapshot) (λ (f : NamedBytes). f.name) (snapshot_file r) (file_name r) ids g
+  made : IsStrictlySortedBy name_cmp (map (named Snapshot) ids) → IsStrictlySortedBy name_cmp (file_names (filter_map (λ id. file_there r (named Snapshot id)) ids))
+  made g = rise_made name_cmp (named Snapshot) (λ (f : NamedBytes). f.name) (λ id. file_there r (named Snapshot id)) (file_name r) ids g
 
 -- what each file of a snapshot is, each of these is
-each_made : {P : NamedBytes → Type 0} (r : Repository) → ((id : Id) (f : NamedBytes) → snapshot_file r id ≡ Some f → P f) → (ids : List Id) → AllByRecursion P (filter_map (snapshot_file r) ids)
+each_made : {P : NamedBytes → Type 0} (r : Repository) → ((id : Id) (f : NamedBytes) → file_there r (named Snapshot id) ≡ Some f → P f) → (ids : List Id) → AllByRecursion P (filter_map (λ id. file_there r (named Snapshot id)) ids)
 each_made r so [] = tt
-each_made {P} r so (id ∷ ids) = cases (each_made r so ids) (snapshot_file r id) refl where
-  cases : AllByRecursion P (filter_map (snapshot_file r) ids) → (o : Option NamedBytes) → snapshot_file r id ≡ o → AllByRecursion P (cons_option o (filter_map (snapshot_file r) ids))
+each_made {P} r so (id ∷ ids) = cases (each_made r so ids) (file_there r (named Snapshot id)) refl where
+  cases : AllByRecursion P (filter_map (λ id. file_there r (named Snapshot id)) ids) → (o : Option NamedBytes) → file_there r (named Snapshot id) ≡ o → AllByRecursion P (cons_option o (filter_map (λ id. file_there r (named Snapshot id)) ids))
   cases rest None is = rest
   cases rest (Some f) is = (so id f is, rest)
 
-pub files_there : (r : Repository) (ids : List Id) → All (λ (f : NamedBytes). get r.files f.name ≡ Some f.bytes) (snapshot_files r ids)
-unfolding snapshot_files
-files_there r ids = All-from_recursion (λ (f : NamedBytes). get r.files f.name ≡ Some f.bytes) (filter_map (snapshot_file r) ids) (each_made r there ids) where
-  there : (id : Id) (f : NamedBytes) → snapshot_file r id ≡ Some f → get r.files f.name ≡ Some f.bytes
+pub files_held : (r : Repository) (ids : List Id) → All (λ (f : NamedBytes). get r.files f.name ≡ Some f.bytes) (files_there r Snapshot ids)
+unfolding files_there
+files_held r ids = All-from_recursion (λ (f : NamedBytes). get r.files f.name ≡ Some f.bytes) (filter_map (λ id. file_there r (named Snapshot id)) ids) (each_made r there ids) where
+  there : (id : Id) (f : NamedBytes) → file_there r (named Snapshot id) ≡ Some f → get r.files f.name ≡ Some f.bytes
   there id f is =
       let parts = made_as r id (get r.files (named Snapshot id)) f is in
       ap (get r.files) parts.0 ∙ parts.1
 
-pub files_are_snapshots : (r : Repository) (ids : List Id) → All (λ (f : NamedBytes). f.name.kind ≡ Snapshot) (snapshot_files r ids)
-unfolding snapshot_files
-files_are_snapshots r ids = All-from_recursion (λ (f : NamedBytes). f.name.kind ≡ Snapshot) (filter_map (snapshot_file r) ids)
+pub files_are_snapshots : (r : Repository) (ids : List Id) → All (λ (f : NamedBytes). f.name.kind ≡ Snapshot) (files_there r Snapshot ids)
+unfolding files_there
+files_are_snapshots r ids = All-from_recursion (λ (f : NamedBytes). f.name.kind ≡ Snapshot) (filter_map (λ id. file_there r (named Snapshot id)) ids)
     (each_made r (λ id f is. ap (λ (n : FileName). n.kind) (file_name r id f is)) ids)

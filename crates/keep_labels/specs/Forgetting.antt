@@ -1,5 +1,6 @@
 -- What a forget changes.
 use Rattle.std.specs.Prelude.{Bool, ◌&&◌, ◌||◌, List, [], is_none, Result, Ok, Err, if◌then◌else◌}
+use Rattle.keep_names.specs.declared.file_name.Kind.TheVariants.{Snapshot}
 use Rattle.keep_repo.specs.Repository.{Repository}
 use Rattle.keep_change.specs.NamedBytes.{NamedBytes}
 use Rattle.keep_change.specs.declared.change.Change.{Change}
@@ -11,7 +12,8 @@ use Rattle.keep_plan.specs.declared.plan_error.PlanError.{PlanError}
 use Rattle.keep_plan.specs.declared.plan_error.PlanError.TheVariants.{NothingToDo}
 use Rattle.keep_labels.specs.Edits.{is_empty}
 use Rattle.keep_labels.specs.Keeping.{PolicyData, dropped_names}
-use Rattle.keep_labels.specs.Swapping.{snapshot_files, swapping}
+use Rattle.keep_plan.specs.FilesThere.{files_there}
+use Rattle.keep_labels.specs.Swapping.{swapping}
 
 -- whether the policy has no rule
 abbrev pub has_no_rule : PolicyData → Bool
@@ -26,7 +28,7 @@ forgetting policy files =
 
 -- those of these snapshots are dropped that the policy doesn't keep, if it has a rule, and there are any
 abbrev pub forgetting_of : Repository → PolicyData → List FactsData → Result Change PlanError
-forgetting_of r policy taken = forgetting policy (snapshot_files r (dropped_names policy taken))
+forgetting_of r policy taken = forgetting policy (files_there r Snapshot (dropped_names policy taken))
 
 -- the change that forgets the taken snapshots that the policy doesn't keep, or the first refusal
 unfoldable pub forget_change : Repository → Pick → PolicyData → Result Change PlanError

@@ -19,7 +19,8 @@ use Rattle.keep_plan.specs.Storing.{absent_files, is_any_taken}
 use Rattle.keep_plan.specs.declared.plan_error.PlanError.{PlanError}
 use Rattle.keep_plan.specs.declared.plan_error.PlanError.TheVariants.{BadEdit, NothingToDo, SnapshotThere}
 use Rattle.keep_labels.specs.Edits.{EditData, Tags, are_same, edited, is_bad_edit, is_empty}
-use Rattle.keep_labels.specs.Swapping.{snapshot_files, swapping}
+use Rattle.keep_plan.specs.FilesThere.{files_there}
+use Rattle.keep_labels.specs.Swapping.{swapping}
 
 -- those whose tags the edit changes
 abbrev pub changed_by : EditData → List FactsData → List FactsData
@@ -46,7 +47,7 @@ tagging r old new =
 -- the files of these snapshots, whose tags the edit changes, and of those that stand in their place
 abbrev pub tagging_of : Repository → EditData → List FactsData → Result Change PlanError
 tagging_of r edit changed =
-    tagging r (snapshot_files r (map (λ s. s.name) changed)) (retagged_files r edit changed)
+    tagging r (files_there r Snapshot (map (λ s. s.name) changed)) (retagged_files r edit changed)
 
 abbrev pub bad_edit : EditData → Option PlanError
 bad_edit edit = if is_bad_edit edit then Some BadEdit else None

@@ -1,4 +1,5 @@
 pub mod Files
+pub mod FilesThere
 pub mod Marks
 pub mod Needs
 pub mod Picks

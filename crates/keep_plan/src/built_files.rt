@@ -183,10 +183,7 @@ fn split_mark(
 }
 
 /// Names in order.
-pub(crate) fn names_in(
-    alloc: Global,
-    names: BTreeSet<FileName>,
-) -> Result<Vec<FileName>, AllocError>
+pub fn names_in(alloc: Global, names: BTreeSet<FileName>) -> Result<Vec<FileName>, AllocError>
     ensures names { IfOk result (λ listed. listed.items ≡ names.keys) }
     ensures ordered { bag.IsOrdered name_cmp names }
 {

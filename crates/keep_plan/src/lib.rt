@@ -1,8 +1,10 @@
-//! What all planners share: why they refuse, and what becomes of files that they build and of blobs that they use
-//! where they are; and filters, questions about snapshots that operators store under names, each with its rule.
+//! What all planners share: why they refuse, the files that are there, and what becomes of files that they build and
+//! of blobs that they use where they are; and filters, questions about snapshots that operators store under names, each
+//! with its rule.
 #![tactic(auto)]
 
 mod built_files;
+mod files_there;
 mod filter;
 mod pick;
 mod plan_error;
@@ -11,7 +13,8 @@ mod reuses;
 mod stored;
 mod unreached;
 
-pub use built_files::{split_files, split_new};
+pub use built_files::{names_in, split_files, split_new};
+pub use files_there::{put_file, put_files};
 pub use filter::{AskFacts, Filter};
 pub use pick::{Needs, Pick, has_path, has_tag, meets};
 pub use plan_error::PlanError;

@@ -19,6 +19,7 @@ use Rattle.keep_change.specs.NamedBytes.{NamedBytes, file_of}
 use Rattle.keep_change.specs.declared.change.Change.{Change}
 use Rattle.keep_catalog.specs.Files.{snap_in}
 use Rattle.keep_reach.specs.Reach.{most_levels}
+use Rattle.keep_plan.specs.FilesThere.{file_there}
 use Rattle.keep_reach.specs.Snapshots.{refusals_of}
 use Rattle.keep_plan.specs.Taking.{taken_in}
 use Rattle.keep_plan.specs.declared.pick.Pick.{Pick}
@@ -65,9 +66,7 @@ new_files r forget retreed = filter_map (new_file r forget) retreed
 
 -- the file of the old snapshot, if it is there
 abbrev pub old_file : Repository → Retreed → Option NamedBytes
-old_file r new =
-    option_map (λ bytes. record { name = named Snapshot new.0; bytes = bytes })
-    (finite.get r.files (named Snapshot new.0))
+old_file r new = file_there r (named Snapshot new.0)
 
 abbrev pub old_files : Repository → List Retreed → List NamedBytes
 old_files r retreed = filter_map (old_file r) retreed

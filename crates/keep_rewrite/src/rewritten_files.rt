@@ -11,7 +11,7 @@ ghost use Rattle.keep_rewrite.specs.Rewriting as spec;
 use keep_catalog::Catalog;
 use keep_change::{Change, Listed, StoredFile};
 use keep_names::{FileName, Id, Kind};
-use keep_plan::{PlanError, Stored, split_new};
+use keep_plan::{PlanError, Stored, put_file, split_new};
 use keep_repo::Repo;
 use keep_snap::{Snap, retree, snapshots_read_back, write_snap};
 use std::alloc::{AllocError, Global};
@@ -172,21 +172,9 @@ fn old_files(
 {
     let mut files = Vec::new(alloc);
     for new in retreed {
-        put_old(repo, *new, &mut files)?;
+        put_file(repo, FileName::snapshot(new.0), &mut files)?;
     }
     Ok(files)
-}
-
-/// Puts the file of the snapshot behind the files, if it is there.
-fn put_old(repo: &Repo, new: (Id, Id), files: &mut Vec<StoredFile>) -> Result<(), AllocError>
-    ensures { OnOk result (files.new.items ≡ files.old.items ++ option_to_list (spec.old_file repo.now new)) }
-{
-    let name = FileName::snapshot(new.0);
-    let Some(bytes) = repo.get(name) else {
-        return Ok(());
-    };
-    files.push(StoredFile::under(name, bytes.clone()?))?;
-    Ok(())
 }
 
 /// The first files, and then the others.

@@ -40,7 +40,8 @@ use Rattle.keep_sound.specs.Plans.{KeepsRoots, RetaggingIsSafe, root_in}
 use Rattle.keep_labels.specs.Edits.{EditData, Tags, are_same, edited}
 use Rattle.keep_safety.specs.SafeLabels.{HasTexts, TaggingIsSafe}
 use Rattle.keep_safety.specs.Met.{AreFiles}
-use Rattle.keep_labels.specs.Swapping.{snapshot_file, snapshot_files, swapping}
+use Rattle.keep_plan.specs.FilesThere.{file_there, files_there}
+use Rattle.keep_labels.specs.Swapping.{swapping}
 use Rattle.keep_labels.specs.Tagging.{retagged_file, tagged_file}
 use Rattle.keep_labels.proofs.Carried.{ReadIsSnap, snap_so}
 use Rattle.keep_labels.proofs.Lists.{all_both}
@@ -139,9 +140,9 @@ module _ (laws : Laws) (r : Repository) (rule : Pick) (edit : EditData) where
     cases rest (Some f) is = (new_of s old.0 texts.0 (snap_in r s.name) refl f is, rest)
 
   all_old : (ss : List FactsData) → ss ≡ changed r rule edit → AllByRecursion IsOld ss
-  unfolding snapshot_files
+  unfolding files_there
   all_old ss same =
-      subst (λ (all : List FactsData). AllByRecursion (λ s. IsThere laws.apart r s.name → has_name (file_names (filter_map (snapshot_file r) (names_of all))) (named Snapshot s.name) ≡ true) ss) same
+      subst (λ (all : List FactsData). AllByRecursion (λ s. IsThere laws.apart r s.name → has_name (file_names (filter_map (λ id. file_there r (named Snapshot id)) (names_of all))) (named Snapshot s.name) ≡ true) ss) same
       (each_dropped laws.apart r ss)
 
   all_new : AllByRecursion IsNew (new_files r rule edit)

@@ -24,7 +24,7 @@ use Rattle.keep_snap.specs.Written.{snap_data}
 use Rattle.keep_catalog.specs.Files.{file_in, snap_in, snap_of, snap_read}
 use Rattle.keep_sound.specs.Met.{IsPartOf}
 use Rattle.keep_labels.specs.Edits.{Tags}
-use Rattle.keep_labels.specs.Swapping.{snapshot_file}
+use Rattle.keep_plan.specs.FilesThere.{file_there}
 use Rattle.keep_labels.specs.Tagging.{tagged_file}
 use Rattle.keep_labels.proofs.Taken.{names_of}
 
@@ -65,18 +65,18 @@ module _ (apart : TellsApart name_cmp) where
     IsThere id = IsSome (get r.files (named Snapshot id))
 
     abbrev pub IsDropped : List FactsData → FactsData → Type 0
-    IsDropped all s = IsThere s.name → has_name (file_names (filter_map (snapshot_file r) (names_of all))) (named Snapshot s.name) ≡ true
+    IsDropped all s = IsThere s.name → has_name (file_names (filter_map (λ id. file_there r (named Snapshot id)) (names_of all))) (named Snapshot s.name) ≡ true
 
     first_dropped : (s : FactsData) (all : List FactsData) → IsDropped (s ∷ all) s
     first_dropped s all = cases (get r.files (named Snapshot s.name)) where
-      cases : (o : Option (List ℕ)) → IsSome o → has_name (file_names (cons_option (option_map (λ bytes. record { name = named Snapshot s.name; bytes = bytes }) o) (filter_map (snapshot_file r) (names_of all)))) (named Snapshot s.name) ≡ true
+      cases : (o : Option (List ℕ)) → IsSome o → has_name (file_names (cons_option (option_map (λ bytes. record { name = named Snapshot s.name; bytes = bytes }) o) (filter_map (λ id. file_there r (named Snapshot id)) (names_of all)))) (named Snapshot s.name) ≡ true
       cases None h = (cc h)
-      cases (Some bytes) h = has_first (named Snapshot s.name) (record { name = named Snapshot s.name; bytes = bytes }) (filter_map (snapshot_file r) (names_of all)) refl
+      cases (Some bytes) h = has_first (named Snapshot s.name) (record { name = named Snapshot s.name; bytes = bytes }) (filter_map (λ id. file_there r (named Snapshot id)) (names_of all)) refl
 
     all_more : (s : FactsData) (all ts : List FactsData) → AllByRecursion (IsDropped all) ts → AllByRecursion (IsDropped (s ∷ all)) ts
     all_more s all [] h = tt
     all_more s all (t ∷ ts) h = (
-      λ there. has_more (named Snapshot t.name) (snapshot_file r s.name) (filter_map (snapshot_file r) (names_of all)) (h.0 there),
+      λ there. has_more (named Snapshot t.name) (file_there r (named Snapshot s.name)) (filter_map (λ id. file_there r (named Snapshot id)) (names_of all)) (h.0 there),
       all_more s all ts h.1,
     )
 

@@ -27,7 +27,8 @@ use Rattle.keep_sound.specs.Careful.{IsSafe}
 use Rattle.keep_sound.specs.Met.{AddsPart, HasOneText, IsIn, IsPartOf}
 use Rattle.keep_sound.specs.Plans.{ReindexingIsSafe, Reindexes}
 use Rattle.keep_sound.specs.Standing.{file_facet}
-use Rattle.keep_upkeep.specs.Reindexing.{files_there, other_indexes}
+use Rattle.keep_plan.specs.FilesThere.{files_there}
+use Rattle.keep_upkeep.specs.Reindexing.{other_indexes}
 use Rattle.keep_safety.specs.SafeReindexing.{MeetsSweep, SweepIsSafe, SweepsKeepPacks, SweepsKeepPlaces}
 use Rattle.keep_upkeep.specs.Sweep.{left_files, left_of, listing, lists_gone, names_of, packs_left, sweeping, swept_files, waited_marks}
 use Rattle.keep_upkeep.proofs.EachSo.{any_at, each_among, each_kept, each_mapped, each_so, so_at}

@@ -17,7 +17,7 @@ use Rattle.keep_catalog.specs.Files.{ids_in}
 use Rattle.keep_change.specs.Lists.{file_names}
 use Rattle.keep_change.specs.NamedBytes.{NamedBytes}
 use Rattle.keep_plan.proofs.Rising.{rise_made}
-use Rattle.keep_upkeep.specs.Reindexing.{file_there, files_there}
+use Rattle.keep_plan.specs.FilesThere.{file_there, files_there}
 use Rattle.keep_upkeep.proofs.EachSo.{each_made, each_passes, each_so}
 use Rattle.keep_upkeep.proofs.Rising.{rise_left}
 
@@ -32,10 +32,10 @@ made_as kind id (Some bytes) f is =
     let same : record { name = named kind id; bytes = bytes } ≡ f = cc is in
     (sym (ap (λ (g : NamedBytes). g.name) same), ap (λ (g : NamedBytes). Some g.bytes) same)
 
-file_name : (r : Repository) (kind : Kind) (id : Id) (f : NamedBytes) → file_there r kind id ≡ Some f → f.name ≡ named kind id
+file_name : (r : Repository) (kind : Kind) (id : Id) (f : NamedBytes) → file_there r (named kind id) ≡ Some f → f.name ≡ named kind id
 file_name r kind id f is = (made_as kind id (get r.files (named kind id)) f is).0
 
-file_is_there : (r : Repository) (kind : Kind) (id : Id) (f : NamedBytes) → file_there r kind id ≡ Some f → IsThere r f
+file_is_there : (r : Repository) (kind : Kind) (id : Id) (f : NamedBytes) → file_there r (named kind id) ≡ Some f → IsThere r f
 file_is_there r kind id f is =
     let parts = made_as kind id (get r.files (named kind id)) f is in
     ap (get r.files) parts.0 ∙ parts.1
@@ -46,7 +46,7 @@ pub each_there : (r : Repository) (kind : Kind) (P : Id → Type 0) (Q : NamedBy
     → (ids : List Id) → AllByRecursion P ids → AllByRecursion Q (files_there r kind ids)
 unfolding files_there
 each_there r kind P Q so ids h =
-    each_made P Q (file_there r kind) (λ id f p is. so id f p (file_name r kind id f is) (file_is_there r kind id f is)) ids h
+    each_made P Q (λ id. file_there r (named kind id)) (λ id f p is. so id f p (file_name r kind id f is) (file_is_there r kind id f is)) ids h
 
 -- ---- their order
 
@@ -74,8 +74,8 @@ module _ (names : NamesAreOrdered) where
   pub files_rise : (r : Repository) (kind : Kind) (ids : List Id) → IsStrictlySortedBy id_cmp ids → IsStrictlySortedBy name_cmp (file_names (files_there r kind ids))
   unfolding files_there
   files_rise r kind ids h = made (named_rise kind ids h) where
-    made : IsStrictlySortedBy name_cmp (map (named kind) ids) → IsStrictlySortedBy name_cmp (file_names (filter_map (file_there r kind) ids))
-    made g = rise_made name_cmp (named kind) (λ (f : NamedBytes). f.name) (file_there r kind) (file_name r kind) ids g
+    made : IsStrictlySortedBy name_cmp (map (named kind) ids) → IsStrictlySortedBy name_cmp (file_names (filter_map (λ id. file_there r (named kind id)) ids))
+    made g = rise_made name_cmp (named kind) (λ (f : NamedBytes). f.name) (λ id. file_there r (named kind id)) (file_name r kind) ids g
 
   -- packs stand before indexes
   pub pack_before_index : KindsAreOrdered → (a b : FileName) → a.kind ≡ Pack → b.kind ≡ Index → name_cmp a b ≡ Less

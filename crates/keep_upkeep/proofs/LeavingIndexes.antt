@@ -15,7 +15,8 @@ use Rattle.keep_change.specs.Lists.{marked_packs}
 use Rattle.keep_change.specs.NamedBytes.{NamedBytes}
 use Rattle.keep_change.specs.declared.change.PackMark.{PackMark}
 use Rattle.keep_catalog.specs.Files.{indexes_in, packs_view}
-use Rattle.keep_upkeep.specs.Reindexing.{files_there, index_files, other_indexes, reindexing}
+use Rattle.keep_plan.specs.FilesThere.{files_there}
+use Rattle.keep_upkeep.specs.Reindexing.{index_files, other_indexes, reindexing}
 use Rattle.keep_upkeep.specs.Sweep.{left_files, left_of, listing, lists_gone, listing_gone, names_of, sweeping, swept_files}
 use Rattle.keep_upkeep.proofs.EachSo.{any_mapped}
 

@@ -3,9 +3,9 @@ use Rattle.std.proofs.Common.{◌≡◌, ◌≢◌, ℕ, ℤ, Bool, true, false,
 use Rattle.std.specs.Cmp.{IsTotalOrder}
 use Rattle.std.specs.FinMap.{FinMap, IsAntisymmetric, entries, from_entries, get, keys}
 use Rattle.std.specs.FinSet as set
-use Rattle.std.specs.List.{AllByRecursion, list_any, slice_get}
+use Rattle.std.specs.List.{AllByRecursion, list_any}
 use Rattle.std.specs.List.Sorted.{IsStrictlySortedBy}
-use Rattle.std.specs.Option.{option_map, option_or}
+use Rattle.std.specs.Option.{option_or}
 use Rattle.std.specs.Ordering.{eq_by_cmp}
 use Rattle.std.proofs.lemmas.List.{append-nil}
 use Rattle.std.proofs.lemmas.List.Elements.{All-from_recursion, All-nil, recursion_from_All}
@@ -37,7 +37,7 @@ use Rattle.keep_reach.specs.Snapshots.{broken_in}
 use Rattle.keep_reach.specs.Used.{used_in}
 use Rattle.keep_catalog.specs.declared.reach_error.ReachError.{ReachError}
 use Rattle.keep_plan.proofs.Ordered.{All-entries, All-of_map, each_so, filter_passes}
-use Rattle.keep_plan.specs.Refusal.{of_reach, unless, unread_first}
+use Rattle.keep_plan.specs.Refusal.{unless, unreached_first, unread_first}
 use Rattle.keep_plan.specs.Reuse.{reused_packs}
 use Rattle.keep_plan.specs.Storing.{CanBeMade, is_there, stored_built}
 use Rattle.keep_plan.specs.declared.plan_error.PlanError.{PlanError}
@@ -51,7 +51,7 @@ use Rattle.keep_upkeep.proofs.MarkLists.{ids_rise, named_rise}
 abbrev pub mark_of : Repository → set.FinSet id_cmp → ℤ → List Id → Change
 mark_of r known moment packs = marking (map (mark_at moment) packs) (needed_in r) (map (named Snapshot) (gone_snapshots r known))
 
-none_broken : (unread : Option PlanError) (broken : List (Id × ReachError)) → option_or unread (option_map (λ (b : Id × ReachError). of_reach b.1) (slice_get broken 0)) ≡ None → broken ≡ []
+none_broken : (unread : Option PlanError) (broken : List (Id × ReachError)) → option_or unread (unreached_first (map (λ (b : Id × ReachError). b.1) broken)) ≡ None → broken ≡ []
 none_broken (Some error) broken h = cc h
 none_broken None [] h = refl
 none_broken None (b ∷ broken) h = cc h

@@ -13,7 +13,8 @@ use Rattle.keep_repo.specs.Repository.{Repository}
 use Rattle.keep_change.specs.Filling.{has_name}
 use Rattle.keep_change.specs.Lists.{file_names}
 use Rattle.keep_change.specs.NamedBytes.{NamedBytes}
-use Rattle.keep_upkeep.specs.Reindexing.{files_there, other_indexes}
+use Rattle.keep_plan.specs.FilesThere.{files_there}
+use Rattle.keep_upkeep.specs.Reindexing.{other_indexes}
 use Rattle.keep_upkeep.proofs.EachSo.{each_always, each_mapped, each_passes}
 use Rattle.keep_upkeep.proofs.FilesThere.{IsThere, each_there, files_rise}
 use Rattle.keep_upkeep.proofs.Rising.{rise_left}

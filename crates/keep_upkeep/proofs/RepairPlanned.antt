@@ -27,7 +27,8 @@ use Rattle.keep_catalog.proofs.Ordered.{in_order-same}
 use Rattle.keep_plan.specs.Storing.{is_there, stored_built}
 use Rattle.keep_plan.specs.declared.plan_error.PlanError.{PlanError}
 use Rattle.keep_plan.specs.declared.plan_error.PlanError.TheVariants.{NothingToDo}
-use Rattle.keep_upkeep.specs.Reindexing.{files_there, index_files, other_indexes, reindexing}
+use Rattle.keep_plan.specs.FilesThere.{files_there}
+use Rattle.keep_upkeep.specs.Reindexing.{index_files, other_indexes, reindexing}
 use Rattle.keep_upkeep.specs.Repair.{absent_among, absent_listed, absent_packs, header_listed, is_idle, other_files, other_listings, packs_there, repair_change, repairing, whole_files}
 use Rattle.keep_upkeep.proofs.EachSo.{are_apart, each_always, each_among, each_mapped, each_passes, each_so, so_at}
 use Rattle.keep_upkeep.proofs.FilesThere.{ids_rise}

@@ -35,7 +35,8 @@ use Rattle.keep_plan.specs.Storing.{stored_built}
 use Rattle.keep_plan.specs.declared.plan_error.PlanError.{PlanError}
 use Rattle.keep_plan.specs.declared.plan_error.PlanError.TheVariants.{Memory, NothingToDo}
 use Rattle.keep_plan.proofs.Rising.{rise_kept}
-use Rattle.keep_upkeep.specs.Reindexing.{files_there, other_indexes, reindexing}
+use Rattle.keep_plan.specs.FilesThere.{files_there}
+use Rattle.keep_upkeep.specs.Reindexing.{other_indexes, reindexing}
 use Rattle.keep_upkeep.specs.Sweep.{has_waited, left_files, listing, lists_gone, names_of, packs_left, sweep_change, sweep_of, sweeping, swept_files, waited_marks}
 use Rattle.keep_upkeep.proofs.EachSo.{each_always, each_kept, each_mapped, each_passes, each_so, never_at}
 use Rattle.keep_upkeep.proofs.FilesThere.{IsThere, each_there, files_rise, ids_rise, pack_before_index}

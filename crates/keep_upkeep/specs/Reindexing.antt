@@ -1,11 +1,7 @@
 -- Changes that put a new index in the place of others.
-use Rattle.std.specs.Prelude.{not, List, [], ◌∷◌, filter, Option}
-use Rattle.std.specs.FinMap as finite
-use Rattle.std.specs.List.{filter_map}
-use Rattle.std.specs.Option.{option_map}
+use Rattle.std.specs.Prelude.{not, List, [], ◌∷◌, filter}
 use Rattle.keep_names.specs.FileName.{named}
 use Rattle.keep_names.specs.declared.file_name.FileName.{FileName}
-use Rattle.keep_names.specs.declared.file_name.Kind.{Kind}
 use Rattle.keep_names.specs.declared.file_name.Kind.TheVariants.{Index}
 use Rattle.keep_names.specs.declared.id.Id.{Id}
 use Rattle.keep_repo.specs.Repository.{Repository}
@@ -18,15 +14,6 @@ use Rattle.keep_change.specs.NamedBytes.{NamedBytes, file_of}
 use Rattle.keep_change.specs.declared.change.Change.{Change}
 use Rattle.keep_change.specs.declared.change.PackMark.{PackMark}
 use Rattle.keep_plan.specs.Storing.{stored_built}
-
--- the file of this kind and id, if it is there
-abbrev pub file_there : Repository → Kind → Id → Option NamedBytes
-file_there r kind id =
-    option_map (λ bytes. record { name = named kind id; bytes = bytes }) (finite.get r.files (named kind id))
-
--- those of the files of this kind that are there
-unfoldable pub files_there : Repository → Kind → List Id → List NamedBytes
-files_there r kind ids = filter_map (file_there r kind) ids
 
 -- the file of the index of these packs, if there are any
 unfoldable pub index_files : List PackData → List NamedBytes

@@ -18,7 +18,8 @@ use Rattle.keep_catalog.specs.Ordered.{in_order}
 use Rattle.keep_plan.specs.Storing.{is_there}
 use Rattle.keep_plan.specs.declared.plan_error.PlanError.{PlanError}
 use Rattle.keep_plan.specs.declared.plan_error.PlanError.TheVariants.{NothingToDo}
-use Rattle.keep_upkeep.specs.Reindexing.{files_there, index_files, other_indexes, reindexing}
+use Rattle.keep_plan.specs.FilesThere.{files_there}
+use Rattle.keep_upkeep.specs.Reindexing.{index_files, other_indexes, reindexing}
 
 -- ---- the new index
 

@@ -18,7 +18,8 @@ use Rattle.keep_plan.specs.Refusal.{unless, unread_first}
 use Rattle.keep_change.specs.Marks.{pack_mark}
 use Rattle.keep_plan.specs.declared.plan_error.PlanError.{PlanError}
 use Rattle.keep_plan.specs.declared.plan_error.PlanError.TheVariants.{NothingToDo}
-use Rattle.keep_upkeep.specs.Reindexing.{files_there, index_files, other_indexes, reindexing}
+use Rattle.keep_plan.specs.FilesThere.{files_there}
+use Rattle.keep_upkeep.specs.Reindexing.{index_files, other_indexes, reindexing}
 
 -- ---- which packs
 

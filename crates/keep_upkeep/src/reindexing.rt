@@ -1,5 +1,5 @@
-ghost use Rattle.std.specs.Prelude.{◌≡◌, ◌++◌, [], ◌∷◌, IfOk, OnOk};
-ghost use Rattle.std.specs.List.{filter_map, list_any};
+ghost use Rattle.std.specs.Prelude.{◌≡◌, [], IfOk};
+ghost use Rattle.std.specs.List.{list_any};
 ghost use Rattle.std.specs.Ordering.{eq_by_cmp};
 ghost use Rattle.keep_index.specs.Index.{Fits, index_view};
 ghost use Rattle.keep_names.specs.FileName.{named};
@@ -15,34 +15,6 @@ use keep_names::{FileName, Id, Kind};
 use keep_plan::{Reuses, store_built};
 use keep_repo::Repo;
 use std::alloc::{AllocError, Global};
-
-/// Puts those of the files of this kind behind the others that are there.
-#[tactic(auto, unfolding(crate::specs::Reindexing::files_there))]
-pub(crate) fn put_files(
-    repo: &Repo,
-    kind: Kind,
-    ids: &[Id],
-    files: &mut Vec<StoredFile>,
-) -> Result<(), AllocError>
-    ensures { OnOk result (files.new.items ≡ files.old.items ++ spec.files_there repo.now kind ids.now) }
-{
-    for id in ids {
-        put_file(repo, FileName { kind, id: *id }, files)?;
-    }
-    Ok(())
-}
-
-/// Puts the file of this name behind the others, if it is there.
-fn put_file(repo: &Repo, name: FileName, files: &mut Vec<StoredFile>) -> Result<(), AllocError>
-    ensures { OnOk result (files.new.items
-        ≡ files.old.items ++ filter_map (spec.file_there repo.now name.kind) (name.id ∷ [])) }
-{
-    let Some(bytes) = repo.get(name) else {
-        return Ok(());
-    };
-    files.push(StoredFile::under(name, bytes.clone()?))?;
-    Ok(())
-}
 
 /// The file of an index, if it lists any pack.
 #[tactic(auto, unfolding(crate::specs::Reindexing::index_files))]

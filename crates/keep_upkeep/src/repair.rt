@@ -1,6 +1,5 @@
 ghost use Rattle.std.specs.Prelude.{◌≡◌, ◌||◌, [], ◌∷◌, not, filter, IfOk, OnOk, map};
 ghost use Rattle.std.specs.BTreeSet.{contains};
-ghost use Rattle.std.specs.BTreeSet as bag;
 ghost use Rattle.std.specs.List.{list_any};
 ghost use Rattle.std.specs.Ordering.{eq_by_cmp};
 ghost use Rattle.keep_docs.specs.Doc.{Answers};
@@ -15,13 +14,13 @@ ghost use Rattle.keep_plan.specs.declared.plan_error.PlanError.TheVariants as th
 ghost use Rattle.keep_upkeep.specs.Repair.{absent_among, absent_listed, other_listings, repair_change};
 ghost use Rattle.keep_upkeep.specs.Repair as spec;
 
-use crate::reindexing::{has_index, index_files, other_indexes, put_files, reindexed};
+use crate::reindexing::{has_index, index_files, other_indexes, reindexed};
 use crate::upkeep_laws::a_planned_repair_can_be_made;
 use keep_catalog::Catalog;
 use keep_change::{Change, Listed, Planned, StoredFile};
 use keep_index::{Index, IndexedPack};
 use keep_names::{Blob, FileName, Id, Kind};
-use keep_plan::PlanError;
+use keep_plan::{PlanError, names_in, put_files};
 use keep_repo::{Facet, Repo};
 use keep_view::View;
 use std::alloc::{AllocError, Global};
@@ -169,12 +168,4 @@ fn put_if_absent(
     }
     absent.insert(file)?;
     Ok(())
-}
-
-/// Names in order.
-fn names_in(alloc: Global, names: BTreeSet<FileName>) -> Result<Vec<FileName>, AllocError>
-    ensures names { IfOk result (λ listed. listed.items ≡ names.keys) }
-    ensures ordered { bag.IsOrdered name_cmp names }
-{
-    names.into_iter().collect(alloc)
 }

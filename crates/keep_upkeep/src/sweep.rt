@@ -17,13 +17,13 @@ ghost use Rattle.keep_upkeep.specs.Reindexing.{other_indexes};
 ghost use Rattle.keep_upkeep.specs.Sweep.{left_of, listing_gone, names_of, sweep_change};
 ghost use Rattle.keep_upkeep.specs.Sweep as spec;
 
-use crate::reindexing::{index_files, other_indexes, put_files, reindexed};
+use crate::reindexing::{index_files, other_indexes, reindexed};
 use crate::upkeep_laws::a_planned_sweep_can_be_made;
 use keep_catalog::Catalog;
 use keep_change::{Change, Listed, PackMark, Planned, StoredFile};
 use keep_index::{Index, IndexedPack, join, without_packs};
 use keep_names::{Id, Kind};
-use keep_plan::PlanError;
+use keep_plan::{PlanError, put_files};
 use keep_repo::{Mark, Repo};
 use keep_view::View;
 use std::alloc::{AllocError, Global};

@@ -5,7 +5,8 @@ use Rattle.keep_index.specs.Index.{Fits, index_view}
 use Rattle.keep_catalog.specs.Files.{indexes_in, packs_view}
 use Rattle.keep_catalog.specs.Ordered.{in_order}
 use Rattle.keep_change.specs.declared.change.Change.{Change}
-use Rattle.keep_upkeep.specs.Reindexing.{files_there, other_indexes}
+use Rattle.keep_plan.specs.FilesThere.{files_there}
+use Rattle.keep_upkeep.specs.Reindexing.{other_indexes}
 use Rattle.keep_upkeep.specs.Repair.{absent_listed, other_listings, packs_there}
 use Rattle.keep_upkeep.proofs.RepairPlanned.{same_repair}
 use Rattle.keep_upkeep.proofs.repair.repair.Goals as goal

@@ -3,7 +3,8 @@ use Rattle.keep_change.specs.Lists.{marked_packs}
 use Rattle.keep_change.specs.declared.change.Change.{Change}
 use Rattle.keep_index.specs.Index.{index_view}
 use Rattle.keep_names.specs.declared.file_name.Kind.TheVariants.{Index, Pack}
-use Rattle.keep_upkeep.specs.Reindexing.{files_there, other_indexes}
+use Rattle.keep_plan.specs.FilesThere.{files_there}
+use Rattle.keep_upkeep.specs.Reindexing.{other_indexes}
 use Rattle.keep_upkeep.proofs.LeavingIndexes.{same_sweep}
 use Rattle.keep_upkeep.proofs.sweep.sweep.Goals as goal
 
