@@ -1,4 +1,3 @@
-pub mod Carried
 pub mod Chosen
 pub mod Counting
 pub mod Dropping

@@ -1,3 +1,4 @@
+pub mod Carried
 pub mod Grounds
 pub mod Made
 pub mod Ordered

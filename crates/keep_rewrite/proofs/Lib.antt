@@ -1,5 +1,4 @@
 mod Alike
-pub mod Carried
 pub mod Finished
 pub mod Kept
 pub mod Listed

@@ -43,7 +43,7 @@ use Rattle.keep_safety.specs.Met.{AreFiles}
 use Rattle.keep_plan.specs.FilesThere.{file_there, files_there}
 use Rattle.keep_labels.specs.Swapping.{swapping}
 use Rattle.keep_labels.specs.Tagging.{retagged_file, tagged_file}
-use Rattle.keep_labels.proofs.Carried.{ReadIsSnap, snap_so}
+use Rattle.keep_plan.proofs.Carried.{ReadIsSnap, snap_so}
 use Rattle.keep_labels.proofs.Lists.{all_both}
 use Rattle.keep_safety.proofs.Rooted.{Found, IsThere, each_dropped, found_so, said_in, snap_part, snap_there, tagged_says}
 use Rattle.keep_labels.proofs.Tagged.{WhatIsStoredCanBeMade, changed, new_files, old_files, tag_so, tag_well_formed}

@@ -52,7 +52,7 @@ use Rattle.keep_rewrite.specs.Rewriting.{Retreed, finished_for, new_file, new_fi
 use Rattle.keep_safety.specs.Met.{AreFiles, IsMet}
 use Rattle.keep_safety.specs.SafeRewrite.{IsOneText, MeetsRewrite, RewriteIsSafe}
 use Rattle.keep_rewrite.specs.Walking.{AreReached}
-use Rattle.keep_rewrite.proofs.Carried.{snap_so}
+use Rattle.keep_plan.proofs.Carried.{snap_so}
 use Rattle.keep_rewrite.proofs.Finished.{in_first, in_second}
 use Rattle.keep_rewrite.proofs.Kept.{left_ids}
 use Rattle.keep_rewrite.proofs.Listed.{IsBefore, IsOfSnapshot, adds_before, all_append, all_by, names_both, never_both}

@@ -1,7 +1,7 @@
 use Rattle.std.proofs.Common.{ap, sym, ◌∙◌}
 use Rattle.std.specs.Option.{option_map}
 use Rattle.keep_snap.specs.Snap.{snap_view}
-use Rattle.keep_labels.proofs.Carried.{snap_carried}
+use Rattle.keep_plan.proofs.Carried.{snap_carried}
 use Rattle.keep_labels.proofs.retagged.put_retagged.Goals as goal
 
 pub retagged_file-requires : goal.retagged_file-requires

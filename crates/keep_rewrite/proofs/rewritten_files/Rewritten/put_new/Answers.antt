@@ -1,7 +1,7 @@
 use Rattle.std.proofs.Common.{ap, sym, ◌∙◌}
 use Rattle.std.specs.Option.{option_map}
 use Rattle.keep_snap.specs.Snap.{snap_view}
-use Rattle.keep_rewrite.proofs.Carried.{snap_carried}
+use Rattle.keep_plan.proofs.Carried.{snap_carried}
 use Rattle.keep_rewrite.proofs.rewritten_files.Rewritten.put_new.Goals as goal
 
 pub retreed_file-requires : goal.retreed_file-requires
