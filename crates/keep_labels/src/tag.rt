@@ -11,7 +11,6 @@ use crate::edit::Edit;
 use crate::label_laws::a_planned_tagging_can_be_made;
 use crate::retagged::{Relabeled, retagged};
 use crate::swap::{snapshot_files, swap};
-use crate::taken_snapshots::catalog;
 use keep_catalog::Catalog;
 use keep_change::{Change, Planned, StoredFile};
 use keep_plan::{Filter, PlanError, split_new};
@@ -40,7 +39,7 @@ pub fn plan_tag(
     if edit.is_bad() {
         return Err(PlanError::BadEdit);
     }
-    let catalog = catalog(alloc, view)?;
+    let catalog = view.catalog(alloc)?;
     let taken = filter.taken(alloc, &catalog)?;
     plan_of(alloc, view, &catalog, edit, &taken)
 }

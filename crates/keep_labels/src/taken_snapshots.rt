@@ -4,7 +4,6 @@ ghost use Rattle.keep_plan.specs.Taking.{taken_in};
 ghost use Rattle.keep_plan.specs.Refusal.{unread_first};
 ghost use Rattle.keep_plan.specs.declared.plan_error.PlanError.TheVariants as the_error;
 
-use keep_catalog::Catalog;
 use keep_plan::{Filter, PlanError};
 use keep_snap::SnapFacts;
 use keep_view::View;
@@ -20,17 +19,7 @@ pub(crate) fn taken(
     ensures all_read { IfOk result (λ _. unread_first view.now.repo ≡ None) }
     ensures refused { IfErr result (λ error. error ≢ the_error.Memory → unread_first view.now.repo ≡ Some error) }
 {
-    let catalog = catalog(alloc, view)?;
+    let catalog = view.catalog(alloc)?;
     let taken = filter.taken(alloc, &catalog)?;
     Ok(taken)
-}
-
-/// The catalog, if each pack, index and snapshot can be read.
-pub(crate) fn catalog<'a>(alloc: Global, view: &View<'a>) -> Result<Catalog<'a>, PlanError>
-    ensures catalog { IfOk result (λ catalog. catalog ≡ view.now.repo) }
-    ensures all_read { IfOk result (λ _. unread_first view.now.repo ≡ None) }
-    ensures refused { IfErr result (λ error. error ≢ the_error.Memory → unread_first view.now.repo ≡ Some error) }
-{
-    let catalog = view.catalog(alloc)?;
-    Ok(catalog)
 }

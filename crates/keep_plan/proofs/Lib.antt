@@ -4,6 +4,7 @@ pub mod Made
 pub mod Ordered
 pub mod Outcomes
 pub mod Recorded
+pub mod Refused
 pub mod Rising
 pub mod Sets
 pub mod StoredFiles

@@ -68,6 +68,10 @@ plan_text Memory = codes "Memory"
 abbrev pub unread_first : Repository → Option PlanError
 unread_first r = option_map Unread (slice_get (unread_in r) 0)
 
+-- what a planner tells of these refusals of reaches: the first
+abbrev pub unreached_first : List ReachError → Option PlanError
+unreached_first refusals = option_map of_reach (slice_get refusals 0)
+
 -- what is due, unless it is refused
 abbrev pub unless : {X : Type 0} → Option PlanError → Result X PlanError → Result X PlanError
 unless (Some refusal) due = Err refusal

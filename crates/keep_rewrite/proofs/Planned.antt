@@ -1,5 +1,5 @@
 -- What is planned, step by step, and what is answered.
-use Rattle.std.proofs.Common.{◌≡◌, ◌≢◌, ◌≤◌, suc, Bool, true, false, cond, List, [], ◌∷◌, ◌++◌, length, map, filter, nat_lt, IfOk, Option, None, Some, option_map, slice_get, Result, Ok, Err, refl, sym, ap, ap₂, subst, ◌∙◌, true≢false, arith}
+use Rattle.std.proofs.Common.{◌≡◌, ◌≢◌, ◌≤◌, suc, Bool, true, false, cond, List, [], ◌∷◌, ◌++◌, length, map, filter, nat_lt, IfOk, Option, None, Some, option_map, Result, Ok, Err, refl, sym, ap, ap₂, subst, ◌∙◌, true≢false, arith}
 use Rattle.std.proofs.lemmas.Bool.{ltb-false}
 use Rattle.std.specs.List.{AllByRecursion, cons_option, list_any}
 use Rattle.std.specs.List.Sorted.{IsStrictlySortedBy}
@@ -24,7 +24,7 @@ use Rattle.keep_reach.specs.Snapshots.{refusals_of}
 use Rattle.keep_catalog.specs.declared.reach_error.ReachError.{ReachError}
 use Rattle.keep_plan.specs.Taking.{taken_in}
 use Rattle.keep_plan.specs.declared.pick.Pick.{Pick}
-use Rattle.keep_plan.specs.Refusal.{of_reach, unless, unread_first}
+use Rattle.keep_plan.specs.Refusal.{unless, unreached_first, unread_first}
 use Rattle.keep_plan.proofs.Taken.{fewer_so}
 use Rattle.keep_plan.specs.Storing.{absent_files, is_any_taken}
 use Rattle.keep_plan.specs.declared.plan_error.PlanError.{PlanError}
@@ -37,7 +37,7 @@ use Rattle.keep_build.specs.Packs.{packs_of}
 use Rattle.keep_build.specs.Stored.{packs_and_index, store_of, stored_of}
 use Rattle.keep_rewrite.specs.Finishing.{StandsFor}
 use Rattle.keep_rewrite.specs.Leaving.{tree_left}
-use Rattle.keep_rewrite.specs.Rewriting.{Retreed, change_of, finished_for, new_files, retreed_file, retreed_of, rewrite_change, rewrite_of, rewriting, rewriting_of, snapshot_loses, unreached_first}
+use Rattle.keep_rewrite.specs.Rewriting.{Retreed, change_of, finished_for, new_files, retreed_file, retreed_of, rewrite_change, rewrite_of, rewriting, rewriting_of, snapshot_loses}
 use Rattle.keep_rewrite.specs.Walking.{AreReached}
 use Rattle.keep_rewrite.proofs.Kept.{passed}
 use Rattle.keep_rewrite.proofs.Listed.{all_by}
@@ -89,7 +89,7 @@ module _ (r : Repository) (rule : Pick) (patterns : List PatternData) (forget : 
   unfolding rewrite_change
   read_refused error why other = ap (λ o. unless o (rewrite_of r patterns forget (taken_in rule r))) (why other)
 
-  pub reach_refused : (taken : List FactsData) (error : PlanError) → unread_first r ≡ None → taken ≡ taken_in rule r → (error ≢ Memory → unreached_first r taken ≡ Some error) → error ≢ Memory
+  pub reach_refused : (taken : List FactsData) (error : PlanError) → unread_first r ≡ None → taken ≡ taken_in rule r → (error ≢ Memory → unreached_first (refusals_of r (map (λ (s : FactsData). s.name) taken)) ≡ Some error) → error ≢ Memory
       → rewrite_change r rule patterns forget ≡ Err error
   unfolding rewrite_change
   reach_refused taken error none same why other =
@@ -101,7 +101,7 @@ module _ (r : Repository) (rule : Pick) (patterns : List PatternData) (forget : 
       → rewriting_of r forget (retreed_of r patterns taken) (store_of r (finished_for r patterns taken)) ≡ rewrite_change r rule patterns forget
   unfolding rewrite_change
   due taken none same had =
-      sym (ap (λ (es : List ReachError). unless (option_map of_reach (slice_get es 0)) (rewriting_of r forget (retreed_of r patterns taken) (store_of r (finished_for r patterns taken)))) had)
+      sym (ap (λ (es : List ReachError). unless (unreached_first es) (rewriting_of r forget (retreed_of r patterns taken) (store_of r (finished_for r patterns taken)))) had)
       ∙ ap (λ (ts : List FactsData). rewrite_of r patterns forget ts) same
       ∙ sym (ap (λ o. unless o (rewrite_of r patterns forget (taken_in rule r))) none)
 
@@ -207,7 +207,7 @@ module _ (r : Repository) (rule : Pick) (patterns : List PatternData) (forget : 
     unfolding store_of
     store_so reached h = stored_so reached (unread_first r) h
 
-    reach_so : (es : List ReachError) → refusals_of r (map (λ (s : FactsData). s.name) taken) ≡ es → unless (option_map of_reach (slice_get es 0)) (rewriting_of r forget retreed (store_of r trees)) ≡ Ok c → P c
+    reach_so : (es : List ReachError) → refusals_of r (map (λ (s : FactsData). s.name) taken) ≡ es → unless (unreached_first es) (rewriting_of r forget retreed (store_of r trees)) ≡ Ok c → P c
     reach_so [] had h = store_so (all_reached r taken (all_picked r rule) had) h
     reach_so (e ∷ es) had h = (cc h)
 

@@ -1,6 +1,5 @@
 -- What a rewrite changes.
-use Rattle.std.specs.Prelude.{Bool, not, List, [], ◌++◌, filter, map, option_map, slice_get, Option, Result, Ok, Err, if◌then◌else◌}
-use Rattle.std.specs.FinMap as finite
+use Rattle.std.specs.Prelude.{Bool, not, List, [], ◌++◌, filter, map, option_map, Option, Result, Ok, Err, if◌then◌else◌}
 use Rattle.std.specs.List.{filter_map, flat_map}
 use Rattle.serde_json.specs.Written.{compact_text}
 use Rattle.keep_names.specs.FileName.{named}
@@ -19,11 +18,11 @@ use Rattle.keep_change.specs.NamedBytes.{NamedBytes, file_of}
 use Rattle.keep_change.specs.declared.change.Change.{Change}
 use Rattle.keep_catalog.specs.Files.{snap_in}
 use Rattle.keep_reach.specs.Reach.{most_levels}
-use Rattle.keep_plan.specs.FilesThere.{file_there}
 use Rattle.keep_reach.specs.Snapshots.{refusals_of}
+use Rattle.keep_plan.specs.FilesThere.{file_there}
 use Rattle.keep_plan.specs.Taking.{taken_in}
 use Rattle.keep_plan.specs.declared.pick.Pick.{Pick}
-use Rattle.keep_plan.specs.Refusal.{of_reach, unless, unread_first}
+use Rattle.keep_plan.specs.Refusal.{unless, unreached_first, unread_first}
 use Rattle.keep_plan.specs.Storing.{absent_files, is_any_taken}
 use Rattle.keep_plan.specs.declared.plan_error.PlanError.{PlanError}
 use Rattle.keep_plan.specs.declared.plan_error.PlanError.TheVariants.{NothingToDo, SnapshotThere}
@@ -100,14 +99,10 @@ abbrev pub rewriting_of : Repository → Bool → List Retreed → Result Stored
 rewriting_of r forget retreed (Ok stored) = rewriting r forget retreed stored
 rewriting_of r forget retreed (Err why) = Err why
 
--- the first refusal of what these snapshots reach
-abbrev pub unreached_first : Repository → List FactsData → Option PlanError
-unreached_first r taken = option_map of_reach (slice_get (refusals_of r (map (λ s. s.name) taken)) 0)
-
 -- the change that takes what the patterns match out of these snapshots, or the first refusal
 abbrev pub rewrite_of : Repository → List PatternData → Bool → List FactsData → Result Change PlanError
 rewrite_of r patterns forget taken =
-    unless (unreached_first r taken)
+    unless (unreached_first (refusals_of r (map (λ s. s.name) taken)))
     (rewriting_of r forget (retreed_of r patterns taken) (store_of r (finished_for r patterns taken)))
 
 -- the change that takes what the patterns match out of the taken snapshots, or the first refusal

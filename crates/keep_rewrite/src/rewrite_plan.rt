@@ -1,4 +1,4 @@
-ghost use Rattle.std.specs.Prelude.{◌≡◌, ◌≢◌, [], None, Some, map, IfErr, IfOk, OnOk};
+ghost use Rattle.std.specs.Prelude.{◌≡◌, ◌≢◌, [], Some, map, IfErr, IfOk, OnOk};
 ghost use Rattle.keep_docs.specs.Doc.{Answers};
 ghost use Rattle.keep_reach.specs.Snapshots.{refusals_of};
 ghost use Rattle.keep_patterns.specs.Parsing.{pattern_view};
@@ -6,9 +6,9 @@ ghost use Rattle.keep_snap.specs.Facts.{facts_view};
 ghost use Rattle.keep_view.specs.Planned.{IsPlannedOn};
 ghost use Rattle.keep_build.specs.Stored.{store_of};
 ghost use Rattle.keep_build.specs.Storing.{given};
-ghost use Rattle.keep_plan.specs.Refusal.{unread_first};
+ghost use Rattle.keep_plan.specs.Refusal.{unreached_first};
 ghost use Rattle.keep_plan.specs.declared.plan_error.PlanError.TheVariants as the_error;
-ghost use Rattle.keep_rewrite.specs.Rewriting.{finished_for, retreed_of, rewrite_change, rewriting_of, unreached_first};
+ghost use Rattle.keep_rewrite.specs.Rewriting.{finished_for, retreed_of, rewrite_change, rewriting_of};
 ghost use Rattle.keep_rewrite.specs.Walking.{AreReached};
 
 use crate::retreed::retreed;
@@ -44,7 +44,7 @@ pub fn plan_rewrite(
     ensures planned { IfOk result (IsPlannedOn view.now) }
 {
     a_planned_rewrite_can_be_made();
-    let catalog = catalog(alloc, view)?;
+    let catalog = view.catalog(alloc)?;
     let taken = filter.taken(alloc, &catalog)?;
     ask_reach(alloc, &catalog, &taken)?;
     let walk = Walk {
@@ -55,21 +55,11 @@ pub fn plan_rewrite(
     plan_of(&walk, view, forget, &taken)
 }
 
-/// The catalog, if each pack, index and snapshot can be read.
-fn catalog<'a>(alloc: Global, view: &View<'a>) -> Result<Catalog<'a>, PlanError>
-    ensures catalog { IfOk result (λ catalog. catalog ≡ view.now.repo) }
-    ensures all_read { IfOk result (λ _. unread_first view.now.repo ≡ None) }
-    ensures refused { IfErr result (λ error. error ≢ the_error.Memory → unread_first view.now.repo ≡ Some error) }
-{
-    let catalog = view.catalog(alloc)?;
-    Ok(catalog)
-}
-
 /// Nothing, if all that the snapshots reach can be had.
 fn ask_reach(alloc: Global, catalog: &Catalog, taken: &[SnapFacts]) -> Result<(), PlanError>
     ensures had { OnOk result (refusals_of catalog.now (map (λ s. s.name) (map facts_view taken.now)) ≡ []) }
     ensures refused { IfErr result (λ error. error ≢ the_error.Memory
-        → unreached_first catalog.now (map facts_view taken.now) ≡ Some error) }
+        → unreached_first (refusals_of catalog.now (map (λ s. s.name) (map facts_view taken.now))) ≡ Some error) }
 {
     let names = names_of(alloc, taken)?;
     let _reached = reach_all(alloc, catalog, &names)?;

@@ -24,56 +24,50 @@ use Rattle.keep_catalog.specs.declared.catalog_error.CatalogError.{CatalogError}
 use Rattle.keep_catalog.specs.declared.catalog_error.CatalogError.TheVariants as catalog
 use Rattle.keep_catalog.specs.declared.reach_error.ReachError.{ReachError}
 use Rattle.keep_catalog.specs.declared.reach_error.ReachError.TheVariants as reach
-use Rattle.keep_catalog.specs.declared.unread.Unread.{Unread}
-use Rattle.keep_plan.specs.Refusal.{of_catalog, of_reach, unless, unread_first}
+use Rattle.keep_plan.specs.Refusal.{of_catalog, of_reach, unless, unreached_first}
 use Rattle.keep_plan.specs.Reuse.{RestOn}
 use Rattle.keep_plan.specs.Storing.{is_there}
 use Rattle.keep_plan.specs.declared.plan_error.PlanError.{PlanError}
 use Rattle.keep_plan.specs.declared.plan_error.PlanError.TheVariants as plan
 use Rattle.keep_plan.specs.declared.reuses.Reuses.{Reuses}
 use Rattle.keep_plan.specs.declared.stored.Stored.{Stored}
-use Rattle.keep_upkeep.specs.Mark.{gone_snapshots, mark_at, mark_change, marking, marking_of, needed_in, not_there, unneeded_but, unneeded_packs, unreached_first, why_unknown}
+use Rattle.keep_plan.proofs.Refused.{none_unread, unread_refused}
+use Rattle.keep_upkeep.specs.Mark.{gone_snapshots, mark_at, mark_change, marking, marking_of, needed_in, not_there, unneeded_but, unneeded_packs, why_unknown}
 use Rattle.keep_upkeep.proofs.MarkLists.{rising_are}
 use Rattle.keep_upkeep.proofs.MarkMade.{mark_of}
 
 -- ---- refusals
 
+abbrev refusals : List (Id × ReachError) → List ReachError
+refusals broken = map (λ b. b.1) broken
+
+same_reach : (error : ReachError) (broken : List (Id × ReachError)) → option_map (λ (b : Id × ReachError). b.1) (slice_get broken 0) ≡ Some error
+    → unreached_first (refusals broken) ≡ Some (of_reach error)
+same_reach error [] h = cc h
+same_reach error (b ∷ broken) h =
+    let same : b.1 ≡ error = cc h in
+    ap (λ (e : ReachError). Some (of_reach e)) same
+
 module _ (r : Repository) where
-  same_file : (file : Unread) (o : Option Unread) → option_map catalog.Unread o ≡ Some (catalog.Unread file) → option_map plan.Unread o ≡ Some (plan.Unread file)
-  same_file file None h = cc h
-  same_file file (Some other) h =
-      let same : other ≡ file = cc h in
-      ap (λ (f : Unread). Some (plan.Unread f)) same
-
-  pub unread_refused : (error : CatalogError) → (error ≢ catalog.Memory → option_map catalog.Unread (slice_get (unread_in r) 0) ≡ Some error)
+  pub unread_unknown : (error : CatalogError) → (error ≢ catalog.Memory → option_map catalog.Unread (slice_get (unread_in r) 0) ≡ Some error)
       → of_catalog error ≢ plan.Memory → why_unknown r ≡ Some (of_catalog error)
-  unread_refused (catalog.Unread file) why other =
-      ap (λ (o : Option PlanError). option_or o (unreached_first r)) (same_file file (slice_get (unread_in r) 0) (why (λ e. (cc e))))
-  unread_refused catalog.Memory why other = absurd (other refl)
+  unread_unknown error why other =
+      ap (λ (o : Option PlanError). option_or o (unreached_first (refusals (broken_in r)))) (unread_refused r error why other)
 
-  all_read : unread_in r ≡ [] → why_unknown r ≡ unreached_first r
-  all_read none = ap (λ (files : List Unread). option_or (option_map plan.Unread (slice_get files 0)) (unreached_first r)) none
-
-  first_unreached : List (Id × ReachError) → Option PlanError
-  first_unreached broken = option_map (λ b. of_reach b.1) (slice_get broken 0)
-
-  same_reach : (error : ReachError) (o : Option (Id × ReachError)) → option_map (λ (b : Id × ReachError). b.1) o ≡ Some error → option_map (λ (b : Id × ReachError). of_reach b.1) o ≡ Some (of_reach error)
-  same_reach error None h = cc h
-  same_reach error (Some b) h =
-      let same : b.1 ≡ error = cc h in
-      ap (λ (e : ReachError). Some (of_reach e)) same
+  all_read : unread_in r ≡ [] → why_unknown r ≡ unreached_first (refusals (broken_in r))
+  all_read none = ap (λ (o : Option PlanError). option_or o (unreached_first (refusals (broken_in r)))) (none_unread r none)
 
   pub reach_refused : (catalog : Repository) (error : ReachError) → catalog ≡ r → unread_in r ≡ []
       → (error ≢ reach.Memory → option_map (λ (b : Id × ReachError). b.1) (slice_get (broken_in catalog) 0) ≡ Some error)
       → of_reach error ≢ plan.Memory → why_unknown r ≡ Some (of_reach error)
   reach_refused catalog error same read why other =
-      all_read read ∙ ap (λ (x : Repository). option_map (λ (b : Id × ReachError). of_reach b.1) (slice_get (broken_in x) 0)) (sym same)
-      ∙ same_reach error (slice_get (broken_in catalog) 0) (why (λ e. other (ap of_reach e)))
+      all_read read ∙ ap (λ (x : Repository). unreached_first (refusals (broken_in x))) (sym same)
+      ∙ same_reach error (broken_in catalog) (why (λ e. other (ap of_reach e)))
 
   pub none_unknown : (catalog : Repository) → catalog ≡ r → unread_in r ≡ [] → broken_in catalog ≡ [] → why_unknown r ≡ None
   none_unknown catalog same read whole =
-      all_read read ∙ ap (λ (x : Repository). option_map (λ (b : Id × ReachError). of_reach b.1) (slice_get (broken_in x) 0)) (sym same)
-      ∙ ap (λ (broken : List (Id × ReachError)). option_map (λ (b : Id × ReachError). of_reach b.1) (slice_get broken 0)) whole
+      all_read read ∙ ap (λ (x : Repository). unreached_first (refusals (broken_in x))) (sym same)
+      ∙ ap (λ (broken : List (Id × ReachError)). unreached_first (refusals broken)) whole
 
   pub mark_refused : (known : set.FinSet id_cmp) (moment : ℤ) (error : PlanError) → (error ≢ plan.Memory → why_unknown r ≡ Some error) → error ≢ plan.Memory
       → mark_change r known moment ≡ Err error

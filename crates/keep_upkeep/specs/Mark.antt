@@ -1,5 +1,5 @@
 -- What a mark changes.
-use Rattle.std.specs.Prelude.{ℤ, Bool, true, not, ◌&&◌, List, [], ◌∷◌, filter, map, Option, option_map, Result, Ok, Err, slice_get}
+use Rattle.std.specs.Prelude.{ℤ, Bool, true, not, ◌&&◌, List, [], ◌∷◌, filter, map, Option, Result, Ok, Err}
 use Rattle.std.specs.FinSet as set
 use Rattle.std.specs.Option.{option_or}
 use Rattle.keep_names.specs.FileName.{named}
@@ -17,7 +17,7 @@ use Rattle.keep_catalog.specs.Ordered.{in_order}
 use Rattle.keep_catalog.specs.Places.{is_unmarked}
 use Rattle.keep_reach.specs.Snapshots.{broken_in}
 use Rattle.keep_reach.specs.Used.{used_in}
-use Rattle.keep_plan.specs.Refusal.{of_reach, unless, unread_first}
+use Rattle.keep_plan.specs.Refusal.{unless, unreached_first, unread_first}
 use Rattle.keep_plan.specs.Reuse.{reused_packs}
 use Rattle.keep_plan.specs.Storing.{is_there, stored_built}
 use Rattle.keep_plan.specs.declared.plan_error.PlanError.{PlanError}
@@ -71,13 +71,10 @@ marking_of r known moment [] = Err NothingToDo
 marking_of r known moment (pack ∷ packs) =
     Ok (marking (map (mark_at moment) (pack ∷ packs)) (needed_in r) (map (named Snapshot) (gone_snapshots r known)))
 
--- the first refusal of the first snapshot by name that doesn't reach all that it names
-abbrev pub unreached_first : Repository → Option PlanError
-unreached_first r = option_map (λ b. of_reach b.1) (slice_get (broken_in r) 0)
-
--- the first file that can't be read; else that refusal
+-- the first file that can't be read; else the first refusal of the first snapshot by name that doesn't reach all that
+-- it names
 abbrev pub why_unknown : Repository → Option PlanError
-why_unknown r = option_or (unread_first r) (unreached_first r)
+why_unknown r = option_or (unread_first r) (unreached_first (map (λ b. b.1) (broken_in r)))
 
 -- the change that marks, at this moment, the packs that no snapshot needs, or the first refusal
 unfoldable pub mark_change : Repository → set.FinSet id_cmp → ℤ → Result Change PlanError

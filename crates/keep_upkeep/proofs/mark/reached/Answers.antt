@@ -2,7 +2,7 @@ use Rattle.std.proofs.Common.{sym, ap, ◌∙◌}
 use Rattle.std.proofs.lemmas.Result.{err_from_is_err_and}
 use Rattle.keep_catalog.specs.Places.{chosen_listing}
 use Rattle.keep_repo.specs.Repository.{Repository}
-use Rattle.keep_upkeep.proofs.MarkAsked.{none_unknown, reach_refused, unread_refused}
+use Rattle.keep_upkeep.proofs.MarkAsked.{none_unknown, reach_refused, unread_unknown}
 use Rattle.keep_upkeep.proofs.mark.reached.Goals as goal
 
 pub returns-clause-places : goal.returns-clause-places
@@ -16,7 +16,7 @@ returns-clause-known c =
 pub returns-in_err-catalog-clause-refused : goal.returns-in_err-catalog-clause-refused
 returns-in_err-catalog-clause-refused c =
     let due = err_from_is_err_and c.from_residual.result c.from_residual.ensures.1 in
-    rw (due.1, due.2) (unread_refused c.args.view.now.repo _ c.in_err-catalog.ensures.refused)
+    rw (due.1, due.2) (unread_unknown c.args.view.now.repo _ c.in_err-catalog.ensures.refused)
 
 pub returns-in_err-reached-clause-refused : goal.returns-in_err-reached-clause-refused
 returns-in_err-reached-clause-refused c =
