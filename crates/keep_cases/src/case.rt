@@ -1,4 +1,5 @@
 use keep_command::{HostShelves, NamedShelf, NoOperators, Shelves, keepd, tell};
+use keep_hashing::OneByOne;
 use std::alloc::{AllocError, Global};
 use std::fs;
 use std::io::{self, ErrorKind, Write};
@@ -88,7 +89,7 @@ impl Case {
         let mut said = Vec::new(alloc);
         writeln!(writer, "= {}", self.name)?;
         let mut script = self.script.as_slice();
-        let shelves = HostShelves::new(rt);
+        let shelves = HostShelves::new(rt, OneByOne);
         let taken = self.take(&shelves);
         let ending = keepd(
             alloc,
@@ -109,7 +110,7 @@ impl Case {
     }
 
     /// The shelf in the folder that another run has.
-    fn take<'a>(&self, shelves: &'a HostShelves<'_>) -> Option<NamedShelf<'a>> {
+    fn take<'a>(&self, shelves: &'a HostShelves<'_, OneByOne>) -> Option<NamedShelf<'a>> {
         let folder = self.taken.as_ref()?;
         shelves.open(Some(folder.as_str())).ok()
     }

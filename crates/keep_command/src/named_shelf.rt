@@ -2,6 +2,7 @@ use crate::shelves::Shelves;
 use crate::unopened::Unopened;
 use keep_book::Book;
 use keep_folder::{FolderError, FolderShelf, HostTree, open_folder};
+use keep_hashing::Hashing;
 use keep_rope::Rope;
 use keep_shelf::{Fault, Key, MemoryShelf, Shelf};
 use std::mem;
@@ -13,24 +14,32 @@ pub enum NamedShelf<'a> {
     Folder(FolderShelf<HostTree<'a>>),
 }
 
-/// The shelves that the program's options name: folders on this machine's disks, or in memory.
+/// The shelves that the program's options name: folders on this machine's disks, or in memory. What an opening has hashed
+/// is hashed by this.
 #[derive(Clone, Copy)]
-pub struct HostShelves<'a> {
+pub struct HostShelves<'a, H> {
     rt: &'a HostRuntime,
+    hashing: H,
 }
 
-impl<'a> HostShelves<'a> {
-    pub fn new(rt: &'a HostRuntime) -> HostShelves<'a> {
-        HostShelves { rt }
+impl<'a, H: Hashing + Copy> HostShelves<'a, H> {
+    pub fn new(rt: &'a HostRuntime, hashing: H) -> HostShelves<'a, H> {
+        HostShelves { rt, hashing }
     }
 }
 
-impl Shelves for HostShelves<'_> {
+impl<H: Hashing + Copy> Shelves for HostShelves<'_, H> {
     ghost use Rattle.keep_command.specs.NamedShelf.{IsHad};
 
     ghost gives = { λ _ folder result. IsHad folder result };
 
     ghost takes = { λ _ _. Unit {0} };
+
+    type Hashes = H;
+
+    fn hashing(&self) -> H {
+        self.hashing
+    }
 
     fn open<'s>(&'s self, folder: Option<&str>) -> Result<NamedShelf<'s>, FolderError> {
         match folder {

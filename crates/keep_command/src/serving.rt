@@ -77,7 +77,7 @@ where
         (W.contents writer.old) (W.contents writer.new) result }
     ensures lines { KeepsLines (R.remaining reader.old) (W.contents writer.old) (W.contents writer.new) result }
 {
-    match Book::open(terms.alloc, shelf) {
+    match Book::open_with(terms.alloc, shelf, &mut shelves.hashing()) {
         Ok(book) => serve_over(shelves, crew, terms, book, stored, reader, writer),
         Err(given) => {
             let NotOpened { mut shelf, error } = given;

@@ -2,6 +2,7 @@ use crate::named_shelf::NamedShelf;
 use crate::unopened::Unopened;
 use keep_book::Book;
 use keep_folder::FolderError;
+use keep_hashing::Hashing;
 use keep_shelf::Shelf;
 
 /// Where the shelves of runs come from, and where what runs leave goes.
@@ -17,6 +18,11 @@ pub trait Shelves {
 
     /// Whether this was let go.
     ghost takes: { Self → LeftData → Type 0 };
+
+    /// Who hashes what an opening has hashed.
+    type Hashes: Hashing + Copy;
+
+    fn hashing(&self) -> Self::Hashes;
 
     /// The shelf in the folder. Where none is named it has nothing on it, and goes with the run.
     fn open<'s>(&'s self, folder: Option<&str>) -> Result<NamedShelf<'s>, FolderError>

@@ -10,7 +10,9 @@ mod operators;
 
 use crate::operators::Operators;
 use keep_command::{BadOptions, Crew, Ending, HostShelves, keepd, tell};
+use keep_hashing::Hashing;
 use keep_streams::fill_streams;
+use keep_threads::Processors;
 use std::alloc::AllocError;
 use std::env;
 use std::io::{BufWriter, ErrorKind, Write};
@@ -25,9 +27,10 @@ fn read_words(rt: &HostRuntime) -> Result<Vec<String>, BadOptions> {
     }
 }
 
-/// Runs the program between standard input and output, with this crew.
-fn serve<'a, C: Crew>(
+/// Runs the program between standard input and output, with this crew. What an opening has hashed is hashed by this.
+fn serve<'a, H: Hashing + Copy, C: Crew>(
     rt: &HostRuntime,
+    hashing: H,
     crew: &C,
     words: &'a [String],
 ) -> Result<Ending<'a>, AllocError> {
@@ -36,7 +39,7 @@ fn serve<'a, C: Crew>(
     let Ok(mut writer) = BufWriter::new(alloc, rt.stdout()) else {
         return Err(AllocError);
     };
-    let shelves = HostShelves::new(rt);
+    let shelves = HostShelves::new(rt, hashing);
     let mut reader = rt.stdin();
     let words = words.as_slice();
     Ok(keepd(alloc, &shelves, crew, words, &mut reader, &mut writer))
@@ -59,7 +62,7 @@ fn main(rt: HostRuntime) -> ExitCode {
         Err(error) => return exit_code(Ending::from(error), &mut rt.stderr()),
     };
     let crew = Operators::new(&rt);
-    match serve(&rt, &crew, words.as_slice()) {
+    match serve(&rt, Processors::of(&rt), &crew, words.as_slice()) {
         Ok(ending) => exit_code(ending, &mut rt.stderr()),
         Err(error) => exit_code(Ending::from(error), &mut rt.stderr()),
     }

@@ -82,7 +82,7 @@ fn run_command<H: Hashing + Copy>(
         zone: &zone,
     };
     match &command {
-        Command::Script { file } => script(&run, *file),
+        Command::Script { file } => script(&run, hashing, *file),
         Command::Rescue { target, .. } => rescue_folder(&run, target),
         command => over_folder(&run, hashing, command),
     }

@@ -6,14 +6,13 @@ mod dispatch;
 mod folder_opening;
 mod hashing;
 mod looking;
-mod processors;
 mod script;
 mod yes_or_no;
 
 use crate::dispatch::keep;
-use crate::processors::Processors;
 use keep_run::tell;
 use keep_streams::fill_streams;
+use keep_threads::Processors;
 use std::process::ExitCode;
 
 fn main(rt: HostRuntime) -> ExitCode {

@@ -1,3 +1,4 @@
+use keep_catalog::Hashing;
 use keep_command::{Ending, HostShelves, NoOperators, keepd, tell};
 use keep_run::{Failure, Run};
 use keep_tables::utc_time;
@@ -5,11 +6,15 @@ use std::fs::File;
 use std::io::{BufWriter, Read};
 
 /// `keep script`: keepd's lines, from a file or from standard input.
-pub(crate) fn script(run: &Run<'_>, file: Option<&str>) -> Result<(), Failure> {
+pub(crate) fn script<H: Hashing + Copy>(
+    run: &Run<'_>,
+    hashing: H,
+    file: Option<&str>,
+) -> Result<(), Failure> {
     match file {
-        None => answer(run, &mut run.rt.stdin()),
+        None => answer(run, hashing, &mut run.rt.stdin()),
         Some(path) => match File::open(run.rt, path) {
-            Ok(mut script) => answer(run, &mut script),
+            Ok(mut script) => answer(run, hashing, &mut script),
             Err(error) => {
                 let cause = format!(in run.alloc; "cannot open {path}: {error}")?;
                 Err(Failure::Refused(cause))
@@ -19,7 +24,11 @@ pub(crate) fn script(run: &Run<'_>, file: Option<&str>) -> Result<(), Failure> {
 }
 
 /// Answers the lines over the repository's folder, as keepd does.
-fn answer<R: Read>(run: &Run<'_>, reader: &mut R) -> Result<(), Failure> {
+fn answer<H: Hashing + Copy, R: Read>(
+    run: &Run<'_>,
+    hashing: H,
+    reader: &mut R,
+) -> Result<(), Failure> {
     let now = utc_time(run.alloc, run.now)?;
     let folder = format!(in run.alloc; "--folder={}", run.folder)?;
     let now = format!(in run.alloc; "--now={now}")?;
@@ -27,7 +36,7 @@ fn answer<R: Read>(run: &Run<'_>, reader: &mut R) -> Result<(), Failure> {
     let Ok(mut writer) = BufWriter::new(run.alloc, run.rt.stdout()) else {
         return Err(Failure::Memory);
     };
-    let shelves = HostShelves::new(run.rt);
+    let shelves = HostShelves::new(run.rt, hashing);
     let ending = keepd(
         run.alloc,
         &shelves,

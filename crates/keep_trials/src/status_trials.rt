@@ -1,6 +1,7 @@
 use crate::readers::{Endless, Slow};
 use crate::writers::Flushed;
 use keep_command::{BadOptions, Ending, HostShelves, NoOperators, keepd};
+use keep_hashing::OneByOne;
 use keep_ledger::OpenError;
 use keep_script::RunStatus;
 use std::alloc::Global;
@@ -60,7 +61,7 @@ fn failures_give_their_status(rt: HostRuntime) {
         cause: "keepd: cannot read the script",
     };
     let mut writer = unread.writer(alloc);
-    let shelves = HostShelves::new(&rt);
+    let shelves = HostShelves::new(&rt, OneByOne);
     let ending = keepd(alloc, &shelves, &NoOperators, &[], &mut broken, &mut writer);
     unread.expect(&rt, alloc, &ending, &writer);
     let too_long = Failure {

@@ -1,7 +1,7 @@
 ghost use Rattle.std.specs.Prelude.{◌≡◌, IfOk, map};
 ghost use Rattle.keep_names.specs.Sha256.{sha256};
 
-use keep_catalog::Hashing;
+use keep_hashing::Hashing;
 use keep_names::{Id, id_of};
 use rayon::prelude::*;
 use std::alloc::{AllocError, Global};
@@ -11,7 +11,7 @@ use std::thread::Threads;
 /// Hashes in as many threads as there are processors.
 ///
 /// It is the leave to start threads that a handle gives, without the handle: it has no bytes, and each thread may have it.
-pub(crate) struct Processors<R> {
+pub struct Processors<R> {
     of: PhantomData<R>,
 }
 

@@ -8,7 +8,7 @@ use Rattle.rayon.specs.declared.iter.min_len.MinLen.{MinLen}
 use Rattle.rayon.specs.declared.slice.Iter.{Iter}
 use Rattle.keep_names.specs.Sha256.{sha256}
 use Rattle.keep_names.specs.declared.id.Id.{Id}
-use Rattle.keep_tool.proofs.processors.ids_of.Goals as goal
+use Rattle.keep_threads.proofs.processors.ids_of.Goals as goal
 
 -- the id of a piece
 abbrev id_at : Bor (List ℕ) → Id
