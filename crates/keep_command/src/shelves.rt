@@ -22,6 +22,7 @@ pub trait Shelves {
     /// Who hashes what an opening has hashed.
     type Hashes: Hashing + Copy;
 
+    /// Hands in who hashes.
     fn hashing(&self) -> Self::Hashes;
 
     /// The shelf in the folder. Where none is named it has nothing on it, and goes with the run.

@@ -6,7 +6,7 @@ use keep_names::{FileName, Id, Kind};
 use keep_repo::Repo;
 use std::alloc::AllocError;
 
-/// Puts those of the files of this kind behind the others that are there.
+/// Puts the files of this kind and these names behind the others, those that are there.
 #[tactic(auto, unfolding(crate::specs::FilesThere::files_there))]
 pub fn put_files(
     repo: &Repo,
