@@ -8,7 +8,7 @@ use crate::posting::Posting;
 use crate::standing::{
     Standing, copy_names, copy_notices, copy_standings, final_after, last_after, note, note_names,
 };
-use keep_change::{Change, Listed};
+use keep_change::{Change, Listed, SharedChange};
 use keep_log::Log;
 use keep_names::FileName;
 use std::alloc::{AllocError, Global};
@@ -171,7 +171,15 @@ impl History {
         ensures exact { final_number self.now.journal < n → option_copied result ≡ change_of self.now.journal n }
         ensures gone { n ≤ final_number self.now.journal → option_copied result ≡ None }
     {
-        Some(self.standing(n)?.change.as_change())
+        Some(self.shared_change(n)?.as_change())
+    }
+
+    /// Change n, where it isn't final, as it is shared: a clone is another holder of the same lists.
+    pub fn shared_change(&self, n: u64) -> Option<&SharedChange>
+        ensures exact { final_number self.now.journal < n → option_copied result ≡ change_of self.now.journal n }
+        ensures gone { n ≤ final_number self.now.journal → option_copied result ≡ None }
+    {
+        Some(&self.standing(n)?.change)
     }
 
     /// Change n, where it is in force and isn't final.
