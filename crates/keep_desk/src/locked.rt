@@ -87,7 +87,7 @@ impl<B: Naming, R: Wait + Drop, K: Keeper> Locked<B, R, K> {
         if self.press.page().length() == self.register.length() {
             return Ok(());
         }
-        hand_in(self.alloc, &self.register, &mut self.press)?;
+        hand_in(&self.register, &mut self.press)?;
         self.press.publish()?;
         Ok(())
     }

@@ -123,7 +123,6 @@ impl<B: Naming, R: Wait + Drop> Drop for Press<B, R> {
 
 /// Sees to it that the step of the last event waits to be published.
 pub(crate) fn hand_in<B: Naming, R: Wait + Drop, K: Keeper>(
-    alloc: Global,
     register: &Register<B, K>,
     press: &mut Press<B, R>,
 ) -> Result<(), AllocError>
@@ -136,7 +135,7 @@ pub(crate) fn hand_in<B: Naming, R: Wait + Drop, K: Keeper>(
     if press.is_waiting() {
         return Ok(());
     }
-    let step = register.last_step(alloc)?;
+    let step = register.last_step()?;
     press.append(step)?;
     Ok(())
 }

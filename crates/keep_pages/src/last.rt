@@ -6,20 +6,15 @@ ghost use Rattle.keep_journal.specs.History.{change_of, final_number};
 ghost use Rattle.keep_journal.specs.Opening.{IsOpen};
 ghost use Rattle.keep_reading.specs.Settled.{last_event as last_event_of};
 
-use crate::event_copies::copy_change;
-use keep_change::{SharedChange, What};
+use keep_change::What;
 use keep_journal::{Event, EventKind, History};
 use keep_ledger::marks_under;
 use keep_repo::Repo;
-use std::alloc::{AllocError, Global};
+use std::alloc::AllocError;
 
-/// The last event of a history, if it has one, with its change or its marks. The history keeps less of it, and the
-/// rest is told by the repository that the events left.
-pub fn last_event(
-    alloc: Global,
-    history: &History,
-    live: &Repo,
-) -> Result<Option<Event>, AllocError>
+/// The last event of a history, if it has one, with its change or its marks. A commit's change is shared with the
+/// history. The marks of an emptying are told by the repository that the events left, and they alone take memory.
+pub fn last_event(history: &History, live: &Repo) -> Result<Option<Event>, AllocError>
     ensures { let journal = history.now.journal in
         (opening : Repository) → IsOpen opening journal live.now
         → IfOk result (λ last. last ≡ last_event_of journal) }
@@ -29,7 +24,7 @@ pub fn last_event(
     };
     let number = last.change;
     match last.what {
-        What::Commit => commit_of(alloc, history, number),
+        What::Commit => commit_of(history, number),
         What::Undo => Ok(Some(Event {
             number,
             kind: EventKind::Undo,
@@ -48,16 +43,15 @@ pub fn last_event(
     }
 }
 
-/// The commit of change n, which isn't final.
-fn commit_of(alloc: Global, history: &History, n: u64) -> Result<Option<Event>, AllocError>
+/// The commit of change n, which isn't final, with the change shared.
+fn commit_of(history: &History, n: u64) -> Result<Option<Event>, AllocError>
     requires { final_number history.now.journal < n }
     ensures { IfOk result (λ event. event ≡ option_map (committing n) (change_of history.now.journal n)) }
 {
-    let Some(change) = history.change(n) else {
+    let Some(change) = history.shared_change(n) else {
         return Ok(None);
     };
-    let change = copy_change(alloc, change)?;
-    let change = SharedChange::new(alloc, change)?;
+    let change = change.clone()?;
     Ok(Some(Event {
         number: n,
         kind: EventKind::Commit(change),

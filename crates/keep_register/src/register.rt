@@ -18,7 +18,7 @@ use crate::step::Step;
 use keep_chronicle::{Chronicle, Opened, Sight};
 use keep_ledger::{Refusal, Request, Told};
 use keep_pages::last_event;
-use std::alloc::{AllocError, Global};
+use std::alloc::AllocError;
 use std::marker::Model;
 use std::sync::ledger::{Book, Share};
 
@@ -122,11 +122,11 @@ impl<B: Naming, K: Keeper> Register<B, K> {
     }
 
     /// The step to the page of the whole list.
-    pub fn last_step(&self, alloc: Global) -> Result<Step, AllocError>
+    pub fn last_step(&self) -> Result<Step, AllocError>
         ensures { (before : List the_event.Event) (event : the_event.Event) → self.now.events ≡ before ++ event ∷ []
             → IfOk result (IsStep B.book self.now.events event) }
     {
-        let last = last_event(alloc, self.keeper.history(), self.keeper.live())?;
+        let last = last_event(self.keeper.history(), self.keeper.live())?;
         let Some(event) = last else {
             return Err(AllocError);
         };
