@@ -11,6 +11,7 @@ ghost use Rattle.keep_answers.specs.State.{state_of};
 use crate::answer_lists::{write_count, write_history, write_list, write_totals};
 use crate::arming::arm;
 use crate::halt::Halt;
+use crate::hashing_first::hash_first;
 use crate::meant::{Meant, Topic};
 use crate::output::put_line;
 use crate::raw_files::{added, dropped};
@@ -20,12 +21,12 @@ use crate::reply_text::{
 };
 use crate::session::Session;
 use keep_book::Book;
-use keep_catalog::OneByOne;
+use keep_hashing::Hashing;
 use keep_jobs::{Kit, resolve};
 use keep_lines::{Command, JobLine, LineError, Revision, parse};
 use keep_names::{FileName, Id, Kind};
 use keep_plan::PlanError;
-use keep_read::{audit, restore};
+use keep_read::{audit_with, restore};
 use keep_replies::{Compared, Noted};
 use keep_repo::Repo;
 use keep_shelf::Shelf;
@@ -33,12 +34,13 @@ use std::io::Write;
 
 impl Session {
     /// Does what the line asks for, and writes the answer: whole lines, none for a line that is
-    /// passed over. A failure may come after some of the lines.
-    pub fn answer_line<S: Shelf, W: Write>(
+    /// passed over. A failure may come after some of the lines. Where there is much to hash, `hashing` does it.
+    pub fn answer_line<S: Shelf, H: Hashing + Copy, W: Write>(
         &mut self,
         line: &[u8],
         kit: &mut Kit,
         book: &mut Book<S>,
+        hashing: H,
         writer: &mut W,
     ) -> Result<(), Halt>
         requires line { length line.now ≤ longest_line }
@@ -50,16 +52,20 @@ impl Session {
         ensures sums { HasSums book.new }
     {
         match parse(self.alloc, line)? {
-            Some(command) => self.answer(command, kit, book, writer),
+            Some(command) => {
+                hash_first(hashing, book, &command);
+                self.answer(command, kit, book, hashing, writer)
+            }
             None => Ok(()),
         }
     }
 
-    fn answer<S: Shelf, W: Write>(
+    fn answer<S: Shelf, H: Hashing + Copy, W: Write>(
         &mut self,
         command: Command<'_>,
         kit: &mut Kit,
         book: &mut Book<S>,
+        hashing: H,
         writer: &mut W,
     ) -> Result<(), Halt>
         requires { HasSums book.old }
@@ -76,7 +82,7 @@ impl Session {
             Ok(Meant::Drop(name)) => self.drop(name, book, writer),
             Ok(Meant::Revision(revision)) => self.revise(revision, book, writer),
             Ok(Meant::Cascade(number)) => self.cascade(number, book, writer),
-            Ok(Meant::Tell(topic)) => self.tell(topic, book, writer),
+            Ok(Meant::Tell(topic)) => self.tell(topic, book, hashing, writer),
             Ok(Meant::Compare(name, noted)) => self.compare(name, noted, book, writer),
             Ok(Meant::Restore(snapshot)) => self.restore(snapshot, book, writer),
             Ok(Meant::Note(name)) => self.note(name, book, writer),
@@ -195,18 +201,18 @@ impl Session {
     }
 
     /// Tells what is asked for.
-    fn tell<S: Shelf, W: Write>(
+    fn tell<S: Shelf, H: Hashing + Copy, W: Write>(
         &self,
         topic: Topic,
-        book: &mut Book<S>,
+        book: &Book<S>,
+        mut hashing: H,
         writer: &mut W,
     ) -> Result<(), Halt>
-        requires { HasSums book.old }
+        requires { HasSums book.now }
         ensures answers { (kit : KitData) → Writes (W.contents writer.old) (W.contents writer.new) (λ text.
-            AnswersMeant (state_of kit self.now book.old) (meaning.Tell topic) text result
-            (state_of kit self.now book.new)) }
+            AnswersMeant (state_of kit self.now book.now) (meaning.Tell topic) text result
+            (state_of kit self.now book.now)) }
         ensures whole { result ≢ Err Halt.WriteFailed → WritesLines (W.contents writer.old) (W.contents writer.new) }
-        ensures sums { HasSums book.new }
     {
         let alloc = self.alloc;
         match topic {
@@ -215,8 +221,8 @@ impl Session {
             Topic::History => write_history(alloc, book.ledger().history(), writer),
             Topic::Totals => write_totals(alloc, book.totals(), writer),
             Topic::Audit => {
-                book.hash_all(&mut OneByOne);
-                write_audit(alloc, audit(alloc, &book.ledger().view()), writer)
+                let found = audit_with(alloc, &book.ledger().view(), &mut hashing);
+                write_audit(alloc, found, writer)
             }
         }
     }

@@ -6,6 +6,7 @@ mod answer_lists;
 mod answering;
 mod arming;
 mod halt;
+mod hashing_first;
 mod hook_place;
 mod meant;
 mod notes;

@@ -120,7 +120,8 @@ where
         vetoes,
         watches,
     };
-    let status = run_on(terms.setup(), &mut book, &mut kit, reader, writer);
+    let hashing = shelves.hashing();
+    let status = run_on(terms.setup(), &mut book, &mut kit, hashing, reader, writer);
     follow(shelves, crew, terms, book, status, writer)
 }
 

@@ -19,7 +19,7 @@ pub trait Shelves {
     /// Whether this was let go.
     ghost takes: { Self → LeftData → Type 0 };
 
-    /// Who hashes what an opening has hashed.
+    /// Who hashes what an opening and the lines have hashed.
     type Hashes: Hashing + Copy;
 
     /// Hands in who hashes.

@@ -3,6 +3,7 @@ ghost use Rattle.keep_book.specs.Armed.{HasSums};
 use crate::counted::Counted;
 use anyhow::{Result, anyhow};
 use keep_book::Book;
+use keep_hashing::OneByOne;
 use keep_jobs::{Cut, Kit, Settings};
 use keep_script::{RunStatus, Setup, run_on};
 use keep_shelf::MemoryShelf;
@@ -35,7 +36,14 @@ pub(crate) fn answer(
         watches: Vec::new(alloc),
     };
     let mut text = Vec::new(alloc);
-    match run_on(setup, book, &mut kit, &mut line.as_bytes(), &mut text) {
+    match run_on(
+        setup,
+        book,
+        &mut kit,
+        OneByOne,
+        &mut line.as_bytes(),
+        &mut text,
+    ) {
         RunStatus::Done => Ok(String::from_utf8(text)?),
         _ => Err(anyhow!("a line isn't answered")),
     }

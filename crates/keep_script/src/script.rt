@@ -16,6 +16,7 @@ use crate::flushing::flush;
 use crate::status::RunStatus;
 use crate::turns::Turns;
 use keep_book::Book;
+use keep_hashing::{Hashing, OneByOne};
 use keep_jobs::{Kit, Settings};
 use keep_ledger::NotOpened;
 use keep_shelf::Shelf;
@@ -41,6 +42,8 @@ pub struct Setup {
 ///
 /// Lines name the filters of the kit, and arm its vetoes and watches, which are moved out of it: what is left in the
 /// kit is what the last line left.
+///
+/// One piece is hashed after another, at the opening and by lines. `Book::open_with` and `run_on` are handed who hashes.
 pub fn run<S: Shelf, R: Read, W: Write>(
     setup: Setup,
     shelf: S,
@@ -66,16 +69,17 @@ pub fn run<S: Shelf, R: Read, W: Write>(
         (W.contents writer.old) (W.contents writer.new) × (kit_view kit.new ≡ kit_view kit.old)) }
 {
     let mut book = Book::open(setup.alloc, shelf)?;
-    let status = run_on(setup, &mut book, kit, reader, writer);
+    let status = run_on(setup, &mut book, kit, OneByOne, reader, writer);
     Ok((status, book))
 }
 
-/// Answers the lines of a script over this book, which is left as the last line left it, as the kit is. The same holds
-/// of it as of `run`, which opens a book and goes on so.
-pub fn run_on<S: Shelf, R: Read, W: Write>(
+/// Answers the lines of a script over this book, which is left as the last line left it, as the kit is. Where `mark` and
+/// `audit` have much to hash, `hashing` does it. The same holds of it as of `run`, which opens a book and goes on so.
+pub fn run_on<S: Shelf, H: Hashing + Copy, R: Read, W: Write>(
     setup: Setup,
     book: &mut Book<S>,
     kit: &mut Kit,
+    hashing: H,
     reader: &mut R,
     writer: &mut W,
 ) -> RunStatus
@@ -94,7 +98,7 @@ pub fn run_on<S: Shelf, R: Read, W: Write>(
     let Ok(mut turns) = Turns::new(setup) else {
         return RunStatus::NoMemory;
     };
-    let status = turns.answer_all(kit, book, reader, writer);
+    let status = turns.answer_all(kit, book, hashing, reader, writer);
     finish(status, writer)
 }
 

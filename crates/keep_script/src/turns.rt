@@ -15,6 +15,7 @@ use crate::script::Setup;
 use crate::status::{RunStatus, Stop};
 use keep_answers::{Session, put_line};
 use keep_book::Book;
+use keep_hashing::Hashing;
 use keep_jobs::Kit;
 use keep_lines::Mistake;
 use keep_replies::BadLine;
@@ -48,10 +49,11 @@ impl Turns {
     }
 
     /// Answers all lines over this book, which is left as the last line left it.
-    pub fn answer_all<S: Shelf, R: Read, W: Write>(
+    pub fn answer_all<S: Shelf, H: Hashing + Copy, R: Read, W: Write>(
         &mut self,
         kit: &mut Kit,
         book: &mut Book<S>,
+        hashing: H,
         reader: &mut R,
         writer: &mut W,
     ) -> RunStatus
@@ -68,7 +70,7 @@ impl Turns {
             IfSome (left_of self.old.input (R.remaining reader.old)) (λ script. longest_script ≤ length script) }
     {
         for number in 1..u64::MAX {
-            match self.answer_next(kit, book, reader, writer) {
+            match self.answer_next(kit, book, hashing, reader, writer) {
                 Ok(true) => {}
                 Ok(false) => return RunStatus::at_end(self.session.is_faulted()),
                 Err(stop) => return stop_at(self.alloc, number, stop, writer),
@@ -78,10 +80,11 @@ impl Turns {
     }
 
     /// Answers the next line, and says whether it had an end.
-    fn answer_next<S: Shelf, R: Read, W: Write>(
+    fn answer_next<S: Shelf, H: Hashing + Copy, R: Read, W: Write>(
         &mut self,
         kit: &mut Kit,
         book: &mut Book<S>,
+        hashing: H,
         reader: &mut R,
         writer: &mut W,
     ) -> Result<bool, Stop>
@@ -104,13 +107,13 @@ impl Turns {
         match self.input.next_line(reader, writer)? {
             Piece::Line(line) => {
                 self.session
-                    .answer_line(line.as_slice(), kit, book, writer)?;
+                    .answer_line(line.as_slice(), kit, book, hashing, writer)?;
                 Ok(true)
             }
             Piece::Last(line) if line.is_empty() => Ok(false),
             Piece::Last(line) => {
                 self.session
-                    .answer_line(line.as_slice(), kit, book, writer)?;
+                    .answer_line(line.as_slice(), kit, book, hashing, writer)?;
                 Ok(false)
             }
         }

@@ -1,6 +1,7 @@
 ghost use Rattle.keep_book.specs.Armed.{HasSums};
 
 use keep_book::Book;
+use keep_hashing::OneByOne;
 use keep_jobs::Kit;
 use keep_script::{RunStatus, Setup, run, run_on};
 use keep_shelf::Shelf;
@@ -16,7 +17,7 @@ pub(crate) fn answer_on<S: Shelf>(
     requires { HasSums book.old }
     ensures { HasSums book.new }
 {
-    run_on(setup, book, kit, &mut script.as_bytes(), text)
+    run_on(setup, book, kit, OneByOne, &mut script.as_bytes(), text)
 }
 
 /// Answers a script over the book that is opened of this shelf.

@@ -33,6 +33,7 @@ pub use keep_shelf::{FailingShelf, Fault, Key, MemoryShelf, Shelf};
 pub use keep_desk as desk;
 pub use keep_operators as operators;
 
-// Scripts.
+// Scripts, and who hashes for them.
+pub use keep_hashing::{Hashing, OneByOne};
 pub use keep_jobs::Kit;
 pub use keep_script::{RunStatus, Setup, run, run_on};

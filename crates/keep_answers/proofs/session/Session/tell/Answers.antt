@@ -8,9 +8,5 @@ use Rattle.keep_answers.proofs.session.Session.tell.Goals as goal
 pub returns-in-Audit-clause-answers : goal.returns-in-Audit-clause-answers
 returns-in-Audit-clause-answers g c = λ kit.
     let state = state_of kit c.args.self.now c.args.book.now in
-    let after = state_of kit c.args.self.now c.hash_all.new.self in
-    let found = rw (c.view.ensures, c.ledger-in-Audit.ensures, c.hash_all.ensures.ledger) at c.audit.ensures in
-    AnswersMeant-puts _ _ state after (Tell c.args.topic) _ _ c.write_audit.ensures.puts (rw c.in-Audit.is (
-      Audited-tells state c.audit.result found,
-      rw (c.hash_all.ensures.ledger, c.hash_all.ensures.hooks) refl,
-    ))
+    let found = rw (c.view.ensures, c.ledger-in-Audit.ensures) at c.audit_with-found.ensures in
+    AnswersMeant-puts _ _ state state (Tell c.args.topic) _ _ c.write_audit.ensures.puts (rw c.in-Audit.is (Audited-tells state c.audit_with-found.result found, refl))
