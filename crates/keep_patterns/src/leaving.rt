@@ -48,17 +48,11 @@ fn path_of(alloc: Global, names: &[String]) -> Result<Vec<Letters>, AllocError>
     Ok(path)
 }
 
-/// Whether one of the patterns matches a path.
-fn is_matched(patterns: &[Pattern], path: &[Letters]) -> bool
+/// Whether one of the patterns matches a path of these names. It takes no memory.
+pub fn is_matched(patterns: &[Pattern], path: &[Letters]) -> bool
     ensures { result ≡ spec.is_matched (map pattern_view patterns.now) path.now }
 {
-    for pattern in patterns {
-        let matched = matches_path(pattern, path);
-        if matched {
-            return true;
-        }
-    }
-    false
+    patterns.iter().any(|pattern| matches_path(pattern, path))
 }
 
 /// A node like this one.

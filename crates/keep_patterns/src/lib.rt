@@ -12,7 +12,7 @@ mod rest_laws;
 mod rests;
 mod step;
 
-pub use leaving::without;
+pub use leaving::{is_matched, without};
 pub use letters::{Letters, letters_of};
 pub use matching::matches_path;
 pub use parsing::{PatternError, parse_pattern};

@@ -97,13 +97,7 @@ fn begins_with(text: &str, byte: u8) -> bool
 fn has_reserved(text: &[u8]) -> bool
     ensures { result ≡ list_any spec.is_reserved text.now }
 {
-    for byte in text {
-        let reserved = is_reserved(*byte);
-        if reserved {
-            return true;
-        }
-    }
-    false
+    text.iter().any(|byte| is_reserved(*byte))
 }
 
 fn is_reserved(byte: u8) -> bool
@@ -115,22 +109,7 @@ fn is_reserved(byte: u8) -> bool
 fn has_empty(parts: &[&str]) -> bool
     ensures { result ≡ list_any (λ part. is_nil part.now) parts.now }
 {
-    for part in parts {
-        let empty = is_empty(part);
-        if empty {
-            return true;
-        }
-    }
-    false
-}
-
-fn is_empty(part: &str) -> bool
-    ensures { result ≡ is_nil part.now }
-{
-    match part.as_bytes().split_first() {
-        Some(_) => false,
-        None => true,
-    }
+    parts.iter().any(|part| part.is_empty())
 }
 
 /// The components that the parts spell.
