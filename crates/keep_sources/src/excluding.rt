@@ -3,9 +3,8 @@ ghost use Rattle.std.specs.List.{slice_split};
 ghost use Rattle.std.specs.Str.{chars};
 ghost use Rattle.keep_sources.specs.Excluding as spec;
 ghost use Rattle.keep_patterns.specs.Parsing.{is_slash, pattern_view};
-ghost use Rattle.keep_patterns.specs.Without.{is_matched};
 
-use keep_patterns::{Letters, Pattern, letters_of, matches_path};
+use keep_patterns::{Letters, Pattern, is_matched, letters_of};
 use std::alloc::{AllocError, Global};
 
 /// Whether one of the patterns matches the path.
@@ -21,7 +20,7 @@ pub(crate) fn is_excluded(
     }
     let parts = parts_of(alloc, path)?;
     let names = names_of(alloc, parts.as_slice())?;
-    Ok(is_taken(patterns, names.as_slice()))
+    Ok(is_matched(patterns, names.as_slice()))
 }
 
 /// What stands between the slashes.
@@ -42,17 +41,4 @@ fn names_of(alloc: Global, parts: &[&str]) -> Result<Vec<Letters>, AllocError>
         names.push(letters)?;
     }
     Ok(names)
-}
-
-/// Whether one of the patterns matches a path of these names.
-fn is_taken(patterns: &[Pattern], path: &[Letters]) -> bool
-    ensures { result ≡ is_matched (map pattern_view patterns.now) path.now }
-{
-    for pattern in patterns {
-        let matched = matches_path(pattern, path);
-        if matched {
-            return true;
-        }
-    }
-    false
 }
