@@ -40,7 +40,7 @@ fn packs_in(alloc: Global, values: &[Value]) -> Result<Vec<IndexedPack>, IndexEr
     ensures { Answers (Doc Memory) (λ packs. map pack_view packs.items)
         (ok_or (each spec.pack_in (map view values.now)) BadIndex) result }
 {
-    let mut packs = Vec::new(alloc);
+    let mut packs = Vec::with_capacity(alloc, values.len())?;
     for value in values {
         packs.push(pack_in(alloc, value)?)?;
     }
@@ -62,7 +62,7 @@ fn blobs_in(alloc: Global, values: &[Value]) -> Result<Vec<Blob>, IndexError>
     ensures { Answers (Doc Memory) (λ blobs. blobs.items)
         (ok_or (each spec.blob_in (map view values.now)) BadIndex) result }
 {
-    let mut blobs = Vec::new(alloc);
+    let mut blobs = Vec::with_capacity(alloc, values.len())?;
     for value in values {
         let blob = blob_in(value).ok_or(IndexError::BadIndex)?;
         blobs.push(blob)?;
