@@ -18,14 +18,14 @@ use Rattle.keep_names.specs.declared.file_name.Kind.TheVariants.{Pack}
 use Rattle.keep_repo.specs.Repository.{Repository, empty_repository}
 use Rattle.keep_snap.specs.Snap.{snap_view}
 use Rattle.keep_catalog.specs.Files.{why_of, why_unread}
-use Rattle.keep_catalog.specs.Kept.{AreNew, AreThere, IsKept, has, with_file, with_files, without_file, without_files}
+use Rattle.keep_catalog.specs.Kept.{AreNew, AreThere, IsKept, has, said_view, with_file, with_files, without_file, without_files}
 use Rattle.keep_catalog.specs.Orders.{name_eq, packed_blob_cmp, same_name}
 use Rattle.keep_catalog.specs.declared.tables.Tables.{Tables}
 use Rattle.keep_catalog.proofs.Coming.{re_marked}
 use Rattle.keep_catalog.proofs.Growing.{no_id}
 use Rattle.keep_catalog.proofs.Ids.{id_refl}
 use Rattle.keep_repo.proofs.Rising.{keys_in_order}
-use Rattle.keep_catalog.proofs.Replaced.{file_put, lists_own, name_eq_refl, snap_by, stored_own}
+use Rattle.keep_catalog.proofs.Replaced.{file_put, lists_own, name_eq_refl, said_by, snap_by, stored_own}
 
 -- the tables are of a repository from which putting the rest makes what putting all makes of the first
 pub record LeftNew (all rest : List NamedBytes) (r : Repository) (t : Tables) : Type 0 where
@@ -78,13 +78,16 @@ none_unread : (q : FileName) → None ≡ why_unread empty_repository q
 unfolding why_unread
 none_unread q = sym (ap (option_and_then (why_of q.kind)) (finite.get-empty name_cmp q))
 
-pub none_kept : (t : Tables) → t.stored.entries ≡ [] → t.listed.entries ≡ [] → t.snaps.entries ≡ [] → t.unread.entries ≡ [] → IsOrdered id_cmp t.snaps → IsKept empty_repository t
-none_kept t stored listed snaps unread ordered = record {
+pub none_kept : (t : Tables) → t.stored.entries ≡ [] → t.listed.entries ≡ [] → t.indexes.entries ≡ [] → t.snaps.entries ≡ [] → t.unread.entries ≡ [] → IsOrdered id_cmp t.indexes → IsOrdered id_cmp t.snaps → IsKept empty_repository t
+none_kept t stored listed indexes snaps unread indexes_ordered ordered = record {
   stored = λ p. ap (λ es. is_some (lookup (is_at (packed_blob_cmp p)) es)) stored
       ∙ sym (stored_own empty_repository p.spot.pack None (finite.get-empty name_cmp _) p (id_refl p.spot.pack));
   hashed = λ p honest got. cc (rw stored at got);
   listed = λ blob l. ap (λ es. has (lookup (is_at (blob_cmp blob)) es) l) listed
       ∙ sym (lists_own empty_repository l.index None (finite.get-empty name_cmp _) blob l (id_refl l.index));
+  indexes = λ q. ap (λ es. option_map said_view (lookup (is_at (id_cmp q)) es)) indexes
+      ∙ sym (said_by empty_repository q None (finite.get-empty name_cmp _));
+  indexes_ordered = indexes_ordered;
   snaps = λ q. ap (λ es. option_map snap_view (lookup (is_at (id_cmp q)) es)) snaps
       ∙ sym (snap_by empty_repository q None (finite.get-empty name_cmp _));
   ordered = ordered;

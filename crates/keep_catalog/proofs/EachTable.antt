@@ -1,11 +1,15 @@
 -- Each of the tables follows a file that comes or goes.
-use Rattle.std.proofs.Common.{◌≡◌, ℕ, Bool, true, false, ◌&&◌, cond, List, Option, None, Some, is_some, refl, sym, ap, ◌∙◌}
+use Rattle.std.proofs.Common.{◌≡◌, ℕ, Bool, true, false, ◌&&◌, cond, List, Option, None, Some, Result, Ok, Err, is_some, refl, sym, ap, ◌∙◌}
 use Rattle.std.proofs.lemmas.Map.Views.{tells_apart}
 use Rattle.std.specs.BTreeMap as tree
 use Rattle.std.specs.Cmp.{eq_by_cmp_equiv}
 use Rattle.std.specs.FinMap as finite
+use Rattle.std.specs.List.{flat_map}
 use Rattle.std.specs.Option.{option_and_then, option_or}
-use Rattle.keep_names.proofs.Orders.{id_total, name_exact, name_total}
+use Rattle.std.specs.Result.{result_ok}
+use Rattle.keep_index.specs.Index.{PackData}
+use Rattle.keep_index.specs.declared.index_error.IndexError.{IndexError}
+use Rattle.keep_names.proofs.Orders.{id_exact, id_total, name_exact, name_total}
 use Rattle.keep_names.specs.FileName.{named}
 use Rattle.keep_names.specs.contracts.file_name.FileNameOrd.TheImpl.Laws as the_name_laws
 use Rattle.keep_names.specs.declared.blob.BlobId.{BlobId}
@@ -13,15 +17,15 @@ use Rattle.keep_names.specs.declared.file_name.FileName.{FileName}
 use Rattle.keep_names.specs.declared.file_name.Kind.TheVariants.{Pack, Index}
 use Rattle.keep_names.specs.declared.id.Id.{Id}
 use Rattle.keep_repo.specs.Repository.{Repository}
-use Rattle.keep_catalog.specs.Files.{why_of, why_unread}
-use Rattle.keep_catalog.specs.Kept.{IsHashedIn, IsListedIn, IsStoredIn, Listed, Stored, lists_at, lists_in}
+use Rattle.keep_catalog.specs.Files.{index_of, index_read, packs_in, what_is_read, why_of, why_unread}
+use Rattle.keep_catalog.specs.Kept.{IsHashedIn, IsListedIn, IsStoredIn, Listed, Stored, lists_at, lists_in, places_said}
 use Rattle.keep_catalog.specs.Orders.{name_eq, packed_blob_cmp, same_id, same_name}
-use Rattle.keep_catalog.specs.Places.{places_listed, places_stored, at, is_among, is_honest, is_stored}
+use Rattle.keep_catalog.specs.Places.{at, is_among, is_honest, is_stored, listed_of, places_listed, places_stored}
 use Rattle.keep_catalog.specs.declared.spot.Listing.{Listing}
 use Rattle.keep_catalog.specs.declared.spot.PackedBlob.{PackedBlob}
 use Rattle.keep_catalog.specs.declared.unread.FileError.{FileError}
 use Rattle.keep_catalog.proofs.Ids.{id_refl}
-use Rattle.keep_catalog.proofs.Replaced.{IsReplaced, honest_after, lists_after, lists_own, of_pack, stored_after, stored_own, unread_after}
+use Rattle.keep_catalog.proofs.Replaced.{IsReplaced, honest_after, lists_after, lists_own, of_pack, said_by, stored_after, stored_own, unread_after}
 
 -- ---- tests
 
@@ -105,9 +109,17 @@ module _ (r after : Repository) (pack : Id) (bytes : List ℕ) (old new : Stored
 
 -- ---- indexes
 
-module _ (r after : Repository) (index : Id) (bytes : List ℕ) (old new : Listed) (kept : IsListedIn r old) where
-  abbrev listed_here : BlobId → Listing → Bool
-  listed_here blob l = is_among (places_listed (Some bytes)) (at blob l.spot)
+-- what an index lists is told by what it says
+pub said_places : (o : Option (List ℕ)) → places_said (index_read o) ≡ places_listed o
+said_places None = refl
+said_places (Some bytes) = cases (index_of bytes) where
+  cases : (read : Result (List PackData) IndexError) → places_said (result_ok read) ≡ flat_map listed_of (what_is_read (Some read))
+  cases (Ok packs) = refl
+  cases (Err refusal) = refl
+
+module _ (r after : Repository) (index : Id) (old new : Listed) (kept : IsListedIn r old) where
+  abbrev said_here : Option (List PackData) → BlobId → Listing → Bool
+  said_here packs blob l = is_among (places_said packs) (at blob l.spot)
 
   is_here : (a b was : Bool) → (b ≡ true → was ≡ false) → cond (b && a) true was ≡ cond b a was
   is_here true true was f = refl
@@ -119,19 +131,53 @@ module _ (r after : Repository) (index : Id) (bytes : List ℕ) (old new : Liste
   is_gone false true was f = f refl
   is_gone a false was f = refl
 
-  pub listed_comes : IsReplaced r after (named Index index) (Some bytes) → finite.get r.files (named Index index) ≡ None → ((blob : BlobId) (l : Listing) → lists_at new blob l ≡ cond (same_id index l.index && listed_here blob l) true (lists_at old blob l)) → IsListedIn after new
-  listed_comes replaced absent put blob l =
-      put blob l ∙ ap (λ b. cond (b && listed_here blob l) true (lists_at old blob l)) (id_symm index l.index)
-      ∙ ap (cond (same_id l.index index && listed_here blob l) true) (kept blob l)
-      ∙ is_here (listed_here blob l) (same_id l.index index) (lists_in r blob l) (lists_own r index None absent blob l)
-      ∙ sym (lists_after r after index (Some bytes) replaced blob l)
+  own_here : (o : Option (List ℕ)) → finite.get r.files (named Index index) ≡ o → (blob : BlobId) (l : Listing) → same_id l.index index ≡ true → lists_in r blob l ≡ said_here (index_read o) blob l
+  own_here o is blob l same =
+      lists_own r index o is blob l same ∙ ap (λ places. is_among places (at blob l.spot)) (sym (said_places o))
 
-  pub listed_goes : IsReplaced r after (named Index index) None → finite.get r.files (named Index index) ≡ Some bytes → ((blob : BlobId) (l : Listing) → lists_at new blob l ≡ cond (same_id index l.index && listed_here blob l) false (lists_at old blob l)) → IsListedIn after new
-  listed_goes replaced present took blob l =
-      took blob l ∙ ap (λ b. cond (b && listed_here blob l) false (lists_at old blob l)) (id_symm index l.index)
-      ∙ ap (cond (same_id l.index index && listed_here blob l) false) (kept blob l)
-      ∙ is_gone (listed_here blob l) (same_id l.index index) (lists_in r blob l) (lists_own r index (Some bytes) present blob l)
-      ∙ sym (lists_after r after index None replaced blob l)
+  here_after : (o : Option (List ℕ)) → IsReplaced r after (named Index index) o → (blob : BlobId) (l : Listing) → lists_in after blob l ≡ cond (same_id l.index index) (said_here (index_read o) blob l) (lists_in r blob l)
+  here_after o replaced blob l =
+      lists_after r after index o replaced blob l
+      ∙ ap (λ places. cond (same_id l.index index) (is_among places (at blob l.spot)) (lists_in r blob l)) (sym (said_places o))
+
+  pub listed_comes : (bytes : List ℕ) → IsReplaced r after (named Index index) (Some bytes) → finite.get r.files (named Index index) ≡ None → ((blob : BlobId) (l : Listing) → lists_at new blob l ≡ cond (same_id index l.index && said_here (index_read (Some bytes)) blob l) true (lists_at old blob l)) → IsListedIn after new
+  listed_comes bytes replaced absent put blob l =
+      let said = said_here (index_read (Some bytes)) blob l in
+      put blob l ∙ ap (λ b. cond (b && said) true (lists_at old blob l)) (id_symm index l.index)
+      ∙ ap (cond (same_id l.index index && said) true) (kept blob l)
+      ∙ is_here said (same_id l.index index) (lists_in r blob l) (own_here None absent blob l)
+      ∙ sym (here_after (Some bytes) replaced blob l)
+
+  pub listed_goes : IsReplaced r after (named Index index) None → ((blob : BlobId) (l : Listing) → lists_at new blob l ≡ cond (same_id index l.index && said_here (packs_in r index) blob l) false (lists_at old blob l)) → IsListedIn after new
+  listed_goes replaced took blob l =
+      let o = finite.get r.files (named Index index) in
+      let said = said_here (index_read o) blob l in
+      took blob l ∙ ap (λ packs. cond (same_id index l.index && said_here packs blob l) false (lists_at old blob l)) (said_by r index o refl)
+      ∙ ap (λ b. cond (b && said) false (lists_at old blob l)) (id_symm index l.index)
+      ∙ ap (cond (same_id l.index index && said) false) (kept blob l)
+      ∙ is_gone said (same_id l.index index) (lists_in r blob l) (own_here o refl blob l)
+      ∙ sym (here_after None replaced blob l)
+
+-- ---- what a file says, kept under its name
+
+module _ {X : Type 0} (name : Id) (was before after new : Id → Option X) (kept : (q : Id) → was q ≡ before q) where
+  or_none : (o : Option X) → option_or o None ≡ o
+  or_none None = refl
+  or_none (Some x) = refl
+
+  pub said_comes : (own : Option X) → before name ≡ None → ((q : Id) → after q ≡ cond (same_id q name) own (before q)) → ((q : Id) → new q ≡ option_or (cond (same_id name q) own None) (was q)) → (q : Id) → new q ≡ after q
+  said_comes own absent so put q =
+      put q ∙ ap (λ b. option_or (cond b own None) (was q)) (id_symm name q)
+      ∙ ap (option_or (cond (same_id q name) own None)) (kept q)
+      ∙ cases (same_id q name) refl ∙ sym (so q) where
+        cases : (b : Bool) → same_id q name ≡ b → option_or (cond b own None) (before q) ≡ cond b own (before q)
+        cases true same = ap (option_or own) (ap before (tells_apart id_exact q name same) ∙ absent) ∙ or_none own
+        cases false other = refl
+
+  pub said_goes : ((q : Id) → after q ≡ cond (same_id q name) None (before q)) → ((q : Id) → new q ≡ cond (same_id name q) None (was q)) → (q : Id) → new q ≡ after q
+  said_goes so took q =
+      took q ∙ ap (λ b. cond b None (was q)) (id_symm name q)
+      ∙ ap (cond (same_id q name) None) (kept q) ∙ sym (so q)
 
 -- ---- files that can't be read
 

@@ -6,9 +6,10 @@ use Rattle.std.specs.FinMap as finite
 use Rattle.std.specs.FinMap.{IsAntisymmetric}
 use Rattle.std.specs.List.{AllByRecursion, cons_option, filter_map, list_any}
 use Rattle.std.specs.List.Sorted.{IsStrictlySortedBy}
-use Rattle.std.specs.Map.{keys_of}
+use Rattle.std.specs.BTreeMap.{is_at}
+use Rattle.std.specs.Map.{keys_of, lookup}
 use Rattle.std.specs.Ordering.{eq_by_cmp}
-use Rattle.keep_repo.proofs.Maps.{entries_made}
+use Rattle.keep_repo.proofs.Maps.{entries_made, get_made}
 
 module _ {K V : Type 0} (R : K → K → Ordering) (total : IsTotalOrder R) (exact : IsAntisymmetric R) (g : K → Option V) where
   abbrev pub entry : K → Option (K × V)
@@ -78,3 +79,10 @@ module _ {K V : Type 0} (R : K → K → Ordering) (total : IsTotalOrder R) (exa
       let same : made_of js ≡ made_of ks = finite.same_map total exact _ _ (λ q. at js js_all q ∙ sym (at ks ks_all q)) in
       sym (entries_made total (gathered js) (rises js js_sorted)) ∙ ap finite.entries same
       ∙ entries_made total (gathered ks) (rises ks ks_sorted)
+
+  -- entries in order under whose keys just that is found are what is gathered
+  pub gathered_made : (es : List (K × V)) (ks : List K) → IsStrictlySortedBy R (keys_of es) → IsStrictlySortedBy R ks → HasAll ks → ((q : K) → lookup (is_at (R q)) es ≡ g q) → es ≡ gathered ks
+  gathered_made es ks es_sorted ks_sorted all are =
+      let same : finite.from_entries {R = R} es ≡ finite.from_entries {R = R} (gathered ks) = finite.same_map total exact _ _ (λ q.
+      get_made total es q ∙ are q ∙ sym (finite.get-from_entries total (gathered ks) q ∙ found_all ks q (all q))) in
+      sym (entries_made total es es_sorted) ∙ ap finite.entries same ∙ entries_made total (gathered ks) (rises ks ks_sorted)

@@ -6,6 +6,7 @@ use Rattle.std.specs.Cmp.{tied_itself}
 use Rattle.std.specs.FinMap as finite
 use Rattle.std.specs.FinMap.Entries.{below_all}
 use Rattle.std.specs.List.{AllByRecursion, find, list_any}
+use Rattle.std.specs.List.Sorted.{IsStrictlySortedBy}
 use Rattle.std.specs.Ordering.{eq_by_cmp, is_eq, is_lt, ordering_reverse, ordering_then}
 use Rattle.keep_names.proofs.Orders.{id_exact, id_total, kind_total, name_exact}
 use Rattle.keep_names.specs.FileName.{named}
@@ -130,3 +131,16 @@ module _ (kind : Kind) where
   pub first_is_least : (r : Repository) (p : Id → Bool) (x y : Id) → find p (ids_in r kind) ≡ Some x → p y ≡ true → list_any (same_id y) (ids_in r kind) ≡ true → id_cmp y x ≢ Less
   first_is_least r p x y found passes among =
       least p (finite.entries r.files) x y (finite.entries_sorted r.files) passes (found, among)
+
+  -- they are in order
+  module _ {X : Type 0} where
+    rise : (es : List (FileName × X)) → T (finite.is_sorted name_cmp es) → IsStrictlySortedBy id_cmp (ids_among kind (names es))
+    unfolding IsStrictlySortedBy
+    rise [] sorted = tt
+    rise (e ∷ es) sorted = cases (rise es (second_of_both (below_all name_cmp e.0 es) (finite.is_sorted name_cmp es) sorted)) (kind_eq e.0.kind kind) refl where
+      cases : IsStrictlySortedBy id_cmp (ids_among kind (names es)) → (b : Bool) → kind_eq e.0.kind kind ≡ b → IsStrictlySortedBy id_cmp (ids_with b e.0 (names es))
+      cases rest true same = (above e.0 es (kind_same e.0.kind kind same) (first_of_both (below_all name_cmp e.0 es) (finite.is_sorted name_cmp es) sorted), rest)
+      cases rest false other = rest
+
+  pub ids_rise : (r : Repository) → IsStrictlySortedBy id_cmp (ids_in r kind)
+  ids_rise r = rise (finite.entries r.files) (finite.entries_sorted r.files)

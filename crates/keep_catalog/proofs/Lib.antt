@@ -10,6 +10,7 @@ pub mod Halfway
 pub mod Hashes
 pub mod HashNotes
 pub mod Ids
+pub mod IndexesKept
 pub mod Least
 pub mod Relisted
 pub mod Missing

@@ -13,7 +13,7 @@ use Rattle.keep_names.specs.declared.file_name.FileName.{FileName}
 use Rattle.keep_names.specs.declared.file_name.Kind.TheVariants.{Pack, Index, Snapshot}
 use Rattle.keep_names.specs.declared.id.Id.{Id}
 use Rattle.keep_repo.specs.Repository.{Repository}
-use Rattle.keep_catalog.specs.Files.{snap_read, file_in, snap_in, why_of, why_unread}
+use Rattle.keep_catalog.specs.Files.{file_in, index_read, packs_in, snap_in, snap_read, why_of, why_unread}
 use Rattle.keep_catalog.specs.Kept.{lists_in, with_file, without_file}
 use Rattle.keep_catalog.specs.Orders.{name_eq, packed_blob_eq, same_id}
 use Rattle.keep_catalog.specs.Places.{places_listed, places_stored, at, bytes_at, has_id, is_among, is_honest, is_stored, listed_in, packed_of, slice_of, stored_in}
@@ -51,6 +51,10 @@ stored_by r pack o is = ap (places_stored pack) is
 pub listed_by : (r : Repository) (index : Id) (o : Option (List ℕ)) → finite.get r.files (named Index index) ≡ o → listed_in r index ≡ places_listed o
 unfolding listed_in file_in
 listed_by r index o is = ap places_listed is
+
+pub said_by : (r : Repository) (index : Id) (o : Option (List ℕ)) → finite.get r.files (named Index index) ≡ o → packs_in r index ≡ index_read o
+unfolding packs_in file_in
+said_by r index o is = ap index_read is
 
 pub snap_by : (r : Repository) (name : Id) (o : Option (List ℕ)) → finite.get r.files (named Snapshot name) ≡ o → snap_in r name ≡ snap_read o
 unfolding snap_in file_in
@@ -117,6 +121,11 @@ module _ (r after : Repository) (pack : Id) (o : Option (List ℕ)) (replaced : 
       listed_by after index _ (elsewhere r after (named Pack pack) o replaced (named Index index) refl)
       ∙ sym (listed_by r index _ refl)
 
+  pub same_said : (index : Id) → packs_in after index ≡ packs_in r index
+  same_said index =
+      said_by after index _ (elsewhere r after (named Pack pack) o replaced (named Index index) refl)
+      ∙ sym (said_by r index _ refl)
+
   pub same_snaps : (snapshot : Id) → snap_in after snapshot ≡ snap_in r snapshot
   same_snaps snapshot =
       snap_by after snapshot _ (elsewhere r after (named Pack pack) o replaced (named Snapshot snapshot) refl)
@@ -144,6 +153,17 @@ module _ (r after : Repository) (index : Id) (o : Option (List ℕ)) (replaced :
         (listed_by after l.index _ (elsewhere r after (named Index index) o replaced (named Index l.index) other)
         ∙ sym (listed_by r l.index _ refl))
 
+  -- what they say
+  pub said_after : (q : Id) → packs_in after q ≡ cond (same_id q index) (index_read o) (packs_in r q)
+  said_after q = cases (same_id q index) refl where
+    cases : (b : Bool) → same_id q index ≡ b → packs_in after q ≡ cond b (index_read o) (packs_in r q)
+    cases true same =
+        ap (packs_in after) (tells_apart id_exact q index same)
+        ∙ said_by after index o (there r after (named Index index) o replaced)
+    cases false other =
+        said_by after q _ (elsewhere r after (named Index index) o replaced (named Index q) other)
+        ∙ sym (said_by r q _ refl)
+
   pub snaps_as_indexes : (snapshot : Id) → snap_in after snapshot ≡ snap_in r snapshot
   snaps_as_indexes snapshot =
       snap_by after snapshot _ (elsewhere r after (named Index index) o replaced (named Snapshot snapshot) refl)
@@ -157,6 +177,11 @@ module _ (r after : Repository) (name : Id) (o : Option (List ℕ)) (replaced : 
   listings_as_snaps index =
       listed_by after index _ (elsewhere r after (named Snapshot name) o replaced (named Index index) refl)
       ∙ sym (listed_by r index _ refl)
+
+  pub said_as_snaps : (index : Id) → packs_in after index ≡ packs_in r index
+  said_as_snaps index =
+      said_by after index _ (elsewhere r after (named Snapshot name) o replaced (named Index index) refl)
+      ∙ sym (said_by r index _ refl)
 
   -- what snapshots say
   pub snap_after : (q : Id) → snap_in after q ≡ cond (same_id q name) (snap_read o) (snap_in r q)

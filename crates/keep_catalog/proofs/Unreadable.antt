@@ -1,22 +1,19 @@
--- A file that can't be read says nothing, so nothing has to go with it.
-use Rattle.std.proofs.Common.{◌≡◌, ℕ, Bool, true, false, ◌&&◌, cond, List, [], None, Some, Result, Ok, Err, is_some, map, refl, sym, ap, ◌∙◌}
+-- A pack that can't be read has nothing, so nothing has to go with it.
+use Rattle.std.proofs.Common.{◌≡◌, ℕ, true, cond, List, [], None, Some, Result, Ok, Err, is_some, map, refl, sym, ap, ◌∙◌}
 use Rattle.std.specs.BTreeMap as tree
 use Rattle.std.specs.FinMap as finite
-use Rattle.std.specs.List.{flat_map}
 use Rattle.std.specs.Option.{option_and_then, option_map}
 use Rattle.std.specs.Result.{result_err}
 use Rattle.keep_names.specs.FileName.{named}
-use Rattle.keep_names.specs.declared.blob.BlobId.{BlobId}
 use Rattle.keep_names.specs.declared.file_name.FileName.{FileName}
-use Rattle.keep_names.specs.declared.file_name.Kind.TheVariants.{Pack, Index}
+use Rattle.keep_names.specs.declared.file_name.Kind.TheVariants.{Pack}
 use Rattle.keep_names.specs.declared.id.Id.{Id}
 use Rattle.keep_pack.specs.Reading.{header_of}
 use Rattle.keep_repo.specs.Repository.{Repository}
-use Rattle.keep_catalog.specs.Files.{index_of, what_is_read, why_of, why_unread}
-use Rattle.keep_catalog.specs.Kept.{Listed, Stored, lists_at}
-use Rattle.keep_catalog.specs.Orders.{packed_blob_cmp, same_id}
-use Rattle.keep_catalog.specs.Places.{at, is_among, listed_of, packed_of, places_listed, places_stored}
-use Rattle.keep_catalog.specs.declared.spot.Listing.{Listing}
+use Rattle.keep_catalog.specs.Files.{what_is_read, why_of, why_unread}
+use Rattle.keep_catalog.specs.Kept.{Stored}
+use Rattle.keep_catalog.specs.Orders.{packed_blob_cmp}
+use Rattle.keep_catalog.specs.Places.{is_among, packed_of, places_stored}
 use Rattle.keep_catalog.specs.declared.spot.PackedBlob.{PackedBlob}
 
 says_nothing : {X E W : Type 0} (wrap : E → W) (read : Result (List X) E) → is_some (option_map wrap (result_err read)) ≡ true → what_is_read (Some read) ≡ []
@@ -28,17 +25,7 @@ why_there : (r : Repository) (name : FileName) (bytes : List ℕ) → finite.get
 unfolding why_unread
 why_there r name bytes present refused = ap (λ there. is_some (option_and_then (why_of name.kind) there)) (sym present) ∙ refused
 
-none_of_none : (b was : Bool) → was ≡ cond (b && false) false was
-none_of_none true was = refl
-none_of_none false was = refl
-
 module _ (r : Repository) (bytes : List ℕ) where
-  pub index_lists_none : (index : Id) → finite.get r.files (named Index index) ≡ Some bytes → is_some (why_unread r (named Index index)) ≡ true → (listed : Listed) (blob : BlobId) (l : Listing) → lists_at listed blob l ≡ cond (same_id index l.index && is_among (places_listed (Some bytes)) (at blob l.spot)) false (lists_at listed blob l)
-  index_lists_none index present refused listed blob l =
-      let nothing : what_is_read (Some (index_of bytes)) ≡ [] = says_nothing _ (index_of bytes) (why_there r (named Index index) bytes present refused) in
-      none_of_none (same_id index l.index) (lists_at listed blob l)
-      ∙ ap (λ packs. cond (same_id index l.index && is_among (flat_map listed_of packs) (at blob l.spot)) false (lists_at listed blob l)) (sym nothing)
-
   pub pack_stores_none : (pack : Id) → finite.get r.files (named Pack pack) ≡ Some bytes → is_some (why_unread r (named Pack pack)) ≡ true → (stored : Stored) (p : PackedBlob) → tree.get packed_blob_cmp stored p ≡ cond (is_among (places_stored pack (Some bytes)) p) None (tree.get packed_blob_cmp stored p)
   pack_stores_none pack present refused stored p =
       let nothing : what_is_read (Some (header_of bytes)) ≡ [] = says_nothing _ (header_of bytes) (why_there r (named Pack pack) bytes present refused) in

@@ -57,6 +57,14 @@ header_in r pack = option_map header_of (file_in r Pack pack)
 abbrev pub index_in : Repository → Id → Option (Result (List PackData) IndexError)
 index_in r index = option_map index_of (file_in r Index index)
 
+-- what the index in these bytes says of packs, none where there are none, or none that can be read
+abbrev pub index_read : Option (List ℕ) → Option (List PackData)
+index_read bytes = option_and_then result_ok (option_map index_of bytes)
+
+-- what this index says of packs
+unfoldable pub packs_in : Repository → Id → Option (List PackData)
+packs_in r index = index_read (file_in r Index index)
+
 -- this snapshot, as it is to be read
 abbrev pub snapshot_in : Repository → Id → Option (Result SnapData SnapError)
 snapshot_in r snapshot = option_map snap_of (file_in r Snapshot snapshot)

@@ -1,11 +1,15 @@
--- What a catalog keeps of the files of a repository. All but `snap_at` is of private invariants alone.
+-- What a catalog keeps of the files of a repository. All but `packs_at` and `snap_at` is of private
+-- invariants alone.
 use Rattle.std.specs.Prelude.{◌≡◌, ⊤, ℕ, Bool, false, List, [], ◌∷◌, map, Option, None, Some, is_some}
 use Rattle.std.specs.BTreeMap.{BTreeMap, IsOrdered, is_at}
 use Rattle.std.specs.BTreeMap as tree
 use Rattle.std.specs.FinMap as finite
-use Rattle.std.specs.List.{list_any}
-use Rattle.std.specs.Option.{option_map}
+use Rattle.std.specs.Global.{Vec}
+use Rattle.std.specs.List.{flat_map, list_any}
+use Rattle.std.specs.Option.{option_map, option_map_or}
 use Rattle.indexmap.specs.IndexMap.{IndexMap, get}
+use Rattle.keep_index.specs.Index.{PackData, pack_view}
+use Rattle.keep_index.specs.declared.index.IndexedPack.{IndexedPack}
 use Rattle.keep_names.specs.Orders.{blob_cmp, id_cmp, name_cmp}
 use Rattle.keep_names.specs.declared.blob.BlobId.{BlobId}
 use Rattle.keep_names.specs.declared.file_name.FileName.{FileName}
@@ -15,9 +19,9 @@ use Rattle.keep_snap.specs.Snap.{SnapData, snap_view}
 use Rattle.keep_snap.specs.declared.snap.Snap.{Snap}
 use Rattle.keep_change.specs.NamedBytes.{NamedBytes}
 use Rattle.keep_change.specs.Result.{put_files, take_files}
-use Rattle.keep_catalog.specs.Files.{snap_in, why_unread}
+use Rattle.keep_catalog.specs.Files.{packs_in, snap_in, why_unread}
 use Rattle.keep_catalog.specs.Orders.{listing_cmp, packed_blob_cmp, same_name}
-use Rattle.keep_catalog.specs.Places.{at, id_at, is_among, is_honest, is_stored, listed_in}
+use Rattle.keep_catalog.specs.Places.{at, id_at, is_among, is_honest, is_stored, listed_in, listed_of}
 use Rattle.keep_catalog.specs.declared.listings.Listings.{Listings}
 use Rattle.keep_catalog.specs.declared.listings.Listings.TheVariants.{More, One}
 use Rattle.keep_catalog.specs.declared.spot.Listing.{Listing}
@@ -40,6 +44,10 @@ abbrev pub listings_in : Listings → List Listing
 listings_in (One listing) = listing ∷ []
 listings_in (More listings) = listings.keys
 
+-- what indexes say of packs, by name
+abbrev pub Indexes : Type 0
+Indexes = BTreeMap Id (Vec IndexedPack)
+
 -- snapshots by name
 abbrev pub Snaps : Type 0
 Snaps = BTreeMap Id Snap
@@ -56,6 +64,18 @@ lists_at listed blob l = has (tree.get blob_cmp listed blob) l
 -- whether the index of the listing lists the blob there
 abbrev pub lists_in : Repository → BlobId → Listing → Bool
 lists_in r blob l = is_among (listed_in r l.index) (at blob l.spot)
+
+-- what is said of packs, without where it lies in memory
+abbrev pub said_view : Vec IndexedPack → List PackData
+said_view packs = map pack_view packs.items
+
+-- what is kept of the index of this name
+abbrev pub packs_at : Indexes → Id → Option (List PackData)
+packs_at indexes index = option_map said_view (tree.get id_cmp indexes index)
+
+-- the places that an index lists which says this; nothing where it can't be read
+abbrev pub places_said : Option (List PackData) → List PackedBlob
+places_said packs = option_map_or (flat_map listed_of) packs []
 
 -- what is kept of the snapshot of this name
 abbrev pub snap_at : Snaps → Id → Option SnapData
@@ -79,6 +99,10 @@ HaveIds r places ids = map (id_at r) places ≡ map Some ids
 abbrev pub IsListedIn : Repository → Listed → Type 0
 IsListedIn r listed = (blob : BlobId) (l : Listing) → lists_at listed blob l ≡ lists_in r blob l
 
+-- just the indexes that can be read are kept, each with what it says
+abbrev pub AreIndexesOf : Repository → Indexes → Type 0
+AreIndexesOf r indexes = (index : Id) → packs_at indexes index ≡ packs_in r index
+
 -- just the snapshots that can be read are kept
 abbrev pub AreSnapsOf : Repository → Snaps → Type 0
 AreSnapsOf r snaps = (snapshot : Id) → snap_at snaps snapshot ≡ snap_in r snapshot
@@ -92,6 +116,8 @@ pub record IsKept (r : Repository) (t : Tables) : Type 0 where
   pub stored : IsStoredIn r t.stored
   pub hashed : IsHashedIn r t.stored
   pub listed : IsListedIn r t.listed
+  pub indexes : AreIndexesOf r t.indexes
+  pub indexes_ordered : IsOrdered id_cmp t.indexes
   pub snaps : AreSnapsOf r t.snaps
   pub ordered : IsOrdered id_cmp t.snaps
   pub unread : AreUnreadOf r t.unread

@@ -5,11 +5,11 @@ ghost use Rattle.keep_names.specs.Orders.{id_cmp};
 ghost use Rattle.keep_names.specs.declared.id.Id as the_id;
 ghost use Rattle.keep_snap.specs.Snap.{snap_view};
 ghost use Rattle.keep_tree.specs.Tree.{node_view};
-ghost use Rattle.keep_catalog.specs.Files.{snap_in, snaps_in, unread_in};
+ghost use Rattle.keep_catalog.specs.Files.{indexes_in, packs_in, packs_view, snap_in, snaps_in, unread_in};
 ghost use Rattle.keep_catalog.specs.Naming.{missing, named_by, nodes_at_spot, nodes_under};
 ghost use Rattle.keep_catalog.specs.Places.{chosen, chosen_listing, reuse_of};
 ghost use Rattle.keep_catalog.specs.Places as spec;
-ghost use Rattle.keep_catalog.specs.Kept.{IsKept, snap_at};
+ghost use Rattle.keep_catalog.specs.Kept.{IsKept, packs_at, snap_at};
 ghost use Rattle.keep_docs.specs.Doc.{Answers};
 ghost use Rattle.keep_catalog.specs.declared.reach_error.ReachError.TheVariants as the_reach_error;
 ghost use Rattle.keep_catalog.specs.declared.catalog_error.CatalogError.TheVariants as the_error;
@@ -22,6 +22,7 @@ use crate::spot::{PackedBlob, Spot};
 use crate::tables::{Tables, unread_files};
 use crate::unread::Unread;
 use crate::usable_listings::{first_usable, some_honest, some_stored};
+use keep_index::IndexedPack;
 use keep_names::{BlobId, Id};
 use keep_repo::Repo;
 use keep_snap::Snap;
@@ -117,6 +118,15 @@ impl<'a> Catalog<'a> {
             Source::Own(tables) => tables,
             Source::Lent(tables) => tables,
         }
+    }
+
+    /// What each index that can be read says of packs, by name. It is kept as it was read.
+    pub fn indexes(&self) -> &BTreeMap<Id, Vec<IndexedPack>>
+        ensures each { (name : the_id.Id) → packs_at result.now name ≡ packs_in self.now name }
+        ensures all { map packs_view result.now.entries ≡ indexes_in self.now }
+        ensures ordered { IsOrdered id_cmp result.now }
+    {
+        &self.tables().indexes
     }
 
     /// The snapshots that can be read, by name.

@@ -1,11 +1,11 @@
-ghost use Rattle.std.specs.Prelude.{◌≡◌, ◌↔◌, map, option_map, Some, IfOk, IsTrue};
+ghost use Rattle.std.specs.Prelude.{◌≡◌, ◌↔◌, option_map, Some, IfOk, IsTrue};
 ghost use Rattle.keep_docs.specs.declared.doc.DocError.TheVariants.{Memory};
-ghost use Rattle.keep_index.specs.Index.{pack_view};
 ghost use Rattle.keep_index.specs.declared.index_error.IndexError.TheVariants.{Doc};
 ghost use Rattle.keep_names.specs.declared.file_name.Kind.TheVariants.{Pack, Index, Snapshot};
 ghost use Rattle.keep_pack.specs.Reading.{header_of};
 ghost use Rattle.keep_pack.specs.declared.pack_error.PackError.TheVariants as the_pack_error;
-ghost use Rattle.keep_catalog.specs.Files.{index_of, snap_read, what_is_read, why_of};
+ghost use Rattle.keep_catalog.specs.Files.{index_read, snap_read, what_is_read, why_of};
+ghost use Rattle.keep_catalog.specs.Kept.{said_view};
 ghost use Rattle.keep_snap.specs.Snap.{snap_view};
 ghost use Rattle.keep_snap.specs.declared.snap.SnapError.TheVariants as the_snap_error;
 
@@ -36,19 +36,21 @@ pub(crate) fn read_pack(alloc: Global, bytes: &[u8]) -> Result<Read<Vec<Blob>>, 
     }
 }
 
-/// The packs of an index, none where it can't be read.
-pub(crate) fn read_listed(alloc: Global, bytes: &[u8]) -> Result<Read<Vec<IndexedPack>>, AllocError>
-    ensures packs { IfOk result (λ read.
-        map pack_view read.0.items ≡ what_is_read (Some (index_of bytes.now))) }
+/// What an index says of packs, if it can be read.
+pub(crate) fn read_listed(
+    alloc: Global,
+    bytes: &[u8],
+) -> Result<Read<Option<Vec<IndexedPack>>>, AllocError>
+    ensures packs { IfOk result (λ read. option_map said_view read.0 ≡ index_read (Some bytes.now)) }
     ensures why { IfOk result (λ read. read.1 ≡ why_of Index bytes.now) }
 {
     match read_index(alloc, bytes) {
-        Ok(read) => Ok((read.packs, None)),
+        Ok(read) => Ok((Some(read.packs), None)),
         Err(refusal) => {
             if is_index_memory(refusal) {
                 return Err(AllocError);
             }
-            Ok((Vec::new(alloc), Some(FileError::Index(refusal))))
+            Ok((None, Some(FileError::Index(refusal))))
         }
     }
 }
@@ -75,7 +77,7 @@ pub(crate) fn is_pack_memory(refusal: PackError) -> bool
     matches!(refusal, PackError::Memory)
 }
 
-pub(crate) fn is_index_memory(refusal: IndexError) -> bool
+fn is_index_memory(refusal: IndexError) -> bool
     ensures { IsTrue result ↔ (refusal ≡ Doc Memory) }
 {
     matches!(refusal, IndexError::Doc(DocError::Memory))

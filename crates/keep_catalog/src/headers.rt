@@ -1,11 +1,9 @@
 ghost use Rattle.std.specs.Prelude.{◌≡◌, ◌++◌, IfOk, OnOk, map, option_map, option_to_list};
 ghost use Rattle.std.specs.List.{filter_map};
-ghost use Rattle.keep_catalog.specs.Files.{header_in, header_view, headers_in};
-ghost use Rattle.keep_catalog.specs.Files.{index_in, indexes_in, packs_view, readable};
+ghost use Rattle.keep_catalog.specs.Files.{header_in, header_view, headers_in, readable};
 
 use crate::catalog::Catalog;
-use crate::file_reading::{is_index_memory, is_pack_memory};
-use keep_index::{IndexedPack, read_index};
+use crate::file_reading::is_pack_memory;
 use keep_names::{Blob, FileName, Id, Kind};
 use keep_pack::read_header;
 use keep_repo::Repo;
@@ -19,15 +17,6 @@ impl<'a> Catalog<'a> {
     {
         let packs = self.repo.ids(Kind::Pack)?;
         headers_of(alloc, self.repo, &packs)
-    }
-
-    /// What each index that can be read says of packs, the indexes by name. Each is read anew.
-    pub fn indexes(&self, alloc: Global) -> Result<Vec<(Id, Vec<IndexedPack>)>, AllocError>
-        ensures { IfOk result (λ indexes.
-            map packs_view indexes.items ≡ indexes_in self.now) }
-    {
-        let indexes = self.repo.ids(Kind::Index)?;
-        indexes_of(alloc, self.repo, &indexes)
     }
 }
 
@@ -56,46 +45,6 @@ fn pack_header(alloc: Global, repo: &Repo, pack: Id) -> Result<Option<(Id, Vec<B
         Ok(entries) => Ok(Some((pack, entries))),
         Err(refusal) => {
             if is_pack_memory(refusal) {
-                return Err(AllocError);
-            }
-            Ok(None)
-        }
-    }
-}
-
-/// What those of the indexes say that can be read.
-fn indexes_of(
-    alloc: Global,
-    repo: &Repo,
-    indexes: &[Id],
-) -> Result<Vec<(Id, Vec<IndexedPack>)>, AllocError>
-    ensures { IfOk result (λ read. map packs_view read.items
-        ≡ filter_map (λ index. readable index (index_in repo.now index)) indexes.now) }
-{
-    let mut read = Vec::new(alloc);
-    for index in indexes {
-        let packs = index_packs(alloc, repo, *index)?;
-        add_found(&mut read, packs)?;
-    }
-    Ok(read)
-}
-
-/// What an index says, if it can be read.
-fn index_packs(
-    alloc: Global,
-    repo: &Repo,
-    index: Id,
-) -> Result<Option<(Id, Vec<IndexedPack>)>, AllocError>
-    ensures { IfOk result (λ read. option_map packs_view read
-        ≡ readable index (index_in repo.now index)) }
-{
-    let Some(bytes) = repo.get(FileName::index(index)) else {
-        return Ok(None);
-    };
-    match read_index(alloc, bytes.as_slice()) {
-        Ok(read) => Ok(Some((index, read.packs))),
-        Err(refusal) => {
-            if is_index_memory(refusal) {
                 return Err(AllocError);
             }
             Ok(None)

@@ -7,6 +7,7 @@ mod catalog;
 mod catalog_error;
 mod file_reading;
 mod headers;
+mod indexes;
 mod listed;
 mod listings;
 mod live_repo;

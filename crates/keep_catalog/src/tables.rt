@@ -19,7 +19,8 @@ ghost use Rattle.keep_catalog.specs.Orders.{same_id, same_name};
 
 use crate::file_reading::{read_listed, read_pack, read_snapshot};
 use crate::headers::add_found;
-use crate::listed::{Listed, list, unlist};
+use crate::indexes::{Indexes, put_index, take_index};
+use crate::listed::Listed;
 use crate::stored::{Stored, store, unstore};
 use crate::unread::{FileError, Unread};
 use indexmap::IndexMap;
@@ -36,6 +37,7 @@ pub(crate) struct Tables {
     alloc: Global,
     pub(crate) stored: Stored,
     pub(crate) listed: Listed,
+    pub(crate) indexes: Indexes,
     pub(crate) snaps: BTreeMap<Id, Snap>,
     /// Found by hash, since each file that goes is looked for here.
     pub(crate) unread: IndexMap<FileName, FileError>,
@@ -48,6 +50,7 @@ impl Drop for Tables {
             alloc: _,
             stored: _,
             listed: _,
+            indexes: _,
             snaps: _,
             unread: _,
         } = self;
@@ -76,6 +79,7 @@ impl Tables {
             alloc,
             stored: BTreeMap::new(alloc),
             listed: BTreeMap::new(alloc),
+            indexes: BTreeMap::new(alloc),
             snaps: BTreeMap::new(alloc),
             unread: IndexMap::new(alloc),
         }
@@ -138,7 +142,13 @@ impl Tables {
             → IsKept (with_file r name bytes.now) self.new) }
     {
         let (packs, why) = read_listed(self.alloc, bytes)?;
-        list(self.alloc, &mut self.listed, index, &packs)?;
+        put_index(
+            self.alloc,
+            &mut self.listed,
+            &mut self.indexes,
+            index,
+            packs,
+        )?;
         note(&mut self.unread, FileName::index(index), why)
     }
 
@@ -159,7 +169,7 @@ impl Tables {
     {
         match name.kind {
             Kind::Pack => self.drop_pack(name.id, bytes),
-            Kind::Index => self.drop_index(name.id, bytes),
+            Kind::Index => self.drop_index(name.id),
             Kind::Snapshot => {
                 self.drop_snapshot(name.id);
                 Ok(())
@@ -180,16 +190,12 @@ impl Tables {
         Ok(())
     }
 
-    fn drop_index(&mut self, index: Id, bytes: &[u8]) -> Result<(), AllocError>
+    fn drop_index(&mut self, index: Id) -> Result<(), AllocError>
         ensures { let name = named the_kind.Index index in
-            OnOk result ((r : Repository) → finite.get r.files name ≡ Some bytes.now → IsKept r self.old
-            → IsKept (without_file r name) self.new) }
+            OnOk result ((r : Repository) → IsKept r self.old → IsKept (without_file r name) self.new) }
     {
-        if forget(&mut self.unread, FileName::index(index)).is_some() {
-            return Ok(());
-        }
-        let (packs, _why) = read_listed(self.alloc, bytes)?;
-        unlist(&mut self.listed, index, &packs)?;
+        forget(&mut self.unread, FileName::index(index));
+        take_index(&mut self.listed, &mut self.indexes, index)?;
         Ok(())
     }
 

@@ -20,4 +20,4 @@ returns c =
     (λ q. noted q
     ∙ ap (λ (n : FileName). option_or (cond (same_name n q) c.in_ok-entries.why None) (noted_at old q)) c.pack.ensures
     ∙ ap (λ (why : Option FileError). option_or (cond (same_name (named Pack c.args.pack) q) why None) (noted_at old q)) c.in_ok-entries.ensures.why)
-    refl refl) c.note.ensures
+    refl refl refl) c.note.ensures

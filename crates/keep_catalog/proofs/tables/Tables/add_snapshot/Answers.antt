@@ -22,4 +22,4 @@ returns c =
     (λ q. noted q
     ∙ ap (λ (n : FileName). option_or (cond (same_name n q) c.in_ok-snap.why None) (noted_at old q)) c.snapshot.ensures
     ∙ ap (λ (why : Option FileError). option_or (cond (same_name (named Snapshot name) q) why None) (noted_at old q)) c.in_ok-snap.ensures.why)
-    refl refl) c.note.ensures
+    refl refl refl) c.note.ensures

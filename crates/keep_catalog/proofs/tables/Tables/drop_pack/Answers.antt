@@ -14,7 +14,7 @@ returns-then-is_some c r present kept =
     pack_goes r old _ kept c.args.pack c.args.bytes.now present
     (pack_stores_none r c.args.bytes.now c.args.pack present refused old.stored)
     (λ q. c.forget.ensures.forgotten q ∙ ap (λ (n : FileName). cond (same_name n q) None (noted_at old q)) c.pack.ensures)
-    refl refl
+    refl refl refl
 
 pub returns : goal.returns
 returns c r present kept =
@@ -22,4 +22,4 @@ returns c r present kept =
     pack_goes r old _ kept c.args.pack c.args.bytes.now present
     (λ p. c.unstore.ensures p ∙ ap (λ es. cond (is_among (map (packed_of c.args.pack) es) p) None (tree.get packed_blob_cmp old.stored p)) (c.deref.ensures.value ∙ c.in_ok-entries.ensures.entries))
     (λ q. c.forget.ensures.forgotten q ∙ ap (λ (n : FileName). cond (same_name n q) None (noted_at old q)) c.pack.ensures)
-    refl refl
+    refl refl refl

@@ -9,4 +9,4 @@ returns c r kept =
     let old = c.args.self.now in
     snapshot_goes r old _ kept c.args.name (snap_taken old.snaps c.remove.new.self c.args.name c.remove.ensures.updates.0) c.remove.ensures.ordered
     (λ q. c.forget.ensures.forgotten q ∙ ap (λ (n : FileName). cond (same_name n q) None (noted_at old q)) c.snapshot.ensures)
-    refl refl
+    refl refl refl
