@@ -21,7 +21,7 @@ pub(crate) fn answer(
         "reuse" => reuse(catalog, state_words::blob(rest)?, out)?,
         "bytes" => bytes(alloc, catalog, spot(rest)?, out)?,
         "headers" => headers(alloc, catalog, out)?,
-        "indexes" => indexes(alloc, catalog, out)?,
+        "indexes" => indexes(catalog, out)?,
         "wrong" => wrong(alloc, catalog, out)?,
         "nodes" => nodes(alloc, catalog, state_words::id(rest)?, out)?,
         "snaps" => writeln!(out, "snaps {}", catalog.snaps().len())?,
@@ -103,8 +103,8 @@ fn headers(alloc: Global, catalog: &Catalog, out: &mut String) -> Result<(), All
     Ok(())
 }
 
-fn indexes(alloc: Global, catalog: &Catalog, out: &mut String) -> Result<(), AllocError> {
-    for (index, packs) in &catalog.indexes(alloc)? {
+fn indexes(catalog: &Catalog, out: &mut String) -> Result<(), AllocError> {
+    for (index, packs) in catalog.indexes() {
         let count = packs.len();
         writeln!(out, "index {index} {count}")?;
     }

@@ -54,38 +54,45 @@ module _ (r : Repository) (xs : List IndexedPack) (i : ℕ) (x : IndexedPack) (l
 
 -- ---- indexes one after the other
 
-module _ (r : Repository) (built : List NamedBytes) (xs : List Read) (i : ℕ) (x : Read) (lt : i < length xs) (is : x ≡ get_or xs i x) where
+module _ (r : Repository) (built : List NamedBytes) (all left rest : List Read) (x : Read) (first : left ≡ x ∷ rest) where
   abbrev listed_by : List (Id × List PackData) → List FileName
   listed_by indexes = absent_listed r (other_listings built indexes)
 
-  listed_more : listed_by (map packs_view (take (i + 1) xs)) ≡ listed_by (map packs_view (take i xs)) ++ listed_by (packs_view x ∷ [])
-  listed_more =
-      ap listed_by (map_more packs_view xs i x lt)
-      ∙ ap (absent_listed r) (filter-append (λ (index : Id × List PackData). not (has_name (file_names built) (named Index index.0))) (map packs_view (take i xs)) (packs_view (get_or xs i x) ∷ []))
-      ∙ flat_map-append (λ (index : Id × List PackData). absent_among r index.1) (other_listings built (map packs_view (take i xs))) (other_listings built (packs_view (get_or xs i x) ∷ []))
-      ∙ ap (λ (y : Read). listed_by (map packs_view (take i xs)) ++ listed_by (packs_view y ∷ [])) (sym is)
+  listed_first : listed_by (map packs_view left) ≡ listed_by (packs_view x ∷ []) ++ listed_by (map packs_view rest)
+  listed_first =
+      ap (λ (es : List Read). listed_by (map packs_view es)) first
+      ∙ ap (absent_listed r) (filter-append (λ (index : Id × List PackData). not (has_name (file_names built) (named Index index.0))) (packs_view x ∷ []) (map packs_view rest))
+      ∙ flat_map-append (λ (index : Id × List PackData). absent_among r index.1) (other_listings built (packs_view x ∷ [])) (other_listings built (map packs_view rest))
 
-  pub listing_more : (name : FileName) (old new : Bool) → old ≡ AreAmong (listed_by (map packs_view (take i xs))) name
-      → new ≡ (old || AreAmong (listed_by (packs_view x ∷ [])) name) → new ≡ AreAmong (listed_by (map packs_view (take (i + 1) xs))) name
-  listing_more name old new so step =
-      step ∙ ap (λ t. t || AreAmong (listed_by (packs_view x ∷ [])) name) so
-      ∙ sym (ap (λ (names : List FileName). AreAmong names name) listed_more
-      ∙ list_any-append (eq_by_cmp name_cmp name) (listed_by (map packs_view (take i xs))) (listed_by (packs_view x ∷ [])))
+  pub listing_more : (name : FileName) (old new : Bool) → new ≡ (old || AreAmong (listed_by (packs_view x ∷ [])) name)
+      → (old || AreAmong (listed_by (map packs_view left)) name) ≡ AreAmong (listed_by (map packs_view all)) name
+      → (new || AreAmong (listed_by (map packs_view rest)) name) ≡ AreAmong (listed_by (map packs_view all)) name
+  listing_more name old new step so =
+      let here = listed_by (packs_view x ∷ []) in
+      let later = listed_by (map packs_view rest) in
+      ap (λ t. t || AreAmong later name) step ∙ or_assoc old (AreAmong here name) (AreAmong later name)
+      ∙ ap (λ t. old || t) (sym (ap (λ (names : List FileName). AreAmong names name) listed_first
+      ∙ list_any-append (eq_by_cmp name_cmp name) here later))
+      ∙ so
 
 -- ---- one index
 
-module _ (r : Repository) (built : List NamedBytes) (x : Read) where
+module _ (r : Repository) (built : List NamedBytes) (index : Id) (packs : List IndexedPack) where
+  -- its name, with what it says
+  abbrev listing_here : List (Id × List PackData)
+  listing_here = (index, map pack_view packs) ∷ []
+
   -- the new index lists nothing that has to be absent
-  pub new_listed : (name : FileName) (old : Bool) → has_name (file_names built) (named Index x.0) ≡ true
-      → old ≡ (old || AreAmong (absent_listed r (other_listings built (packs_view x ∷ []))) name)
+  pub new_listed : (name : FileName) (old : Bool) → has_name (file_names built) (named Index index) ≡ true
+      → old ≡ (old || AreAmong (absent_listed r (other_listings built listing_here)) name)
   new_listed name old new =
-      or_none old ∙ ap (λ b. old || AreAmong (absent_listed r (cond (not b) (packs_view x ∷ []) [])) name) (sym new)
+      or_none old ∙ ap (λ b. old || AreAmong (absent_listed r (cond (not b) listing_here [])) name) (sym new)
 
   -- another one does
-  pub other_listed : (name : FileName) (old now : Bool) (packs : List IndexedPack) → has_name (file_names built) (named Index x.0) ≡ false → packs ≡ x.1.items
+  pub other_listed : (name : FileName) (old now : Bool) → has_name (file_names built) (named Index index) ≡ false
       → now ≡ (old || AreAmong (absent_among r (map pack_view packs)) name)
-      → now ≡ (old || AreAmong (absent_listed r (other_listings built (packs_view x ∷ []))) name)
-  other_listed name old now packs other are put =
-      put ∙ ap (λ (ps : List IndexedPack). old || AreAmong (absent_among r (map pack_view ps)) name) are
-      ∙ ap (λ (names : List FileName). old || AreAmong names name) (sym (append-nil (absent_among r (map pack_view x.1.items))))
-      ∙ ap (λ b. old || AreAmong (absent_listed r (cond (not b) (packs_view x ∷ []) [])) name) (sym other)
+      → now ≡ (old || AreAmong (absent_listed r (other_listings built listing_here)) name)
+  other_listed name old now other put =
+      put
+      ∙ ap (λ (names : List FileName). old || AreAmong names name) (sym (append-nil (absent_among r (map pack_view packs))))
+      ∙ ap (λ b. old || AreAmong (absent_listed r (cond (not b) listing_here [])) name) (sym other)

@@ -1,6 +1,6 @@
 -- What is left of indexes, one after the other.
-use Rattle.std.proofs.Common.{◌≡◌, ℕ, ◌+◌, ◌<◌, Bool, true, false, cond, List, [], ◌∷◌, ◌++◌, length, map, filter, take, get_or, refl, sym, ap, ◌∙◌}
-use Rattle.std.proofs.lemmas.List.{append-nil, map-append, map_more}
+use Rattle.std.proofs.Common.{◌≡◌, Bool, true, false, cond, List, [], ◌∷◌, ◌++◌, map, sym, ap, ◌∙◌}
+use Rattle.std.proofs.lemmas.List.{append_assoc, map-append}
 use Rattle.std.proofs.lemmas.List.Elements.{filter-append}
 use Rattle.std.specs.Global.{Vec}
 use Rattle.std.specs.List.{list_any}
@@ -20,32 +20,48 @@ use Rattle.keep_upkeep.specs.Reindexing.{index_files, other_indexes, reindexing}
 use Rattle.keep_upkeep.specs.Sweep.{left_files, left_of, listing, lists_gone, listing_gone, names_of, sweeping, swept_files}
 use Rattle.keep_upkeep.proofs.EachSo.{any_mapped}
 
--- an index as the catalog reads it
+-- an index as the catalog keeps it
 abbrev pub Read : Type 0
 Read = Id × Vec IndexedPack
 
-module _ (is_gone : Id → Bool) (index : Read) where
-  asked : lists_gone is_gone (packs_view index) ≡ list_any (λ (pack : IndexedPack). is_gone pack.id) index.1.items
-  asked = any_mapped (λ (pack : PackData). is_gone pack.id) pack_view index.1.items
+module _ (is_gone : Id → Bool) (name : Id) (packs : List IndexedPack) where
+  -- its name, with what it says
+  abbrev pub listing_here : List (Id × List PackData)
+  listing_here = (name, map pack_view packs) ∷ []
 
-  pub passed : (answer : Bool) → answer ≡ list_any (λ (pack : IndexedPack). is_gone pack.id) index.1.items → answer ≡ false → listing_gone is_gone (packs_view index ∷ []) ≡ []
-  passed answer is none = ap (λ b. cond b (packs_view index ∷ []) []) (asked ∙ sym is ∙ none)
+  asked : lists_gone is_gone (name, map pack_view packs) ≡ list_any (λ (pack : IndexedPack). is_gone pack.id) packs
+  asked = any_mapped (λ (pack : PackData). is_gone pack.id) pack_view packs
 
-  pub taken : (answer : Bool) → answer ≡ list_any (λ (pack : IndexedPack). is_gone pack.id) index.1.items → answer ≡ true → listing_gone is_gone (packs_view index ∷ []) ≡ packs_view index ∷ []
-  taken answer is some = ap (λ b. cond b (packs_view index ∷ []) []) (asked ∙ sym is ∙ some)
+  pub passed : (answer : Bool) → answer ≡ list_any (λ (pack : IndexedPack). is_gone pack.id) packs → answer ≡ false → listing_gone is_gone listing_here ≡ []
+  passed answer is none = ap (λ b. cond b listing_here []) (asked ∙ sym is ∙ none)
 
-module _ (is_gone : Id → Bool) (xs : List Read) (i : ℕ) (x : Read) (lt : i < length xs) (is : x ≡ get_or xs i x) where
-  listing_more : listing_gone is_gone (map packs_view (take (i + 1) xs)) ≡ listing_gone is_gone (map packs_view (take i xs)) ++ listing_gone is_gone (packs_view x ∷ [])
-  listing_more =
-      ap (listing_gone is_gone) (map_more packs_view xs i x lt)
-      ∙ filter-append (lists_gone is_gone) (map packs_view (take i xs)) (packs_view (get_or xs i x) ∷ [])
-      ∙ ap (λ (y : Read). listing_gone is_gone (map packs_view (take i xs)) ++ listing_gone is_gone (packs_view y ∷ [])) (sym is)
+  pub taken : (answer : Bool) → answer ≡ list_any (λ (pack : IndexedPack). is_gone pack.id) packs → answer ≡ true → listing_gone is_gone listing_here ≡ listing_here
+  taken answer is some = ap (λ b. cond b listing_here []) (asked ∙ sym is ∙ some)
 
-  pub names_more : names_of (listing_gone is_gone (map packs_view (take (i + 1) xs))) ≡ names_of (listing_gone is_gone (map packs_view (take i xs))) ++ names_of (listing_gone is_gone (packs_view x ∷ []))
-  names_more = ap names_of listing_more ∙ map-append (λ (e : Id × List PackData). e.0) (listing_gone is_gone (map packs_view (take i xs))) (listing_gone is_gone (packs_view x ∷ []))
+-- one after the other
+module _ (is_gone : Id → Bool) (all left rest : List Read) (x : Read) (first : left ≡ x ∷ rest) where
+  listing_first : listing_gone is_gone (map packs_view left) ≡ listing_gone is_gone (packs_view x ∷ []) ++ listing_gone is_gone (map packs_view rest)
+  listing_first =
+      ap (λ (es : List Read). listing_gone is_gone (map packs_view es)) first
+      ∙ filter-append (lists_gone is_gone) (packs_view x ∷ []) (map packs_view rest)
 
-  pub left_more : left_of is_gone (listing_gone is_gone (map packs_view (take (i + 1) xs))) ≡ left_of is_gone (listing_gone is_gone (map packs_view (take i xs))) ++ left_of is_gone (listing_gone is_gone (packs_view x ∷ []))
-  left_more = ap (left_of is_gone) listing_more ∙ map-append (λ (e : Id × List PackData). left_without is_gone e.1) (listing_gone is_gone (map packs_view (take i xs))) (listing_gone is_gone (packs_view x ∷ []))
+  pub names_more : (old new : List Id) → new ≡ old ++ names_of (listing_gone is_gone (packs_view x ∷ []))
+      → old ++ names_of (listing_gone is_gone (map packs_view left)) ≡ names_of (listing_gone is_gone (map packs_view all))
+      → new ++ names_of (listing_gone is_gone (map packs_view rest)) ≡ names_of (listing_gone is_gone (map packs_view all))
+  names_more old new put so =
+      let here = listing_gone is_gone (packs_view x ∷ []) in
+      let later = listing_gone is_gone (map packs_view rest) in
+      ap (λ ns. ns ++ names_of later) put ∙ append_assoc old (names_of here) (names_of later)
+      ∙ ap (λ ns. old ++ ns) (sym (ap names_of listing_first ∙ map-append (λ (e : Id × List PackData). e.0) here later)) ∙ so
+
+  pub left_more : (old new : List (List PackData)) → new ≡ old ++ left_of is_gone (listing_gone is_gone (packs_view x ∷ []))
+      → old ++ left_of is_gone (listing_gone is_gone (map packs_view left)) ≡ left_of is_gone (listing_gone is_gone (map packs_view all))
+      → new ++ left_of is_gone (listing_gone is_gone (map packs_view rest)) ≡ left_of is_gone (listing_gone is_gone (map packs_view all))
+  left_more old new put so =
+      let here = listing_gone is_gone (packs_view x ∷ []) in
+      let later = listing_gone is_gone (map packs_view rest) in
+      ap (λ ls. ls ++ left_of is_gone later) put ∙ append_assoc old (left_of is_gone here) (left_of is_gone later)
+      ∙ ap (λ ls. old ++ ls) (sym (ap (left_of is_gone) listing_first ∙ map-append (λ (e : Id × List PackData). left_without is_gone e.1) here later)) ∙ so
 
 -- ---- all of it
 

@@ -192,16 +192,16 @@ module _ (r : Repository) (now : ℤ) (wait : ℕ) where
   unfolding sweep_change
   sweep_refused error why other = ap (λ o. unless o (sweep_of r (waited_marks r now wait))) (why other)
 
-  sweep_due : unread_first r ≡ None → sweep_change r now wait ≡ sweep_of r (waited_marks r now wait)
+  pub sweep_due : unread_first r ≡ None → sweep_change r now wait ≡ sweep_of r (waited_marks r now wait)
   unfolding sweep_change
   sweep_due none = ap (λ o. unless o (sweep_of r (waited_marks r now wait))) none
 
-  pub sweep_nothing : (marks : Vec PackMark) → unread_first r ≡ None → marks.items ≡ waited_marks r now wait → (vec_len marks == 0) ≡ true → sweep_change r now wait ≡ Err NothingToDo
-  sweep_nothing marks none are empty = sweep_due none ∙ ap (sweep_of r) (sym are ∙ no_items marks empty)
+  pub sweep_nothing : (marks : Vec PackMark) → marks.items ≡ waited_marks r now wait → (vec_len marks == 0) ≡ true → sweep_of r (waited_marks r now wait) ≡ Err NothingToDo
+  sweep_nothing marks are empty = ap (sweep_of r) (sym are ∙ no_items marks empty)
 
   some_swept : (marks : List PackMark) → marks ≢ [] → sweep_of r marks ≡ Ok (sweeping r marks)
   some_swept [] some = absurd (some refl)
   some_swept (m ∷ ms) some = refl
 
-  pub sweep_made : (marks : Vec PackMark) (c : Change) → unread_first r ≡ None → marks.items ≡ waited_marks r now wait → (vec_len marks == 0) ≡ false → c ≡ sweeping r marks.items → sweep_change r now wait ≡ Ok c
-  sweep_made marks c none are some is = sweep_due none ∙ ap (sweep_of r) (sym are) ∙ some_swept marks.items (some_items marks some) ∙ ap Ok (sym is)
+  pub sweep_made : (marks : Vec PackMark) (c : Change) → marks.items ≡ waited_marks r now wait → (vec_len marks == 0) ≡ false → c ≡ sweeping r marks.items → sweep_of r (waited_marks r now wait) ≡ Ok c
+  sweep_made marks c are some is = ap (sweep_of r) (sym are) ∙ some_swept marks.items (some_items marks some) ∙ ap Ok (sym is)

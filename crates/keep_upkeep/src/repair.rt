@@ -24,7 +24,7 @@ use keep_plan::{PlanError, names_in, put_files};
 use keep_repo::{Facet, Repo};
 use keep_view::View;
 use std::alloc::{AllocError, Global};
-use std::collections::BTreeSet;
+use std::collections::{BTreeMap, BTreeSet};
 
 /// The change that puts one index in the place of all others. It lists each pack that is there and can be read, with
 /// what its header says. What can't be read is read past, and an index that can't be is dropped.
@@ -63,8 +63,7 @@ fn repair(alloc: Global, repo: &Repo, catalog: &Catalog) -> Result<Change, Alloc
 {
     let index = packs_there(alloc, catalog)?;
     let built = index_files(alloc, &index)?;
-    let indexes = catalog.indexes(alloc)?;
-    let absent = absent_packs(alloc, repo, &built, &indexes)?;
+    let absent = absent_packs(alloc, repo, &built, catalog.indexes())?;
     let ids = repo.ids(Kind::Index)?;
     let others = other_indexes(alloc, &built, &ids)?;
     let mut drops = Vec::new(alloc);
@@ -107,14 +106,14 @@ fn absent_packs(
     alloc: Global,
     repo: &Repo,
     built: &[StoredFile],
-    indexes: &[(Id, Vec<IndexedPack>)],
+    indexes: &BTreeMap<Id, Vec<IndexedPack>>,
 ) -> Result<Vec<FileName>, AllocError>
     ensures { IfOk result (λ absent. absent.items
-        ≡ in_order name_cmp (absent_listed repo.now (other_listings built.now (map packs_view indexes.now)))) }
+        ≡ in_order name_cmp (absent_listed repo.now (other_listings built.now (map packs_view indexes.now.entries)))) }
 {
     let mut absent = BTreeSet::new(alloc);
-    for index in indexes {
-        put_listed(repo, built, index, &mut absent)?;
+    for (index, packs) in indexes {
+        put_listed(repo, built, *index, packs, &mut absent)?;
     }
     names_in(alloc, absent)
 }
@@ -123,15 +122,15 @@ fn absent_packs(
 fn put_listed(
     repo: &Repo,
     built: &[StoredFile],
-    index: &(Id, Vec<IndexedPack>),
+    index: Id,
+    packs: &[IndexedPack],
     absent: &mut BTreeSet<FileName>,
 ) -> Result<(), AllocError>
     ensures { OnOk result ((name : the_name.FileName) → contains name_cmp absent.new name
         ≡ (contains name_cmp absent.old name || list_any (eq_by_cmp name_cmp name)
-        (absent_listed repo.now (other_listings built.now (packs_view index.now ∷ []))))) }
+        (absent_listed repo.now (other_listings built.now ((index, map pack_view packs.now) ∷ []))))) }
 {
-    let (name, packs) = index;
-    if has_index(built, *name) {
+    if has_index(built, index) {
         return Ok(());
     }
     put_absent(repo, packs, absent)

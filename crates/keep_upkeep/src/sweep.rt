@@ -1,20 +1,19 @@
-ghost use Rattle.std.specs.Prelude.{◌≡◌, ◌≢◌, ◌++◌, ◌+ℤ◌, [], ◌∷◌, pos, filter, int_le, IfErr, IfOk, None, OnOk, Some, map};
+ghost use Rattle.std.specs.Prelude.{◌≡◌, ◌++◌, ◌+ℤ◌, [], ◌∷◌, pos, filter, int_le, IfOk, OnOk, map};
 ghost use Rattle.std.specs.BTreeSet.{contains};
 ghost use Rattle.std.specs.List.{list_any};
 ghost use Rattle.keep_docs.specs.Doc.{Answers};
 ghost use Rattle.keep_names.specs.Orders.{id_cmp};
 ghost use Rattle.keep_names.specs.declared.id.Id as the_id;
-ghost use Rattle.keep_index.specs.Index.{index_view};
+ghost use Rattle.keep_index.specs.Index.{index_view, pack_view};
 ghost use Rattle.keep_index.specs.Joining.{joined};
 ghost use Rattle.keep_change.specs.Filling.{has_pack};
 ghost use Rattle.keep_change.specs.Lists.{marked_packs};
-ghost use Rattle.keep_catalog.specs.Files.{indexes_in, packs_view};
-ghost use Rattle.keep_plan.specs.Refusal.{unread_first};
+ghost use Rattle.keep_catalog.specs.Files.{packs_view};
 ghost use Rattle.keep_change.specs.Marks.{pack_mark};
 ghost use Rattle.keep_view.specs.Planned.{IsPlannedOn};
 ghost use Rattle.keep_plan.specs.declared.plan_error.PlanError.TheVariants as the_error;
 ghost use Rattle.keep_upkeep.specs.Reindexing.{other_indexes};
-ghost use Rattle.keep_upkeep.specs.Sweep.{left_of, listing_gone, names_of, sweep_change};
+ghost use Rattle.keep_upkeep.specs.Sweep.{left_of, listing_gone, names_of, sweep_change, sweep_of};
 ghost use Rattle.keep_upkeep.specs.Sweep as spec;
 
 use crate::reindexing::{index_files, other_indexes, reindexed};
@@ -27,7 +26,7 @@ use keep_plan::{PlanError, put_files};
 use keep_repo::{Mark, Repo};
 use keep_view::View;
 use std::alloc::{AllocError, Global};
-use std::collections::BTreeSet;
+use std::collections::{BTreeMap, BTreeSet};
 
 /// The change that sweeps the packs that are marked and have waited so many seconds by now: it drops those that are
 /// there, and clears their marks. What is left of the indexes that list one is joined into a new one.
@@ -39,27 +38,32 @@ pub fn plan_sweep(alloc: Global, view: &View, now: i64, wait: u64) -> Result<Pla
     ensures planned { IfOk result (IsPlannedOn view.now) }
 {
     a_planned_sweep_can_be_made();
-    let indexes = read_indexes(alloc, view)?;
-    let marks = waited_marks(alloc, view.repo(), now, wait)?;
-    if marks.is_empty() {
-        return Err(PlanError::NothingToDo);
-    }
-    let change = sweep(alloc, view.repo(), &indexes, marks)?;
+    let catalog = view.catalog(alloc)?;
+    let change = sweep_waited(alloc, view.repo(), &catalog, now, wait)?;
     Ok(Planned {
         change,
         seen: view.length(),
     })
 }
 
-/// What the indexes say, by name, if each pack, index and snapshot can be read.
-fn read_indexes(alloc: Global, view: &View) -> Result<Vec<(Id, Vec<IndexedPack>)>, PlanError>
-    ensures indexes { IfOk result (λ indexes. map packs_view indexes.items ≡ indexes_in view.now.repo) }
-    ensures all_read { IfOk result (λ _. unread_first view.now.repo ≡ None) }
-    ensures refused { IfErr result (λ error. error ≢ the_error.Memory → unread_first view.now.repo ≡ Some error) }
+/// The change that sweeps the packs whose marks have waited, unless there are none.
+fn sweep_waited(
+    alloc: Global,
+    repo: &Repo,
+    catalog: &Catalog,
+    now: i64,
+    wait: u64,
+) -> Result<Change, PlanError>
+    requires { catalog.now ≡ repo.now }
+    ensures { Answers the_error.Memory (λ change. change)
+        (sweep_of repo.now (spec.waited_marks repo.now now wait)) result }
 {
-    let catalog = view.catalog(alloc)?;
-    let indexes = catalog.indexes(alloc)?;
-    Ok(indexes)
+    let marks = waited_marks(alloc, repo, now, wait)?;
+    if marks.is_empty() {
+        return Err(PlanError::NothingToDo);
+    }
+    let change = sweep(alloc, repo, catalog, marks)?;
+    Ok(change)
 }
 
 /// The marks that have waited, by pack.
@@ -108,14 +112,14 @@ fn has_waited(moment: i64, now: i64, wait: u64) -> bool
 fn sweep(
     alloc: Global,
     repo: &Repo,
-    indexes: &[(Id, Vec<IndexedPack>)],
+    catalog: &Catalog,
     marks: Vec<PackMark>,
 ) -> Result<Change, AllocError>
-    requires { map packs_view indexes.now ≡ indexes_in repo.now }
+    requires { catalog.now ≡ repo.now }
     ensures { IfOk result (λ change. change ≡ spec.sweeping repo.now marks.items) }
 {
     let packs = packs_of(alloc, &marks)?;
-    let (names, left) = leave(alloc, indexes, &packs)?;
+    let (names, left) = leave(alloc, catalog.indexes(), &packs)?;
     let built = index_files(alloc, &left)?;
     let others = other_indexes(alloc, &built, &names)?;
     let mut drops = Vec::new(alloc);
@@ -144,19 +148,19 @@ fn packs_of(alloc: Global, marks: &[PackMark]) -> Result<Vec<Id>, AllocError>
 /// The names of the indexes that list one of these packs, and the join of what is left of them.
 fn leave(
     alloc: Global,
-    indexes: &[(Id, Vec<IndexedPack>)],
+    indexes: &BTreeMap<Id, Vec<IndexedPack>>,
     packs: &[Id],
 ) -> Result<(Vec<Id>, Index), AllocError>
     ensures names { IfOk result (λ made. made.0.items
-        ≡ names_of (listing_gone (has_pack packs.now) (map packs_view indexes.now))) }
+        ≡ names_of (listing_gone (has_pack packs.now) (map packs_view indexes.now.entries))) }
     ensures left { IfOk result (λ made. index_view made.1
-        ≡ joined (left_of (has_pack packs.now) (listing_gone (has_pack packs.now) (map packs_view indexes.now)))) }
+        ≡ joined (left_of (has_pack packs.now) (listing_gone (has_pack packs.now) (map packs_view indexes.now.entries)))) }
 {
     let gone = set_of(alloc, packs)?;
     let mut names = Vec::new(alloc);
     let mut left = Vec::new(alloc);
-    for index in indexes {
-        put_left(alloc, index, &gone, &mut names, &mut left)?;
+    for (index, listed) in indexes {
+        put_left(alloc, *index, listed, &gone, &mut names, &mut left)?;
     }
     let index = join(alloc, &left)?;
     Ok((names, index))
@@ -172,23 +176,24 @@ fn set_of(alloc: Global, packs: &[Id]) -> Result<BTreeSet<Id>, AllocError>
 /// Puts the index's name and what is left of it behind the others, if it lists a pack that goes.
 fn put_left(
     alloc: Global,
-    index: &(Id, Vec<IndexedPack>),
+    index: Id,
+    packs: &[IndexedPack],
     gone: &BTreeSet<Id>,
     names: &mut Vec<Id>,
     left: &mut Vec<Index>,
 ) -> Result<(), AllocError>
     ensures names { OnOk result (names.new.items ≡ names.old.items
-        ++ names_of (listing_gone (contains id_cmp gone.now) (packs_view index.now ∷ []))) }
+        ++ names_of (listing_gone (contains id_cmp gone.now) ((index, map pack_view packs.now) ∷ []))) }
     ensures left { OnOk result (map index_view left.new.items ≡ map index_view left.old.items
-        ++ left_of (contains id_cmp gone.now) (listing_gone (contains id_cmp gone.now) (packs_view index.now ∷ []))) }
+        ++ left_of (contains id_cmp gone.now)
+        (listing_gone (contains id_cmp gone.now) ((index, map pack_view packs.now) ∷ []))) }
 {
-    let (name, packs) = index;
     if !lists_gone(packs, gone) {
         return Ok(());
     }
     let packs = without_packs(alloc, packs, gone)?;
     left.push(Index { packs })?;
-    names.push(*name)?;
+    names.push(index)?;
     Ok(())
 }
 

@@ -1,4 +1,4 @@
-use Rattle.std.proofs.Common.{◌≡◌, map, take}
+use Rattle.std.proofs.Common.{◌≡◌, ◌++◌, map}
 use Rattle.std.specs.BTreeSet.{contains}
 use Rattle.keep_names.specs.Orders.{id_cmp}
 use Rattle.keep_index.specs.Index.{index_view}
@@ -8,6 +8,8 @@ use Rattle.keep_upkeep.proofs.sweep.leave.Given as goal
 
 abbrev pub invariant-loop-index : goal.invariant-loop-index
 invariant-loop-index l = record {
-  names : l.names.items ≡ names_of (listing_gone (contains id_cmp l.gone) (map packs_view (take l.index-index l.indexes)));
-  left : map index_view l.left.items ≡ left_of (contains id_cmp l.gone) (listing_gone (contains id_cmp l.gone) (map packs_view (take l.index-index l.indexes)));
+  names : l.names.items ++ names_of (listing_gone (contains id_cmp l.gone) (map packs_view l.index-iterator))
+      ≡ names_of (listing_gone (contains id_cmp l.gone) (map packs_view l.indexes.entries));
+  left : map index_view l.left.items ++ left_of (contains id_cmp l.gone) (listing_gone (contains id_cmp l.gone) (map packs_view l.index-iterator))
+      ≡ left_of (contains id_cmp l.gone) (listing_gone (contains id_cmp l.gone) (map packs_view l.indexes.entries));
 }
