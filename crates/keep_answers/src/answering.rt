@@ -82,7 +82,7 @@ impl Session {
             Ok(Meant::Drop(name)) => self.drop(name, book, writer),
             Ok(Meant::Revision(revision)) => self.revise(revision, book, writer),
             Ok(Meant::Cascade(number)) => self.cascade(number, book, writer),
-            Ok(Meant::Tell(topic)) => self.tell(topic, book, hashing, writer),
+            Ok(Meant::Tell(topic)) => self.answer_topic(topic, book, hashing, writer),
             Ok(Meant::Compare(name, noted)) => self.compare(name, noted, book, writer),
             Ok(Meant::Restore(snapshot)) => self.restore(snapshot, book, writer),
             Ok(Meant::Note(name)) => self.note(name, book, writer),
@@ -201,7 +201,7 @@ impl Session {
     }
 
     /// Tells what is asked for.
-    fn tell<S: Shelf, H: Hashing + Copy, W: Write>(
+    fn answer_topic<S: Shelf, H: Hashing + Copy, W: Write>(
         &self,
         topic: Topic,
         book: &Book<S>,

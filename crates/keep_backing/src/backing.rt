@@ -11,7 +11,7 @@ use keep_host_source::{HostSource, host_name, user_name};
 use keep_ledger::Refusal;
 use keep_plan::PlanError;
 use keep_progress::{CountedSource, Meter};
-use keep_run::{Failure, Left, Run, left_value, patterns_of, refused, require_told, tell_left};
+use keep_run::{Failure, Left, Run, left_value, name_left, patterns_of, refused, require_told};
 use keep_shelf::Shelf;
 use keep_sources::{Known, Scope, Why};
 use keep_tables::utc_time;
@@ -36,9 +36,9 @@ pub fn backup<S: Shelf, H: Hashing + Copy>(
         Err(NotBackedUp::Unplanned(PlanError::Reach(_))) => {
             let none = HashMap::new(run.alloc);
             let came = taken(run, hashing, book, words, &facts, none)?;
-            tell(run, came, words.dry_run)
+            print_end(run, came, words.dry_run)
         }
-        came => tell(run, came, words.dry_run),
+        came => print_end(run, came, words.dry_run),
     }
 }
 
@@ -70,9 +70,13 @@ fn taken<S: Shelf, H: Hashing + Copy>(
 }
 
 /// Prints what came of it.
-fn tell(run: &Run<'_>, came: Result<BackedUp, NotBackedUp>, is_dry: bool) -> Result<(), Failure> {
+fn print_end(
+    run: &Run<'_>,
+    came: Result<BackedUp, NotBackedUp>,
+    is_dry: bool,
+) -> Result<(), Failure> {
     match came {
-        Ok(done) => tell_backup(run, &done, is_dry),
+        Ok(done) => print_backup(run, &done, is_dry),
         Err(NotBackedUp::Unplanned(error)) => Err(Failure::refused(run.alloc, &PlanAdvice(&error))),
         Err(NotBackedUp::Refused(refusal)) => Err(refused(run, 0, &refusal)),
         Err(NotBackedUp::Differs(file)) => {
@@ -93,7 +97,7 @@ fn facts_of(run: &Run<'_>, words: &Backup<'_>) -> Result<BackupFacts, Failure> {
     }
     let host = match words.host {
         Some(host) => String::from_str(run.alloc, host)?,
-        None => told(run, "the machine's name", host_name(run.rt))?,
+        None => said(run, "the machine's name", host_name(run.rt))?,
     };
     let time = match words.time {
         Some(time) => String::from_str(run.alloc, time)?,
@@ -101,14 +105,14 @@ fn facts_of(run: &Run<'_>, words: &Backup<'_>) -> Result<BackupFacts, Failure> {
     };
     Ok(BackupFacts {
         host,
-        user: told(run, "who runs this", user_name(run.rt))?,
+        user: said(run, "who runs this", user_name(run.rt))?,
         paths,
         time,
     })
 }
 
 /// What the machine says of itself.
-fn told(run: &Run<'_>, what: &str, said: io::Result<String>) -> Result<String, Failure> {
+fn said(run: &Run<'_>, what: &str, said: io::Result<String>) -> Result<String, Failure> {
     match said {
         Ok(text) => Ok(text),
         Err(error) => {
@@ -147,7 +151,7 @@ fn job_of(
 }
 
 /// Prints what the backup came to, and names what isn't in it.
-fn tell_backup(run: &Run<'_>, done: &BackedUp, is_dry: bool) -> Result<(), Failure> {
+fn print_backup(run: &Run<'_>, done: &BackedUp, is_dry: bool) -> Result<(), Failure> {
     let left = left_of(run, done)?;
     let left = left.as_slice();
     let number = done.made.number;
@@ -175,7 +179,7 @@ fn tell_backup(run: &Run<'_>, done: &BackedUp, is_dry: bool) -> Result<(), Failu
     if is_unsettled {
         return Err(refused(run, number, &Refusal::Unsettled(number)));
     }
-    tell_left(run, left)
+    name_left(run, left)
 }
 
 /// What isn't in the backup, or not as it was seen, in words.

@@ -98,11 +98,14 @@ fn filled<'b, B: Begun, K: Keeps, R: Source, H: Hashing + Copy>(
         refusal,
         of: _,
     } = lent;
-    (Given { book }, told(filled, refusal))
+    (Given { book }, filled_or_why(filled, refusal))
 }
 
 /// What was taken, or why not all of it was: that is kept, unless memory ran out.
-fn told(filled: Result<Filled, Stop>, refusal: Option<NotBackedUp>) -> Result<Filled, NotBackedUp>
+fn filled_or_why(
+    filled: Result<Filled, Stop>,
+    refusal: Option<NotBackedUp>,
+) -> Result<Filled, NotBackedUp>
     ensures filled { IfOk result (λ all. filled ≡ Ok all) }
     ensures cause { IfErr result (λ cause. cause ≡ unwrap_or refusal (Unplanned Memory)) }
 {

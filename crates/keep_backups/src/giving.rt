@@ -24,38 +24,38 @@ impl<B: Begun, K: Keeps, H: Hashing + Copy> Receives for Intake<'_, '_, B, K, H>
     fn open_folder(&mut self, name: &str) -> Result<(), Stop> {
         let name = name_of(self.alloc, name)?;
         let done = self.archive.open_folder(name);
-        self.told(done)
+        self.heed(done)
     }
 
     fn close_folder(&mut self, sight: &Stat) -> Result<(), Stop> {
         let others = others_of(self.alloc, sight)?;
         let done = self.archive.close_folder(others);
-        self.told(done)
+        self.heed(done)
     }
 
     fn write(&mut self, bytes: &[u8]) -> Result<(), Stop> {
         let mut hashing = self.lent.hashing;
         let done = self.archive.write(bytes, &mut hashing);
-        self.told(done)
+        self.heed(done)
     }
 
     fn end_file(&mut self, name: &str, sight: &Stat) -> Result<(), Stop> {
         let name = name_of(self.alloc, name)?;
         let others = others_of(self.alloc, sight)?;
         let done = self.archive.end_file(name, others);
-        self.told(done)
+        self.heed(done)
     }
 
     fn drop_file(&mut self) -> Result<(), Stop> {
         let done = self.archive.drop_file();
-        self.told(done)
+        self.heed(done)
     }
 
     fn same_file(&mut self, name: &str, content: &[Id], sight: &Stat) -> Result<(), Stop> {
         let name = name_of(self.alloc, name)?;
         let others = others_of(self.alloc, sight)?;
         let done = self.archive.same_file(name, content, others);
-        self.told(done)
+        self.heed(done)
     }
 
     fn add_other(&mut self, name: &str, sight: &Stat) -> Result<(), Stop> {
@@ -63,7 +63,7 @@ impl<B: Begun, K: Keeps, H: Hashing + Copy> Receives for Intake<'_, '_, B, K, H>
         let type_name = String::from_str(self.alloc, type_name_of(&sight.kind))?;
         let others = others_of(self.alloc, sight)?;
         let done = self.archive.add_other(name, type_name, others);
-        self.told(done)
+        self.heed(done)
     }
 
     fn held(&self) -> u64 {

@@ -77,7 +77,7 @@ impl<'a, 'b, B: Begun, K: Keeps, H: Hashing + Copy> Intake<'a, 'b, B, K, H> {
     }
 
     /// What the archive answered.
-    pub(crate) fn told(&mut self, done: Result<(), PlanError>) -> Result<(), Stop>
+    pub(crate) fn heed(&mut self, done: Result<(), PlanError>) -> Result<(), Stop>
         ensures done { OnOk result (done ≡ Ok tt) }
         ensures archive { self.new.archive ≡ self.old.archive }
     {

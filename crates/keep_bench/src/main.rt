@@ -44,40 +44,40 @@ fn task_asked(rt: &HostRuntime) -> Result<Option<Task>> {
 }
 
 /// Reads the input, and tells of it in a line.
-fn tell(rt: &HostRuntime, task: Task) -> Result<()> {
+fn measure_task(rt: &HostRuntime, task: Task) -> Result<()> {
     let bytes = read_all(rt.alloc(), rt.stdin())?;
     match task {
-        Task::Document => tell_document(rt, &bytes),
-        Task::Pack => tell_pack(rt, &bytes),
-        Task::Backup => tell_backup(rt, bytes),
-        Task::Forget => tell_forget(rt, &bytes),
-        Task::Entry => tell_entry(rt, &bytes),
-        Task::EntryAgain => tell_entry_again(rt, &bytes),
-        Task::Commits => tell_commits(rt),
-        Task::Undo => tell_undo(rt),
+        Task::Document => measure_document(rt, &bytes),
+        Task::Pack => measure_pack(rt, &bytes),
+        Task::Backup => measure_backup(rt, bytes),
+        Task::Forget => measure_forget(rt, &bytes),
+        Task::Entry => measure_entry(rt, &bytes),
+        Task::EntryAgain => measure_entry_again(rt, &bytes),
+        Task::Commits => measure_commits(rt),
+        Task::Undo => measure_undo(rt),
     }
 }
 
-fn tell_document(rt: &HostRuntime, bytes: &[u8]) -> Result<()> {
+fn measure_document(rt: &HostRuntime, bytes: &[u8]) -> Result<()> {
     let count = measure(rt.alloc(), bytes)?;
     println!(rt; "read {count}")?;
     Ok(())
 }
 
-fn tell_pack(rt: &HostRuntime, bytes: &[u8]) -> Result<()> {
+fn measure_pack(rt: &HostRuntime, bytes: &[u8]) -> Result<()> {
     let Summary { id, entries } = summarize(rt.alloc(), bytes)?;
     let count = bytes.len();
     println!(rt; "pack {id} entries {entries} bytes {count}")?;
     Ok(())
 }
 
-fn tell_backup(rt: &HostRuntime, bytes: Vec<u8>) -> Result<()> {
+fn measure_backup(rt: &HostRuntime, bytes: Vec<u8>) -> Result<()> {
     let BackedUp { snapshot, adds } = back_up(rt.alloc(), bytes)?;
     println!(rt; "snapshot {snapshot} adds {adds}")?;
     Ok(())
 }
 
-fn tell_forget(rt: &HostRuntime, bytes: &[u8]) -> Result<()> {
+fn measure_forget(rt: &HostRuntime, bytes: &[u8]) -> Result<()> {
     match forget(rt.alloc(), bytes)? {
         Some(count) => println!(rt; "dropped {count}")?,
         None => println!(rt; "too many")?,
@@ -85,14 +85,14 @@ fn tell_forget(rt: &HostRuntime, bytes: &[u8]) -> Result<()> {
     Ok(())
 }
 
-fn tell_entry(rt: &HostRuntime, bytes: &[u8]) -> Result<()> {
+fn measure_entry(rt: &HostRuntime, bytes: &[u8]) -> Result<()> {
     drop(read_entry(rt.alloc(), ENTRY, bytes)?);
     let count = bytes.len();
     println!(rt; "entry {count}")?;
     Ok(())
 }
 
-fn tell_entry_again(rt: &HostRuntime, bytes: &[u8]) -> Result<()> {
+fn measure_entry_again(rt: &HostRuntime, bytes: &[u8]) -> Result<()> {
     let alloc = rt.alloc();
     let entry = read_entry(alloc, ENTRY, bytes)?;
     let same = is_written_so(alloc, &entry, bytes)?;
@@ -100,13 +100,13 @@ fn tell_entry_again(rt: &HostRuntime, bytes: &[u8]) -> Result<()> {
     Ok(())
 }
 
-fn tell_commits(rt: &HostRuntime) -> Result<()> {
+fn measure_commits(rt: &HostRuntime) -> Result<()> {
     let length = commits(rt.alloc())?;
     println!(rt; "length {length}")?;
     Ok(())
 }
 
-fn tell_undo(rt: &HostRuntime) -> Result<()> {
+fn measure_undo(rt: &HostRuntime) -> Result<()> {
     let told = undo_first(rt.alloc())?;
     println!(rt; "told {} at {}", told.number, told.at)?;
     Ok(())
@@ -119,7 +119,7 @@ fn main(rt: HostRuntime) -> ExitCode {
         );
         return ExitCode::from(BAD_OPTIONS);
     };
-    match tell(&rt, task) {
+    match measure_task(&rt, task) {
         Ok(()) => ExitCode::SUCCESS,
         Err(error) => {
             let _ = eprintln!(rt; "keep_bench: {error}");

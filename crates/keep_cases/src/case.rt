@@ -1,4 +1,4 @@
-use keep_command::{HostShelves, NamedShelf, NoOperators, Shelves, keepd, tell};
+use keep_command::{HostShelves, NamedShelf, NoOperators, Shelves, keepd, report_ending};
 use keep_hashing::OneByOne;
 use std::alloc::{AllocError, Global};
 use std::fs;
@@ -100,7 +100,7 @@ impl Case {
             writer,
         );
         drop(taken);
-        let (code, _) = tell(ending, &mut said);
+        let (code, _) = report_ending(ending, &mut said);
         write!(writer, "-> {code}")?;
         if said.is_empty() {
             return writer.write_all(b"\n");

@@ -44,7 +44,7 @@ fn hash_packs(
     let mut wrong = Vec::new(alloc);
     for pack in packs {
         let blobs = hash_pack(alloc, repo, *pack, stored)?;
-        tell(alloc, *pack, &blobs, &mut wrong)?;
+        note_blobs(alloc, *pack, &blobs, &mut wrong)?;
     }
     Ok(wrong)
 }
@@ -105,7 +105,7 @@ fn hash_place(
 }
 
 /// Tells each of a pack's blobs once.
-fn tell(
+fn note_blobs(
     alloc: Global,
     pack: Id,
     blobs: &[BlobId],
@@ -116,13 +116,13 @@ fn tell(
 {
     let mut told = BTreeSet::new(alloc);
     for blob in blobs {
-        tell_first(pack, *blob, &mut told, wrong)?;
+        note_first(pack, *blob, &mut told, wrong)?;
     }
     Ok(())
 }
 
 /// Tells a blob of a pack that wasn't told.
-fn tell_first(
+fn note_first(
     pack: Id,
     blob: BlobId,
     told: &mut BTreeSet<BlobId>,

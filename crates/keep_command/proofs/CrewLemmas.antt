@@ -11,7 +11,7 @@ use Rattle.keep_script.specs.declared.status.RunStatus.{RunStatus}
 use Rattle.keep_script.specs.declared.status.RunStatus.TheVariants.{Done, ScriptTooLong, Untold, WriteFailed}
 use Rattle.keep_options.specs.Option.{OptionsData}
 use Rattle.keep_command.specs.Ending.{ending_uncrewed}
-use Rattle.keep_command.specs.Following.{Crews, Follows, TellsCrew}
+use Rattle.keep_command.specs.Following.{Crews, Follows, ReportsCrew}
 use Rattle.keep_command.specs.Left.{LeftBook, LeftData}
 use Rattle.keep_command.specs.declared.ending.Ending.{Ending}
 use Rattle.keep_command.specs.declared.ending.Ending.TheVariants.{Ran}
@@ -34,7 +34,7 @@ pub crews-short : (takes : LeftData → Type 0) (answers : Result CrewTally NoCr
     → Crews takes answers settings time size before armed old new ended → ended ≡ Ran ScriptTooLong → ⊥
 crews-short takes answers settings time size before armed old new ended (inl h) short = go h.told
   where
-    go : TellsCrew old new size h.tally ended → ⊥
+    go : ReportsCrew old new size h.tally ended → ⊥
     go (inl (inl (put, e))) = done-short (sym e ∙ short)
     go (inl (inr (part, e))) = write-short (sym e ∙ short)
     go (inr (fewer, same, e)) = untold-short (sym e ∙ short)
@@ -44,7 +44,7 @@ crews-short takes answers settings time size before armed old new ended (inr non
 pub crews-worked : (takes : LeftData → Type 0) (answers : Result CrewTally NoCrew → Type 0) (asked settings : SettingsData) (at time : List ℕ) (many size : ℕ) (before after : OnShelf) (armed kept : HooksData) (tally : CrewTally) (old new : Option (List ℕ)) (ended : Ending)
     → asked ≡ settings → at ≡ time → many ≡ size → kept ≡ armed → answers (Ok tally)
     → IsCrewed armed.vetoes asked at many before.state after.state tally.accepted tally.length → takes (LeftBook after kept)
-    → TellsCrew old new size tally ended → Crews takes answers settings time size before armed old new ended
+    → ReportsCrew old new size tally ended → Crews takes answers settings time size before armed old new ended
 crews-worked takes answers asked settings at time many size before after armed kept tally old new ended by when of_size stays answered h taken told = inl (record {
   after = after;
   tally = tally;

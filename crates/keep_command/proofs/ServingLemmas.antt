@@ -26,7 +26,7 @@ use Rattle.keep_script.specs.declared.status.RunStatus.{RunStatus}
 use Rattle.keep_script.specs.declared.status.RunStatus.TheVariants.{Done, ScriptTooLong, WriteFailed}
 use Rattle.keep_options.specs.Option.{OptionsData}
 use Rattle.keep_command.proofs.CrewLemmas.{crews-short, follows-where}
-use Rattle.keep_command.specs.Damage.{IsRefusedSo, TellsDamage}
+use Rattle.keep_command.specs.Damage.{IsRefusedSo, ReportsDamage}
 use Rattle.keep_command.specs.Following.{Follows, IsUnopened, Serves}
 use Rattle.keep_command.specs.Left.{LeftData, LeftShelf}
 use Rattle.keep_command.specs.Running.{KeepsLines, settings_of}
@@ -69,7 +69,7 @@ refused-first : (shelf left : Shelved) (error : OpenError) (ended : Ending) → 
 refused-first shelf left error ended given (inl is) = inl is
 refused-first shelf left error ended given (inr (number, is, tells)) =
     let same : left.content ≡ shelf.content = given.same (λ fault. cc (is, fault)) in
-    inr (number, is, subst (λ (content : Content). TellsDamage content number ended) same tells)
+    inr (number, is, subst (λ (content : Content). ReportsDamage content number ended) same tells)
 
 -- a shelf that wasn't opened, and is let go
 pub is-unopened : (takes : LeftData → Type 0) (shelf left after : Shelved) (error : OpenError) (ended : Ending) → IsNotOpened shelf error → IsGivenBack shelf error left

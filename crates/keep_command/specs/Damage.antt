@@ -17,7 +17,7 @@ abbrev pub SaysDamage : Content → List ℕ → Type 0
 SaysDamage content text = (found : List Finding) × IsDamage (map.get content) found × (text ≡ findings_text found)
 
 -- it ends with that, behind the number by which it is told that nothing there is read
-pub record TellsDamage (content : Content) (number : ℕ) (ended : Ending) : Type 0 where
+pub record ReportsDamage (content : Content) (number : ℕ) (ended : Ending) : Type 0 where
   pub damage : String Global
   pub says : SaysDamage content (string_bytes damage)
   pub is : ended ≡ ending.Damaged number damage
@@ -26,4 +26,4 @@ pub record TellsDamage (content : Content) (number : ℕ) (ended : Ending) : Typ
 abbrev pub IsRefusedSo : Content → OpenError → Ending → Type 0
 IsRefusedSo content error ended =
     (ended ≡ ending.Ran (status_unopened error))
-    ⊎ ((number : ℕ) × (error ≡ BadEntry number) × TellsDamage content number ended)
+    ⊎ ((number : ℕ) × (error ≡ BadEntry number) × ReportsDamage content number ended)

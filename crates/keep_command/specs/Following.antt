@@ -49,8 +49,8 @@ abbrev pub IsHeldBack : (old new : Option (List ℕ)) → (size accepted : ℕ) 
 IsHeldBack old new size accepted ended = (accepted < size) × (new ≡ old) × (ended ≡ ending.Ran Untold)
 
 -- what a crew of this size did is reported, or held back
-abbrev pub TellsCrew : (old new : Option (List ℕ)) → (size : ℕ) → CrewTally → Ending → Type 0
-TellsCrew old new size tally ended =
+abbrev pub ReportsCrew : (old new : Option (List ℕ)) → (size : ℕ) → CrewTally → Ending → Type 0
+ReportsCrew old new size tally ended =
     Reports old new (report_text size tally.accepted tally.length) ended ⊎ IsHeldBack old new size tally.accepted ended
 
 -- a crew of this size worked over a book with this ledger and left it with another; that is let go, and told of
@@ -61,7 +61,7 @@ pub record CrewReports (takes : LeftData → Type 0) (answers : Result CrewTally
   pub answered : answers (Ok tally)
   pub crewed : IsCrewed armed.vetoes settings time size before.state after.state tally.accepted tally.length
   pub let_go : takes (LeftBook after armed)
-  pub told : TellsCrew old new size tally ended
+  pub told : ReportsCrew old new size tally ended
 
 -- no operator worked, since the crew was refused: the book is let go as it was, and nothing is written
 pub record IsUncrewed (takes : LeftData → Type 0) (answers : Result CrewTally NoCrew → Type 0) (before : OnShelf)

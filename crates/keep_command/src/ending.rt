@@ -20,7 +20,7 @@ const COPY: &str = "put journal, trash and files back from one copy";
 
 /// Says on standard error why the program ended, unless each line was answered and the shelf never failed. Answers the
 /// exit status, which is the same where that can't be written, and whether it could.
-pub fn tell<E: Write>(ending: Ending<'_>, errors: &mut E) -> (u8, io::Result<()>)
+pub fn report_ending<E: Write>(ending: Ending<'_>, errors: &mut E) -> (u8, io::Result<()>)
     ensures code { result.0 ≡ code_of ending.entry }
     ensures told { OnOk result.1 (Appends (E.contents errors.old) (E.contents errors.new) (told_text ending.entry)) }
 {

@@ -13,7 +13,7 @@ mod terms;
 mod unopened;
 
 pub use crew::{Crew, NoOperators};
-pub use ending::{Ending, tell};
+pub use ending::{Ending, report_ending};
 pub use keep_folder::FolderError;
 pub use keep_operators::{CrewTally, NoCrew, Order};
 pub use keep_options::BadOptions;

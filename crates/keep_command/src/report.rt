@@ -2,7 +2,7 @@ ghost use Rattle.std.specs.Prelude.{◌≡◌, ◌≢◌};
 ghost use Rattle.keep_answers.specs.Known.{WritesLines};
 ghost use Rattle.keep_script.specs.declared.status.RunStatus.{RunStatus};
 ghost use Rattle.keep_command.specs.Ending.{ending_flushed};
-ghost use Rattle.keep_command.specs.Following.{Reports, TellsCrew, report_text};
+ghost use Rattle.keep_command.specs.Following.{Reports, ReportsCrew, report_text};
 
 use crate::ending::Ending;
 use keep_answers::put_line;
@@ -34,25 +34,25 @@ impl fmt::Display for Report {
 
 /// Writes what a crew did as a line. That is held back where one of its backups wasn't accepted and the shelf can't be
 /// told: it may be in.
-pub(crate) fn tell_crew<'a, W: Write>(
+pub(crate) fn report_crew<'a, W: Write>(
     alloc: Global,
     report: Report,
     is_told: bool,
     writer: &mut W,
 ) -> Ending<'a>
-    ensures tells { TellsCrew (W.contents writer.old) (W.contents writer.new) report.size report.tally result }
+    ensures tells { ReportsCrew (W.contents writer.old) (W.contents writer.new) report.size report.tally result }
     ensures whole { result ≢ Ending.Ran RunStatus.WriteFailed →
         WritesLines (W.contents writer.old) (W.contents writer.new) }
 {
     if !is_told && report.tally.accepted < u64::from(report.size) {
         return Ending::Ran(RunStatus::Untold);
     }
-    tell_tally(alloc, report, writer)
+    report_tally(alloc, report, writer)
 }
 
 /// Writes the report as a line, and hands it on. Where there is no memory for the line it can't be written: `NoMemory`
 /// would say that no crew worked.
-fn tell_tally<'a, W: Write>(alloc: Global, report: Report, writer: &mut W) -> Ending<'a>
+fn report_tally<'a, W: Write>(alloc: Global, report: Report, writer: &mut W) -> Ending<'a>
     ensures reports { Reports (W.contents writer.old) (W.contents writer.new)
         (report_text report.size report.tally.accepted report.tally.length) result }
     ensures whole { result ≢ Ending.Ran RunStatus.WriteFailed →

@@ -15,7 +15,7 @@ ghost use Rattle.keep_command.specs.Stored.{stored_view};
 use crate::crew::Crew;
 use crate::ending::Ending;
 use crate::named_shelf::NamedShelf;
-use crate::report::{Report, tell_crew};
+use crate::report::{Report, report_crew};
 use crate::shelves::Shelves;
 use crate::stored_questions::Stored;
 use crate::terms::Terms;
@@ -210,7 +210,7 @@ where
     match worked {
         Ok(tally) => {
             let size = terms.options.crew;
-            tell_crew(terms.alloc, Report { size, tally }, is_told, writer)
+            report_crew(terms.alloc, Report { size, tally }, is_told, writer)
         }
         Err(refusal) => Ending::from(refusal),
     }

@@ -19,7 +19,7 @@ use keep_shelf::MemoryShelf;
 use std::alloc::AllocError;
 
 /// Has the line answered, and tells the last line of its answer, and what it took where that isn't within the bounds.
-fn tell(
+fn answer_counted(
     rt: &HostRuntime,
     book: &mut Book<Counted<MemoryShelf>>,
     bounds: Bounds,
@@ -53,7 +53,7 @@ fn answer_row(rt: &HostRuntime, book: &mut Book<Counted<MemoryShelf>>, row: &str
             println!(rt; "{row}")?;
             fill(rt.alloc(), book, changes, bytes)
         }
-        Some(Row::Line(bounds, line)) => tell(rt, book, bounds, line),
+        Some(Row::Line(bounds, line)) => answer_counted(rt, book, bounds, line),
         None => Err(anyhow!("no row of the table")),
     }
 }

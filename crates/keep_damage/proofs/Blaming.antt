@@ -15,7 +15,7 @@ use Rattle.keep_journal.specs.Told.{entry_at}
 use Rattle.keep_shelf.specs.Shelved.{Content}
 use Rattle.keep_shelf.specs.declared.key.Key.{Key}
 use Rattle.keep_shelf.specs.declared.key.Key.TheVariants.{Live, Trash, Entry}
-use Rattle.keep_entries.specs.Entry.{IsEntry, TellsNothing}
+use Rattle.keep_entries.specs.Entry.{IsEntry, SaysNothing}
 use Rattle.keep_moves.specs.Move.{Stand}
 use Rattle.keep_moves.specs.Standing.{trashed}
 use Rattle.keep_reading.specs.Bad.{first_bad, first_bad_after, is_bad}
@@ -102,7 +102,7 @@ number_of e = e.at
 abbrev place_of : Leaf → ℕ
 place_of leaf = leaf.at
 
-no_entry : (other : Stand) (o : Repository) (j : Journal) (n : ℕ) (bytes : List ℕ) → other (Entry n) ≡ Some bytes → TellsNothing n bytes → Reads other o j → ⊥
+no_entry : (other : Stand) (o : Repository) (j : Journal) (n : ℕ) (bytes : List ℕ) → other (Entry n) ≡ Some bytes → SaysNothing n bytes → Reads other o j → ⊥
 no_entry other o j n bytes is tells reads =
     by (entry_at reads.entries n) refl (subst (λ (b : Option (List ℕ)). IsListed b (entry_at reads.entries n)) is (reads.lists.listed n))
   where

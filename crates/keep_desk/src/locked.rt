@@ -178,7 +178,7 @@ impl<B: Naming, R: Wait + Drop, K: Keeper> Locked<B, R, K> {
         pass.leave();
         self.covers(pass);
         self.publish_late()?;
-        self.tell(pass);
+        self.show_all(pass);
         Ok(())
     }
 
@@ -237,7 +237,7 @@ impl<B: Naming, R: Wait + Drop, K: Keeper> Locked<B, R, K> {
     }
 
     /// Tells the pass of all events.
-    fn tell(&mut self, pass: &mut Pass<B>)
+    fn show_all(&mut self, pass: &mut Pass<B>)
         ensures same { self.new ≡ self.old }
         ensures seen { pass.new.seen ≡ self.old.journal }
         ensures begins { IsPrefix pass.old.seen pass.new.seen }

@@ -36,7 +36,7 @@ fn crew_asked(rt: &HostRuntime) -> Result<Option<Crew>> {
 
 /// Tells how many events the book has in the end, and on standard error what each thread did, and for how many
 /// nanoseconds, by the clock and of a processor.
-fn tell(rt: &HostRuntime, crew: &Crew, ran: &Ran) -> Result<()> {
+fn print_counts(rt: &HostRuntime, crew: &Crew, ran: &Ran) -> Result<()> {
     println!(rt; "length {}", ran.length)?;
     for (place, done) in ran.done.iter().enumerate() {
         let done = done.ok_or(anyhow!("a thread was refused"))?;
@@ -57,7 +57,7 @@ fn main(rt: HostRuntime) -> ExitCode {
         let _ = eprintln!(rt; "usage: keep_desk_bench READERS OPERATORS CHANGES");
         return ExitCode::from(BAD_OPTIONS);
     };
-    match run(&rt, rt.alloc(), &crew).and_then(|ran| tell(&rt, &crew, &ran)) {
+    match run(&rt, rt.alloc(), &crew).and_then(|ran| print_counts(&rt, &crew, &ran)) {
         Ok(()) => ExitCode::SUCCESS,
         Err(error) => {
             let _ = eprintln!(rt; "keep_desk_bench: {error}");

@@ -27,7 +27,7 @@ use Rattle.keep_docs.proofs.IdTexts.{id_text-id_of_text}
 use Rattle.keep_docs.proofs.Parts.{IsReadable-get, map_parts, readable-list, then_parts}
 use Rattle.keep_change.specs.NamedBytes.{NamedBytes}
 use Rattle.keep_change.specs.declared.change.PackMark.{PackMark}
-use Rattle.keep_entries.specs.Entry.{FitsFile, FitsMark, FitsMoment, FitsName, mark_told}
+use Rattle.keep_entries.specs.Entry.{FitsFile, FitsMark, FitsMoment, FitsName, mark_said}
 use Rattle.keep_entries.specs.Shape.{as_bytes, as_moment, as_name, bytes_of_text, file_in, has_members, kind_named, list_of, mark_at, mark_in, moment_in, name_of_text, stored_in}
 use Rattle.keep_entries.specs.Spelling.{file_data, mark_data, name_data, name_text}
 use Rattle.keep_entries.specs.declared.form.Form.{Form}
@@ -208,7 +208,7 @@ file_is d file r h =
 
 -- the value is the mark's, which fits and of which the form tells all
 abbrev pub IsMark : Form → Data → PackMark → Type 0
-IsMark form d m = (d ≡ mark_data form m) × FitsMark m × (mark_told form m ≡ m)
+IsMark form d m = (d ≡ mark_data form m) × FitsMark m × (mark_said form m ≡ m)
 
 mark_with_moment : (d : Data) (m : PackMark) → IsReadable d → mark_in Moments d ≡ Some m → IsMark Moments d m
 mark_with_moment d m r h =

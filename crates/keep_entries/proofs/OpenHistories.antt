@@ -26,7 +26,7 @@ use Rattle.keep_journal.specs.declared.event.Entry.{Entry}
 use Rattle.keep_journal.specs.declared.event.Event.{Event}
 use Rattle.keep_journal.specs.declared.event.EventKind.{EventKind}
 use Rattle.keep_journal.specs.declared.event.EventKind.TheVariants.{Commit, Undo, Redo, Empty}
-use Rattle.keep_entries.specs.Entry.{IsEntry, IsProper, Spells, kind_told}
+use Rattle.keep_entries.specs.Entry.{IsEntry, IsProper, Spells, kind_said}
 use Rattle.keep_entries.specs.Laws.{EventsOfOpenHistoriesAreEntries, HasMarksInOrder}
 use Rattle.keep_entries.specs.Spelling.{entry_text}
 use Rattle.keep_entries.specs.declared.form.Form.TheVariants.{Moments}
@@ -111,7 +111,7 @@ proper opening live j at n (Empty marks) h there (inr order) = order
 -- ---- texts
 
 -- the form in which events are written tells all of them
-kind_whole : (kind : EventKind) → kind_told Moments kind ≡ kind
+kind_whole : (kind : EventKind) → kind_said Moments kind ≡ kind
 kind_whole (Commit c) = ap₂ (λ (sets clears : List PackMark). Commit (record c { sets = sets; clears = clears })) (map-id c.sets) (map-id c.clears)
 kind_whole Undo = refl
 kind_whole Redo = refl

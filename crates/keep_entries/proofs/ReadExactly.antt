@@ -23,8 +23,8 @@ use Rattle.keep_change.specs.declared.change.PackMark.{PackMark}
 use Rattle.keep_journal.specs.declared.event.Event.{Event}
 use Rattle.keep_journal.specs.declared.event.EventKind.{EventKind}
 use Rattle.keep_journal.specs.declared.event.EventKind.TheVariants.{Commit, Undo, Redo, Empty}
-use Rattle.keep_entries.specs.Entry.{FilesFit, Fits, FitsFile, FitsKind, FitsMark, FitsName, MarksFit, event_told, kind_told, mark_told}
-use Rattle.keep_entries.specs.Shape.{as_name, change_in, compact_doc, deed_in, deed_named, event_in, file_in, form_in, form_numbered, has_members, list_of, mark_in, members_of, read_of, told_in}
+use Rattle.keep_entries.specs.Entry.{FilesFit, Fits, FitsFile, FitsKind, FitsMark, FitsName, MarksFit, event_said, kind_said, mark_said}
+use Rattle.keep_entries.specs.Shape.{as_name, change_in, compact_doc, deed_in, deed_named, event_in, file_in, form_in, form_numbered, has_members, list_of, mark_in, members_of, read_of, said_in}
 use Rattle.keep_entries.specs.Spelling.{commit_data, empty_data, event_data, file_data, files_data, form_number, kind_data, mark_data, marks_data, name_data, names_data, text_in, turn_data}
 use Rattle.keep_entries.specs.declared.form.Form.{Form}
 use Rattle.keep_entries.specs.declared.form.Form.TheVariants.{Packs, Moments}
@@ -55,8 +55,8 @@ module _ (d : Data) (r : IsReadable d) where
   packs_at = plain_at as_id id_data IsDigest (λ x i _ e. id_is x i e)
 
   marks_at : (form : Form) (key : List ℕ) (marks : List PackMark) → list_of (mark_in form) key d ≡ Some marks
-      → (get key d ≡ Some (marks_data form marks)) × AllByRecursion FitsMark marks × (map (mark_told form) marks ≡ marks)
-  marks_at form key marks h = list_at (mark_in form) (mark_data form) FitsMark (mark_told form) (mark_is form) key d marks r h
+      → (get key d ≡ Some (marks_data form marks)) × AllByRecursion FitsMark marks × (map (mark_said form) marks ≡ marks)
+  marks_at form key marks h = list_at (mark_in form) (mark_data form) FitsMark (mark_said form) (mark_is form) key d marks r h
 
 -- the value has the change's lists, which fit and of which the form tells all
 record IsChangeOf (form : Form) (d : Data) (c : Change) : Type 0 where
@@ -134,11 +134,11 @@ record HasHead (form : Form) (d : Data) (word : List ℕ) (n : ℕ) : Type 0 whe
 
 -- the value is the event's, which fits and of which the form tells all
 abbrev IsEvent : Form → Data → Event → Type 0
-IsEvent form d event = (d ≡ event_data form event) × Fits event × (event_told form event ≡ event)
+IsEvent form d event = (d ≡ event_data form event) × Fits event × (event_said form event ≡ event)
 
 -- the value is of an event of this number that did this, which fits and of which the form tells all
 abbrev IsDeed : Form → Data → ℕ → EventKind → Type 0
-IsDeed form d n kind = (d ≡ kind_data form n kind) × FitsKind kind × (kind_told form kind ≡ kind)
+IsDeed form d n kind = (d ≡ kind_data form n kind) × FitsKind kind × (kind_said form kind ≡ kind)
 
 module _ (form : Form) (d : Data) (n : ℕ) (r : IsReadable d) where
   commit_is : (kind : EventKind) → HasHead form d (codes "commit") n → has_members 12 d ≡ true → option_map Commit (change_in form d) ≡ Some kind → IsDeed form d n kind
@@ -162,7 +162,7 @@ module _ (form : Form) (d : Data) (n : ℕ) (r : IsReadable d) where
       subst (λ (k : EventKind). IsDeed form d n k) marks.2 (whole, are.1, ap Empty are.2)
 
   -- an undo or a redo
-  turn_is : (turn kind : EventKind) (word : List ℕ) → kind_data form n turn ≡ turn_data form word n → FitsKind turn → kind_told form turn ≡ turn
+  turn_is : (turn kind : EventKind) (word : List ℕ) → kind_data form n turn ≡ turn_data form word n → FitsKind turn → kind_said form turn ≡ turn
       → HasHead form d word n → has_members 3 d ≡ true → Some turn ≡ Some kind → IsDeed form d n kind
   turn_is turn kind word text fits told head size h =
       let same : turn ≡ kind = cc in
@@ -225,7 +225,7 @@ form_is d form r h =
     let is = at_key as_whole (λ k. number (unsigned k)) (λ _. Unit {0}) (λ x k _ e. (whole_is x k e, tt)) (codes "form") d n.0 r n.1 in
     is.0 ∙ ap (λ (k : ℕ). Some (number (unsigned k))) (form_by (n.0 == 1) (n.0 == 2) n.0 form refl refl n.2)
 
-told_is : (d : Data) (form : Form) (event : Event) → IsReadable d → told_in d ≡ Some (form, event) → IsEvent form d event
+told_is : (d : Data) (form : Form) (event : Event) → IsReadable d → said_in d ≡ Some (form, event) → IsEvent form d event
 told_is d form event r h =
     let found = then_parts (form_in d) _ (form, event) h in
     let told = then_parts (event_in found.0 d) _ (form, event) found.2 in
@@ -235,9 +235,9 @@ told_is d form event r h =
 
 -- what bytes are read as fits, they are its text, and the form tells all of it
 pub read_is : (bytes : List ℕ) (form : Form) (event : Event) → read_of bytes ≡ Some (form, event)
-    → Fits event × (bytes ≡ text_in form event) × (event_told form event ≡ event)
+    → Fits event × (bytes ≡ text_in form event) × (event_said form event ≡ event)
 read_is bytes form event h =
-    let compact = then_parts (compact_doc bytes) told_in (form, event) h in
+    let compact = then_parts (compact_doc bytes) said_in (form, event) h in
     let found = then_parts (result_ok (doc_of bytes)) _ compact.0 compact.1 in
     let text = passed (bytes_eq bytes (compact_text found.0)) found.0 compact.0 found.2 in
     let readable = (document-doc_of bytes found.0 (ok_is (doc_of bytes) found.0 found.1)).0 in

@@ -26,8 +26,8 @@ use Rattle.keep_change.specs.declared.change.PackMark.{PackMark}
 use Rattle.keep_journal.specs.declared.event.Event.{Event}
 use Rattle.keep_journal.specs.declared.event.EventKind.{EventKind}
 use Rattle.keep_journal.specs.declared.event.EventKind.TheVariants.{Commit, Undo, Redo, Empty}
-use Rattle.keep_entries.specs.Entry.{FilesFit, Fits, FitsFile, FitsKind, FitsMark, FitsMoment, FitsName, MarksFit, event_told, kind_told, mark_told}
-use Rattle.keep_entries.specs.Shape.{as_name, change_in, compact_doc, event_in, file_in, form_in, form_numbered, mark_in, name_of_text, read_of, told_in}
+use Rattle.keep_entries.specs.Entry.{FilesFit, Fits, FitsFile, FitsKind, FitsMark, FitsMoment, FitsName, MarksFit, event_said, kind_said, mark_said}
+use Rattle.keep_entries.specs.Shape.{as_name, change_in, compact_doc, event_in, file_in, form_in, form_numbered, mark_in, name_of_text, read_of, said_in}
 use Rattle.keep_entries.specs.Spelling.{commit_data, event_data, file_data, form_number, kind_data, mark_data, name_data, text_in}
 use Rattle.keep_entries.specs.declared.form.Form.{Form}
 use Rattle.keep_entries.specs.declared.form.Form.TheVariants.{Packs, Moments}
@@ -66,7 +66,7 @@ moment_back : (z : ℤ) → FitsMoment z → as_i64 (of_integer z) ≡ Some z
 moment_back (pos n) h = rw (lt-ltb n (2 ^ 63) h)
 moment_back (negsuc n) h = refl
 
-mark_back : (form : Form) (m : PackMark) → FitsMark m → mark_in form (mark_data form m) ≡ Some (mark_told form m)
+mark_back : (form : Form) (m : PackMark) → FitsMark m → mark_in form (mark_data form m) ≡ Some (mark_said form m)
 mark_back Packs m h = rw (as_id-id_data m.pack h.0)
 mark_back Moments m h = rw (as_id-id_data m.pack h.0, moment_back m.mark.moment h.1)
 
@@ -82,12 +82,12 @@ packs_back : (packs : List Id) → AllByRecursion IsDigest packs → each as_id 
 packs_back = list_back IsDigest as_id id_data as_id-id_data
 
 marks_back : (form : Form) (marks : List PackMark) → AllByRecursion FitsMark marks
-    → each (mark_in form) (values_of (items_of (map (mark_data form) marks))) ≡ Some (map (mark_told form) marks)
-marks_back form = told_back FitsMark (mark_in form) (mark_data form) (mark_told form) (mark_back form)
+    → each (mark_in form) (values_of (items_of (map (mark_data form) marks))) ≡ Some (map (mark_said form) marks)
+marks_back form = told_back FitsMark (mark_in form) (mark_data form) (mark_said form) (mark_back form)
 
 -- what the form tells of a change
 abbrev pub change_told : Form → Change → Change
-change_told form c = record c { sets = map (mark_told form) c.sets; clears = map (mark_told form) c.clears }
+change_told form c = record c { sets = map (mark_said form) c.sets; clears = map (mark_said form) c.clears }
 
 change_back : (form : Form) (n : ℕ) (c : Change) → FilesFit c → MarksFit c → change_in form (commit_data form n c) ≡ Some (change_told form c)
 change_back form n c files marks =
@@ -109,7 +109,7 @@ numbered n told = do
   Some (record { number = n; kind = kind })
 
 deed_back : (form : Form) (n : ℕ) (kind : EventKind) → FitsKind kind
-    → event_in form (kind_data form n kind) ≡ Some (record { number = n; kind = kind_told form kind })
+    → event_in form (kind_data form n kind) ≡ Some (record { number = n; kind = kind_said form kind })
 deed_back form n (Commit c) h =
     ap (λ (o : Option Change). numbered n (option_map Commit o)) (change_back form n c h.0 h.1)
 deed_back form n Undo h = refl
@@ -117,7 +117,7 @@ deed_back form n Redo h = refl
 deed_back form n (Empty marks) h =
     ap (λ (o : Option (List PackMark)). numbered n (option_map Empty o)) (marks_back form marks h)
 
-event_back : (form : Form) (event : Event) → Fits event → event_in form (event_data form event) ≡ Some (event_told form event)
+event_back : (form : Form) (event : Event) → Fits event → event_in form (event_data form event) ≡ Some (event_said form event)
 event_back form event h = deed_back form event.number event.kind h.kind
 
 form_back : (form : Form) → form_numbered (form_number form) ≡ Some form
@@ -133,7 +133,7 @@ form_of_kind form n (Empty marks) = form_back form
 form_found : (form : Form) (event : Event) → form_in (event_data form event) ≡ Some form
 form_found form event = form_of_kind form event.number event.kind
 
-both_told : (d : Data) (form : Form) (event : Event) → form_in d ≡ Some form → event_in form d ≡ Some event → told_in d ≡ Some (form, event)
+both_told : (d : Data) (form : Form) (event : Event) → form_in d ≡ Some form → event_in form d ≡ Some event → said_in d ≡ Some (form, event)
 both_told d form event is_form is_event = rw (is_form, is_event)
 
 -- a value is found again in its text
@@ -141,8 +141,8 @@ compact_back : (d : Data) → doc_of (compact_text d) ≡ Ok d → compact_doc (
 compact_back d document = rw (document, (bytes_eq-Decides (compact_text d) (compact_text d)).1 refl)
 
 -- all that the form tells of an event is read of its text
-pub read_back : (form : Form) (event : Event) → Fits event → read_of (text_in form event) ≡ Some (form, event_told form event)
+pub read_back : (form : Form) (event : Event) → Fits event → read_of (text_in form event) ≡ Some (form, event_said form event)
 read_back form event h =
     let document = doc_of-compact_text (event_data form event) (readable_event form event h) (depth-event form event) in
-    ap (option_and_then told_in) (compact_back (event_data form event) document)
-    ∙ both_told (event_data form event) form (event_told form event) (form_found form event) (event_back form event h)
+    ap (option_and_then said_in) (compact_back (event_data form event) document)
+    ∙ both_told (event_data form event) form (event_said form event) (form_found form event) (event_back form event h)

@@ -1,7 +1,7 @@
 -- What bytes spell, and that they spell nothing else.
 use Rattle.std.proofs.Common.{◌≡◌, ◌≢◌, ℕ, List, None, Some, sym, ap, subst, ◌∙◌}
 use Rattle.keep_journal.specs.declared.event.Event.{Event}
-use Rattle.keep_entries.specs.Entry.{Fits, IsEntry, Spells, TellsNothing, event_told}
+use Rattle.keep_entries.specs.Entry.{Fits, IsEntry, Spells, SaysNothing, event_said}
 use Rattle.keep_entries.specs.Laws.{FormsDiffer, OneEventIsSpelled}
 use Rattle.keep_entries.specs.Shape.{read_of}
 use Rattle.keep_entries.specs.Spelling.{text_in}
@@ -28,18 +28,18 @@ one_event bytes a b fits_a fits_b spells_a spells_b =
 pub forms_differ : FormsDiffer
 forms_differ a b fits_a fits_b same =
     let both = sym (read_back Packs a fits_a) ∙ ap read_of same ∙ read_back Moments b fits_b in
-    let one : Packs ≡ Moments = (pair_same (Packs, event_told Packs a) (Moments, event_told Moments b) both).0 in
+    let one : Packs ≡ Moments = (pair_same (Packs, event_said Packs a) (Moments, event_said Moments b) both).0 in
     cc
 
 -- bytes of which nothing is read spell nothing
-pub nothing_read : (k : ℕ) (bytes : List ℕ) → read_of bytes ≡ None → TellsNothing k bytes
+pub nothing_read : (k : ℕ) (bytes : List ℕ) → read_of bytes ≡ None → SaysNothing k bytes
 nothing_read k bytes none event is s =
     let found = sym none ∙ spelled_reads bytes event is.fits s in
     cc
 
 -- and where something is read, they spell nothing else
 pub nothing_else : (k : ℕ) (bytes : List ℕ) (form : Form) (event : Event) → read_of bytes ≡ Some (form, event)
-    → (IsEntry (record { at = k; event = event }) → bytes ≢ text_in form event) → TellsNothing k bytes
+    → (IsEntry (record { at = k; event = event }) → bytes ≢ text_in form event) → SaysNothing k bytes
 nothing_else k bytes form event found apart other is s =
     let same = pair_same (s.0, other) (form, event) (sym (spelled_reads bytes other is.fits s) ∙ found) in
     let entry = subst (λ (e : Event). IsEntry (record { at = k; event = e })) same.1 is in

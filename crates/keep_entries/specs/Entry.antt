@@ -84,27 +84,27 @@ pub record IsEntry (e : Entry) : Type 0 where
 -- ---- which bytes spell them
 
 -- what a form tells of a mark: where it has no moments, they are 0
-abbrev pub mark_told : Form → PackMark → PackMark
-mark_told Packs m = mark_at m.pack (pos 0)
-mark_told Moments m = m
+abbrev pub mark_said : Form → PackMark → PackMark
+mark_said Packs m = mark_at m.pack (pos 0)
+mark_said Moments m = m
 
 -- what a form tells of what an event did
-abbrev pub kind_told : Form → EventKind → EventKind
-kind_told form (Commit c) =
-    Commit (record c { sets = map (mark_told form) c.sets; clears = map (mark_told form) c.clears })
-kind_told form Undo = Undo
-kind_told form Redo = Redo
-kind_told form (Empty marks) = Empty (map (mark_told form) marks)
+abbrev pub kind_said : Form → EventKind → EventKind
+kind_said form (Commit c) =
+    Commit (record c { sets = map (mark_said form) c.sets; clears = map (mark_said form) c.clears })
+kind_said form Undo = Undo
+kind_said form Redo = Redo
+kind_said form (Empty marks) = Empty (map (mark_said form) marks)
 
 -- and of the event
-abbrev pub event_told : Form → Event → Event
-event_told form event = record event { kind = kind_told form event.kind }
+abbrev pub event_said : Form → Event → Event
+event_said form event = record event { kind = kind_said form event.kind }
 
 -- the bytes are the event's text in one of the forms, which tells all of it
 abbrev pub Spells : List ℕ → Event → Type 0
-Spells bytes event = (form : Form) × (bytes ≡ text_in form event) × (event_told form event ≡ event)
+Spells bytes event = (form : Form) × (bytes ≡ text_in form event) × (event_said form event ≡ event)
 
 -- the bytes spell no entry of this number
-abbrev pub TellsNothing : ℕ → List ℕ → Type 0
-TellsNothing k bytes =
+abbrev pub SaysNothing : ℕ → List ℕ → Type 0
+SaysNothing k bytes =
     (event : Event) → IsEntry (record { at = k; event = event }) → Spells bytes event → ⊥

@@ -186,8 +186,8 @@ form_in d = do
   form_numbered n
 
 -- a form, and an event of it
-abbrev pub told_in : Data → Option (Form × Event)
-told_in d = do
+abbrev pub said_in : Data → Option (Form × Event)
+said_in d = do
   form ← form_in d
   event ← event_in form d
   Some (form, event)
@@ -200,4 +200,4 @@ compact_doc bytes = do
 
 -- what the bytes of an entry are read as
 abbrev pub read_of : List ℕ → Option (Form × Event)
-read_of bytes = option_and_then told_in (compact_doc bytes)
+read_of bytes = option_and_then said_in (compact_doc bytes)

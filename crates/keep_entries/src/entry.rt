@@ -1,5 +1,5 @@
 ghost use Rattle.std.specs.Prelude.{◌≡◌, ◌≢◌, IfOk, IfErr};
-ghost use Rattle.keep_entries.specs.Entry.{Fits, IsEntry, Spells, TellsNothing};
+ghost use Rattle.keep_entries.specs.Entry.{Fits, IsEntry, Spells, SaysNothing};
 ghost use Rattle.keep_entries.specs.Spelling.{entry_text};
 ghost use Rattle.keep_entries.specs.declared.entry_error.EntryError.TheVariants.{BadEntry, Memory};
 ghost use Rattle.keep_entries.specs.declared.misread.Misread.TheVariants as misread;
@@ -29,7 +29,7 @@ pub fn read_entry(alloc: Global, k: u64, bytes: &[u8]) -> Result<Entry, EntryErr
     ensures entry { IfOk result IsEntry }
     ensures spelled { IfOk result (λ entry. Spells bytes.now entry.event) }
     ensures bad { IfErr result (λ why. why ≢ Memory → why ≡ BadEntry k) }
-    ensures nothing { IfErr result (λ why. why ≢ Memory → TellsNothing k bytes.now) }
+    ensures nothing { IfErr result (λ why. why ≢ Memory → SaysNothing k bytes.now) }
 {
     match event_of(alloc, k, bytes) {
         Ok(event) => Ok(Entry { at: k, event }),
@@ -42,7 +42,7 @@ pub fn read_entry(alloc: Global, k: u64, bytes: &[u8]) -> Result<Entry, EntryErr
 fn event_of(alloc: Global, k: u64, bytes: &[u8]) -> Result<Event, Misread>
     ensures entry { IfOk result (λ event. IsEntry (record { at = k; event = event })) }
     ensures spelled { IfOk result (λ event. Spells bytes.now event) }
-    ensures nothing { IfErr result (λ why. why ≢ misread.Memory → TellsNothing k bytes.now) }
+    ensures nothing { IfErr result (λ why. why ≢ misread.Memory → SaysNothing k bytes.now) }
 {
     if k == 0 {
         return Err(Misread::OtherShape);

@@ -24,7 +24,7 @@ pub(crate) fn read_in(alloc: Global, bytes: &[u8]) -> Result<Event, Misread>
         (ok_or (option_map (λ told. told.1) (spec.read_of bytes.now)) OtherShape) result }
 {
     let value = compact_doc(alloc, bytes)?;
-    told_in(alloc, &value)
+    said_in(alloc, &value)
 }
 
 /// The value whose text without spaces the bytes are.
@@ -39,9 +39,9 @@ fn compact_doc(alloc: Global, bytes: &[u8]) -> Result<Value, Misread>
 }
 
 /// The event that a document says, in the form that it says.
-fn told_in(alloc: Global, value: &Value) -> Result<Event, Misread>
+fn said_in(alloc: Global, value: &Value) -> Result<Event, Misread>
     ensures { Answers Memory (λ event. event)
-        (ok_or (option_map (λ told. told.1) (spec.told_in (view value.now))) OtherShape) result }
+        (ok_or (option_map (λ told. told.1) (spec.said_in (view value.now))) OtherShape) result }
 {
     let form = form_in(value)?;
     event_in(alloc, form, value)

@@ -1,5 +1,5 @@
 ghost use Rattle.std.specs.Prelude.{◌≡◌, ◌≢◌, IfOk, IfErr, IfSome};
-ghost use Rattle.keep_entries.specs.Entry.{IsEntry, Spells, TellsNothing};
+ghost use Rattle.keep_entries.specs.Entry.{IsEntry, Spells, SaysNothing};
 ghost use Rattle.keep_entries.specs.declared.entry_error.EntryError.TheVariants.{BadEntry, Memory};
 
 use crate::checks::is_proper;
@@ -32,7 +32,7 @@ pub fn read_entry_with<H: Hashing>(
     ensures entry { IfOk result IsEntry }
     ensures spelled { IfOk result (λ entry. Spells rope.now entry.event) }
     ensures bad { IfErr result (λ why. why ≢ Memory → why ≡ BadEntry k) }
-    ensures nothing { IfErr result (λ why. why ≢ Memory → TellsNothing k rope.now) }
+    ensures nothing { IfErr result (λ why. why ≢ Memory → SaysNothing k rope.now) }
 {
     let found = held_entry(alloc, held, hashing, k, rope)?;
     match found {

@@ -2,7 +2,7 @@ use crate::facets::facets;
 use crate::held::is_read_alike;
 use crate::mixing::{cuts, mixed};
 use crate::no_entry::No;
-use crate::told_entry::tell;
+use crate::printed_entry::print_entry;
 use keep_entries::{read_entry, write_entry};
 use keep_journal::Entry;
 use keep_names::decode_hex;
@@ -43,7 +43,7 @@ fn answer_bytes(alloc: Global, word: &str, number: &str, bytes: &[u8]) -> Result
         return Err(No::Case);
     };
     match word {
-        "entry" => told(alloc, number, bytes),
+        "entry" => said(alloc, number, bytes),
         "again" => written(alloc, number, bytes),
         "cuts" => cuts(alloc, number, bytes),
         "mixed" => mixed(alloc, number, bytes),
@@ -53,9 +53,9 @@ fn answer_bytes(alloc: Global, word: &str, number: &str, bytes: &[u8]) -> Result
 }
 
 /// What an entry says, and whether it is written so.
-fn told(alloc: Global, number: u64, bytes: &[u8]) -> Result<String, No> {
+fn said(alloc: Global, number: u64, bytes: &[u8]) -> Result<String, No> {
     let entry = read_entry(alloc, number, bytes)?;
-    let mut told = tell(alloc, &entry)?;
+    let mut told = print_entry(alloc, &entry)?;
     let is_same = is_same(alloc, &entry, bytes)?;
     told.push_str(if is_same { " same" } else { " anew" })?;
     if !is_read_alike(alloc, &entry, bytes, is_same)? {

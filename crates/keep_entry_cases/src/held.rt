@@ -1,5 +1,5 @@
 use crate::no_entry::No;
-use crate::told_entry::tell;
+use crate::printed_entry::print_entry;
 use keep_change::{Change, StoredFile};
 use keep_entries::{read_entry_with, write_entry};
 use keep_hashing::{Hashing, OneByOne};
@@ -45,8 +45,8 @@ pub(crate) fn is_read_alike(
     let mut hashing = CountedHashing { batches: 0 };
     let text = Rope::cut(alloc, bytes, &held)?;
     let again = read_entry_with(alloc, &held, &mut hashing, entry.at, &text)?;
-    let told = tell(alloc, entry)?;
-    let told_again = tell(alloc, &again)?;
+    let told = print_entry(alloc, entry)?;
+    let told_again = print_entry(alloc, &again)?;
     let is_hashed_so = !is_written_so || hashing.batches == batches;
     let is_cut_so = !is_written_so || write_entry(alloc, entry)?.has_pieces_of(&text);
     let is_kept = text.bytes(alloc)?.as_slice() == bytes;

@@ -6,7 +6,7 @@ mod facets;
 mod held;
 mod mixing;
 mod no_entry;
-mod told_entry;
+mod printed_entry;
 
 use std::io;
 

@@ -17,7 +17,7 @@ pub(crate) fn refusal_of(error: &io::Error) -> TargetError {
 }
 
 /// A call that is done or refused.
-pub(crate) fn told(done: io::Result<()>) -> Result<(), TargetError> {
+pub(crate) fn done_or_why(done: io::Result<()>) -> Result<(), TargetError> {
     match done {
         Ok(()) => Ok(()),
         Err(error) => Err(refusal_of(&error)),

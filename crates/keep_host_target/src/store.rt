@@ -1,4 +1,4 @@
-use crate::refusals::{refusal_of, told};
+use crate::refusals::{done_or_why, refusal_of};
 use keep_noted_target::Store;
 use keep_targets::{Instant, Owner, Short, TargetError, Times};
 use std::alloc::{AllocError, Global};
@@ -118,11 +118,11 @@ impl<R: Files<File = File> + Alloc<A = Global> + Clone + Drop> HostStore<R> {
 
 impl<R: Files<File = File> + Alloc<A = Global> + Clone + Drop> Store for HostStore<R> {
     fn make_folder(&mut self, path: &str) -> Result<(), TargetError> {
-        told(self.try_make_folder(path))
+        done_or_why(self.try_make_folder(path))
     }
 
     fn make_file(&mut self, path: &str) -> Result<(), TargetError> {
-        told(self.try_make_file(path))
+        done_or_why(self.try_make_file(path))
     }
 
     fn append(&mut self, path: &str, bytes: &[u8]) -> Result<(), Short> {
@@ -136,23 +136,23 @@ impl<R: Files<File = File> + Alloc<A = Global> + Clone + Drop> Store for HostSto
     }
 
     fn make_link(&mut self, path: &str, to: &str) -> Result<(), TargetError> {
-        told(self.try_make_link(path, to))
+        done_or_why(self.try_make_link(path, to))
     }
 
     fn set_owner(&mut self, path: &str, owner: Owner) -> Result<(), TargetError> {
-        told(self.try_set_owner(path, owner))
+        done_or_why(self.try_set_owner(path, owner))
     }
 
     fn set_link_owner(&mut self, path: &str, owner: Owner) -> Result<(), TargetError> {
-        told(self.try_set_owner(path, owner))
+        done_or_why(self.try_set_owner(path, owner))
     }
 
     fn set_mode(&mut self, path: &str, mode: u32) -> Result<(), TargetError> {
-        told(self.try_set_mode(path, mode))
+        done_or_why(self.try_set_mode(path, mode))
     }
 
     fn set_times(&mut self, path: &str, times: Times) -> Result<(), TargetError> {
-        told(self.try_set_times(path, times))
+        done_or_why(self.try_set_times(path, times))
     }
 }
 

@@ -9,7 +9,7 @@ mod crew_run;
 mod operators;
 
 use crate::operators::Operators;
-use keep_command::{BadOptions, Crew, Ending, HostShelves, keepd, tell};
+use keep_command::{BadOptions, Crew, Ending, HostShelves, keepd, report_ending};
 use keep_hashing::Hashing;
 use keep_streams::fill_streams;
 use keep_threads::Processors;
@@ -49,7 +49,7 @@ fn serve<'a, H: Hashing + Copy, C: Crew>(
 fn exit_code<E: Write>(ending: Ending<'_>, errors: &mut E) -> ExitCode
     ensures { exit_status result ≡ code_of ending.entry }
 {
-    let (code, _) = tell(ending, errors);
+    let (code, _) = report_ending(ending, errors);
     ExitCode::from(code)
 }
 

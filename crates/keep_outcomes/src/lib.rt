@@ -8,9 +8,9 @@ mod pruned;
 mod shown_change;
 mod taken;
 
-pub use made_text::tell_made;
-pub use outcome::tell_outcome;
+pub use made_text::print_effects;
+pub use outcome::print_outcome;
 pub use printed_parts::Way;
-pub use pruned::tell_pruned;
+pub use pruned::print_pruned;
 pub use shown_change::show;
-pub use taken::tell_taken;
+pub use taken::print_taken;

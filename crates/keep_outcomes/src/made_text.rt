@@ -5,7 +5,12 @@ use keep_ledger::Refusal;
 use keep_run::{Failure, Run, refused};
 
 /// Prints what an event did to files and marks.
-pub fn tell_made(run: &Run<'_>, history: &History, made: Made, way: Way) -> Result<(), Failure> {
+pub fn print_effects(
+    run: &Run<'_>,
+    history: &History,
+    made: Made,
+    way: Way,
+) -> Result<(), Failure> {
     if run.is_json {
         print_made(run, history, made, way)?;
         run.print(b"\n")?;

@@ -1,5 +1,5 @@
 use crate::made_text::{print_made, settled};
-use crate::outcome::tell_outcome;
+use crate::outcome::print_outcome;
 use crate::printed_parts::Way;
 use keep_acts::{Made, NotDone, Outcome, Pruned};
 use keep_journal::History;
@@ -7,18 +7,18 @@ use keep_run::{Failure, Run};
 
 /// Prints what came of a prune: of the mark where there was something to mark, and of the sweep where it followed. As JSON
 /// it is a list of what was made.
-pub fn tell_pruned(run: &Run<'_>, history: &History, pruned: Pruned) -> Result<(), Failure> {
+pub fn print_pruned(run: &Run<'_>, history: &History, pruned: Pruned) -> Result<(), Failure> {
     if run.is_json {
         return list_pruned(run, history, pruned);
     }
     let Pruned { mark, sweep } = pruned;
     let Some(sweep) = sweep else {
-        return tell_outcome(run, history, mark);
+        return print_outcome(run, history, mark);
     };
     if let Ok(mark) = mark {
-        tell_outcome(run, history, Ok(mark))?;
+        print_outcome(run, history, Ok(mark))?;
     }
-    tell_outcome(run, history, sweep)
+    print_outcome(run, history, sweep)
 }
 
 fn list_pruned(run: &Run<'_>, history: &History, pruned: Pruned) -> Result<(), Failure> {
@@ -35,7 +35,7 @@ fn list_pruned(run: &Run<'_>, history: &History, pruned: Pruned) -> Result<(), F
     };
     match last {
         Ok(Outcome::Made(made)) => settled(run, made),
-        last => tell_outcome(run, history, last),
+        last => print_outcome(run, history, last),
     }
 }
 

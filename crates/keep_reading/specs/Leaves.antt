@@ -7,7 +7,7 @@ use Rattle.std.specs.Ordering.{nat_cmp}
 use Rattle.keep_journal.specs.declared.event.Entry as the_entry
 use Rattle.keep_journal.specs.declared.event.Event.{Event}
 use Rattle.keep_shelf.specs.declared.key.Key.TheVariants.{Entry}
-use Rattle.keep_entries.specs.Entry.{IsEntry, Spells, TellsNothing}
+use Rattle.keep_entries.specs.Entry.{IsEntry, Spells, SaysNothing}
 use Rattle.keep_moves.specs.Move.{Stand}
 use Rattle.keep_reading.specs.declared.leaf.Leaf.{Leaf}
 
@@ -18,7 +18,7 @@ leaf_at leaves k = find (λ leaf. leaf.at == k) leaves
 -- the bytes under this number spell the event, or no entry where there is none
 abbrev pub Tells : ℕ → List ℕ → Option Event → Type 0
 Tells k bytes (Some event) = IsEntry (record { at = k; event = event }) × Spells bytes event
-Tells k bytes None = TellsNothing k bytes
+Tells k bytes None = SaysNothing k bytes
 
 -- the leaf says of the bytes what they tell, or there is neither
 abbrev pub IsLeaf : Option (List ℕ) → Option Leaf → Type 0

@@ -50,10 +50,10 @@ pub(crate) fn facts(alloc: Global, text: &str) -> Result<String, No> {
     let name = parse_id(name)?;
     let snap = read_snap(alloc, text.as_bytes())?;
     let facts = keep_snap::facts(alloc, &snap, name)?;
-    told(alloc, &facts)
+    facts_text(alloc, &facts)
 }
 
-fn told(alloc: Global, facts: &SnapFacts) -> Result<String, No> {
+fn facts_text(alloc: Global, facts: &SnapFacts) -> Result<String, No> {
     let paths = listed(alloc, &facts.paths)?;
     let tags = listed(alloc, &facts.tags)?;
     let who = format!(in alloc; "host [{}] user [{}]", facts.host, facts.user)?;

@@ -29,7 +29,7 @@ pub fn rescue_folder(run: &Run<'_>, target: &str) -> Result<(), Failure> {
         }
     };
     match rescue(run.alloc, source, made, fresh.as_str()) {
-        Ok(rescued) => tell_rescued(run, &rescued),
+        Ok(rescued) => print_rescued(run, &rescued),
         Err(error) => Err(not_rescued(run, target, error)),
     }
 }
@@ -73,7 +73,7 @@ fn not_rescued(run: &Run<'_>, target: &str, error: NotRescued) -> Failure {
 }
 
 /// Prints how many files are in the new folder, and what isn't.
-fn tell_rescued<T>(run: &Run<'_>, rescued: &Rescued<T>) -> Result<(), Failure> {
+fn print_rescued<T>(run: &Run<'_>, rescued: &Rescued<T>) -> Result<(), Failure> {
     let left = left_of(run, rescued)?;
     let left = left.as_slice();
     let files = rescued.saved.len() as u64;

@@ -3,7 +3,7 @@ use keep_host_target::{caller, open_target};
 use keep_progress::{CountedTarget, Meter};
 use keep_putting::{Restored, Why};
 use keep_restores::restore;
-use keep_run::{Failure, Left, Run, left_value, meant, patterns_of, tell_left};
+use keep_run::{Failure, Left, Run, left_value, meant, name_left, patterns_of};
 use keep_shelf::Shelf;
 use keep_tables::size;
 use keep_words::Restore;
@@ -43,7 +43,7 @@ pub fn restore_snapshot<S: Shelf>(
     );
     drop(target);
     match came {
-        Ok(restored) => tell_restored(run, &restored),
+        Ok(restored) => print_restored(run, &restored),
         Err(error) => {
             let cause = format!(in run.alloc; "cannot restore to {folder}: {error}")?;
             Err(Failure::Refused(cause))
@@ -52,7 +52,7 @@ pub fn restore_snapshot<S: Shelf>(
 }
 
 /// Prints what was put back, and names what isn't as the snapshot says.
-fn tell_restored(run: &Run<'_>, restored: &Restored) -> Result<(), Failure> {
+fn print_restored(run: &Run<'_>, restored: &Restored) -> Result<(), Failure> {
     let left = left_of(run, restored)?;
     let left = left.as_slice();
     let Restored {
@@ -76,7 +76,7 @@ fn tell_restored(run: &Run<'_>, restored: &Restored) -> Result<(), Failure> {
             "owners": *owners
         })?;
         run.print_value(&value)?;
-        return tell_left(run, left);
+        return name_left(run, left);
     }
     let bytes = size(run.alloc, *bytes)?;
     let text = format!(in run.alloc;
@@ -87,7 +87,7 @@ fn tell_restored(run: &Run<'_>, restored: &Restored) -> Result<(), Failure> {
         let text = format!(in run.alloc; "of another owner than in the snapshot: {owners}\n")?;
         run.print(text.as_bytes())?;
     }
-    tell_left(run, left)
+    name_left(run, left)
 }
 
 /// What isn't as the snapshot says, in words.

@@ -67,7 +67,7 @@ impl<T: Drop> From<AllocFailed<T>> for Failure {
 }
 
 /// Says on standard error why the command wasn't done, and answers the exit status.
-pub fn tell(rt: &HostRuntime, failure: Failure) -> u8 {
+pub fn report_failure(rt: &HostRuntime, failure: Failure) -> u8 {
     let code = failure.code();
     let _said = match failure {
         Failure::Unmeant(cause) | Failure::Refused(cause) => eprintln!(rt; "keep: {cause}"),

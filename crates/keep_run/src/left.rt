@@ -11,7 +11,7 @@ pub struct Left {
 }
 
 /// Names each on standard error. There is none where it is done whole.
-pub fn tell_left(run: &Run<'_>, left: &[Left]) -> Result<(), Failure> {
+pub fn name_left(run: &Run<'_>, left: &[Left]) -> Result<(), Failure> {
     for one in left {
         let path = shown(run.alloc, one.path.as_str())?;
         let _said = eprintln!(run.rt; "keep: {path}: {}", one.why);

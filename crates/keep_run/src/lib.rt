@@ -9,8 +9,8 @@ mod printing;
 mod refusing;
 mod run;
 
-pub use failure::{Failure, tell};
-pub use left::{Left, left_value, tell_left};
+pub use failure::{Failure, report_failure};
+pub use left::{Left, left_value, name_left};
 pub use meant_words::{meant, pattern_of, patterns_of};
 pub use printing::{numbers_text, print_rows};
 pub use refusing::{refused, require_told};

@@ -17,7 +17,7 @@ pub fn list_snapshots<S: Shelf>(
     let history = book.ledger().history();
     let shown = snapshot_rows(run.alloc, &view, history, chosen, latest, run.zone)?;
     print_rows(run, shown.rows.as_slice())?;
-    tell_left_out(run, book, shown.unlisted.as_slice())
+    print_left_out(run, book, shown.unlisted.as_slice())
 }
 
 /// `keep ls`
@@ -67,18 +67,18 @@ pub fn find<S: Shelf>(run: &Run<'_>, book: &Book<S>, pattern: &str) -> Result<()
     let view = book.ledger().view();
     let found = found_rows(run.alloc, &view, book.ledger().history(), &pattern)?;
     print_rows(run, found.rows.as_slice())?;
-    tell_left_out(run, book, found.unlisted.as_slice())
+    print_left_out(run, book, found.unlisted.as_slice())
 }
 
 /// Names the snapshots that can't be read on standard error, and those whose trees can't be listed.
-fn tell_left_out<S: Shelf>(
+fn print_left_out<S: Shelf>(
     run: &Run<'_>,
     book: &Book<S>,
     unlisted: &[Unlisted],
 ) -> Result<(), Failure> {
     let unread = unread_snapshots(run, book)?;
-    tell_unlisted(run, unread.as_slice());
-    tell_unlisted(run, unlisted);
+    print_unlisted(run, unread.as_slice());
+    print_unlisted(run, unlisted);
     if unread.is_empty() && unlisted.is_empty() {
         Ok(())
     } else {
@@ -86,7 +86,7 @@ fn tell_left_out<S: Shelf>(
     }
 }
 
-fn tell_unlisted(run: &Run<'_>, unlisted: &[Unlisted]) {
+fn print_unlisted(run: &Run<'_>, unlisted: &[Unlisted]) {
     for one in unlisted {
         let _said = eprintln!(run.rt; "keep: {one}");
     }

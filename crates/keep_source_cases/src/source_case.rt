@@ -24,10 +24,10 @@ pub(crate) fn answer(alloc: Global, line: &str) -> Result<String, No> {
         return Ok(String::from_str(alloc, line)?);
     }
     let case = read_case(alloc, line)?;
-    taken(alloc, case)
+    walked(alloc, case)
 }
 
-fn taken(alloc: Global, case: Case) -> Result<String, No> {
+fn walked(alloc: Global, case: Case) -> Result<String, No> {
     let Case { entries, job, held } = case;
     let source = MemorySource::new(alloc, entries);
     let mut taking = Taking::new(alloc, source, Events::new(alloc, held))?;

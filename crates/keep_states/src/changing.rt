@@ -20,7 +20,7 @@ pub(crate) fn answer(
     match verb {
         "commit" => commit(state, out)?,
         "outline" => show_outline(state.alloc, &state.held.change, rest, out)?,
-        _ => return Ok(tell(&state.held.change, state.ground.live(), verb, out)?),
+        _ => return Ok(print_effect(&state.held.change, state.ground.live(), verb, out)?),
     }
     Ok(true)
 }
@@ -32,18 +32,23 @@ fn commit(state: &mut State, out: &mut String) -> Result<(), Stop> {
 }
 
 /// Tells what the verb asks of the change where the repository is this, if it asks anything.
-fn tell(change: &Change, repo: &Repo, verb: &str, out: &mut String) -> Result<bool, AllocError> {
+fn print_effect(
+    change: &Change,
+    repo: &Repo,
+    verb: &str,
+    out: &mut String,
+) -> Result<bool, AllocError> {
     match verb {
         "well-formed" => writeln!(out, "well-formed {}", yes(change.well_formed()))?,
         "facets" => writeln!(out, "facets {}", change.facet_count())?,
-        "meets" => tell_met(change, repo, out)?,
+        "meets" => print_met(change, repo, out)?,
         "turn" => turn(change, repo, out)?,
         _ => return Ok(false),
     }
     Ok(true)
 }
 
-fn tell_met(change: &Change, repo: &Repo, out: &mut String) -> Result<(), AllocError> {
+fn print_met(change: &Change, repo: &Repo, out: &mut String) -> Result<(), AllocError> {
     match change.meets(repo) {
         Ok(()) => writeln!(out, "met"),
         Err(facet) => writeln!(out, "unmet {facet}"),

@@ -27,14 +27,14 @@ pub(crate) fn answer(alloc: Global, line: &str) -> Result<String, NoCase> {
     let mut target = NotedTarget::new(alloc, store, is_new);
     let caller = Owner { uid, gid: uid };
     match put_back(alloc, &mut target, &Source, caller, things.as_slice()) {
-        Ok(restored) => told(alloc, &target.into_store(), &restored),
+        Ok(restored) => outcome_text(alloc, &target.into_store(), &restored),
         Err(PutError::NotEmpty) => Ok(String::from_str(alloc, "not empty")?),
         Err(PutError::Memory) => Err(NoCase),
     }
 }
 
 /// What is there, and then what was told.
-fn told(alloc: Global, store: &MemoryStore, restored: &Restored) -> Result<String, NoCase> {
+fn outcome_text(alloc: Global, store: &MemoryStore, restored: &Restored) -> Result<String, NoCase> {
     let mut text = String::new(alloc);
     for (path, thing) in store.things.iter() {
         write_thing(&mut text, path.as_str(), thing)?;

@@ -8,7 +8,7 @@ use keep_catalog::Hashing;
 use keep_deeds::{Came, NoDeed, deed_of, perform};
 use keep_journal::History;
 use keep_names::Id;
-use keep_outcomes::{Way, tell_made, tell_outcome, tell_pruned, tell_taken};
+use keep_outcomes::{Way, print_effects, print_outcome, print_pruned, print_taken};
 use keep_run::{Failure, Run, meant, numbers_text, refused, require_told};
 use keep_shelf::Shelf;
 use keep_words::{Chosen, Command};
@@ -33,7 +33,7 @@ pub(crate) fn answer<S: Shelf, H: Hashing + Copy>(
             hash_first(run, hashing, book, command);
             let came = perform(run.alloc, book, run.settings(), deed);
             require_told(run, book)?;
-            tell_came(run, book.ledger().history(), command, came)
+            print_came(run, book.ledger().history(), command, came)
         }
         Err(NoDeed::Unnamed) => Err(Failure::unmeant(run.alloc, "name a snapshot")),
         Err(NoDeed::Memory) => Err(Failure::Memory),
@@ -130,7 +130,7 @@ fn confirm<S: Shelf>(run: &Run<'_>, book: &Book<S>, command: &Command<'_>) -> Re
 }
 
 /// Prints what came of what the command asked.
-fn tell_came(
+fn print_came(
     run: &Run<'_>,
     history: &History,
     command: &Command<'_>,
@@ -138,10 +138,10 @@ fn tell_came(
 ) -> Result<(), Failure> {
     let about = about(command);
     match came {
-        Came::Asked(Ok(made)) => tell_made(run, history, made, way_of(command)),
+        Came::Asked(Ok(made)) => print_effects(run, history, made, way_of(command)),
         Came::Asked(Err(refusal)) => Err(refused(run, about, &refusal)),
-        Came::TakenBack(taken) => tell_taken(run, about, &taken),
-        Came::Changed(outcome) => tell_outcome(run, history, outcome),
-        Came::Pruned(pruned) => tell_pruned(run, history, pruned),
+        Came::TakenBack(taken) => print_taken(run, about, &taken),
+        Came::Changed(outcome) => print_outcome(run, history, outcome),
+        Came::Pruned(pruned) => print_pruned(run, history, pruned),
     }
 }

@@ -10,7 +10,7 @@ mod script;
 mod yes_or_no;
 
 use crate::dispatch::keep;
-use keep_run::tell;
+use keep_run::report_failure;
 use keep_streams::fill_streams;
 use keep_threads::Processors;
 use std::process::ExitCode;
@@ -21,6 +21,6 @@ fn main(rt: HostRuntime) -> ExitCode {
     }
     match keep(&rt, Processors::of(&rt)) {
         Ok(()) => ExitCode::SUCCESS,
-        Err(failure) => ExitCode::from(tell(&rt, failure)),
+        Err(failure) => ExitCode::from(report_failure(&rt, failure)),
     }
 }

@@ -1,5 +1,5 @@
 use keep_catalog::Hashing;
-use keep_command::{Ending, HostShelves, NoOperators, keepd, tell};
+use keep_command::{Ending, HostShelves, NoOperators, keepd, report_ending};
 use keep_run::{Failure, Run};
 use keep_tables::utc_time;
 use std::fs::File;
@@ -45,7 +45,7 @@ fn answer<H: Hashing + Copy, R: Read>(
         reader,
         &mut writer,
     );
-    match tell(ending, &mut run.rt.stderr()) {
+    match report_ending(ending, &mut run.rt.stderr()) {
         (0, _) => Ok(()),
         (2, _) => Err(Failure::BadWords),
         _ => Err(Failure::Told),

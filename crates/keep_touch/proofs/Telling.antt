@@ -12,7 +12,7 @@ use Rattle.keep_change.proofs.Records.{RecordAt, a_record, no_record, record_at}
 use Rattle.keep_journal.specs.History.{change_of, committed, CountsFrom, IsNumbered}
 use Rattle.keep_journal.specs.Journal.{Journal}
 use Rattle.keep_journal.specs.Kept.{is_kept, kept_change, later}
-use Rattle.keep_touch.specs.Finding.{first_writer, told_by}
+use Rattle.keep_touch.specs.Finding.{first_writer, held_before}
 use Rattle.keep_touch.proofs.Picking.{all_weaker}
 
 -- ---- each later change is found by its number
@@ -42,16 +42,16 @@ later_known j n numbered = all_weaker (λ m found. known m (and_parts (is_kept j
 -- ---- the first writer tells
 
 told : (j : Journal) (ns : List Numbered) (end : Holding) (q : Facet) → AllByRecursion (λ m. kept_change j m.number ≡ Some m.change) ns
-    → value_at ns end q ≡ told_by j (first_writer q ns) end q
+    → value_at ns end q ≡ held_before j (first_writer q ns) end q
 told j [] end q known = refl
 told j (n ∷ ns) end q known = one (writes n.change q) refl (record_at (written n.change) q) (told j ns end q known.1)
   where
-    one : (b : Bool) → writes n.change q ≡ b → RecordAt (written n.change) q → value_at ns end q ≡ told_by j (first_writer q ns) end q
-        → value_at (n ∷ ns) end q ≡ told_by j (option_map (λ m. m.number) (cond b (Some n) (find (λ m. writes m.change q) ns))) end q
+    one : (b : Bool) → writes n.change q ≡ b → RecordAt (written n.change) q → value_at ns end q ≡ held_before j (first_writer q ns) end q
+        → value_at (n ∷ ns) end q ≡ held_before j (option_map (λ m. m.number) (cond b (Some n) (find (λ m. writes m.change q) ns))) end q
     one true here (no_record none apart) rest = cc (here, apart)
     one true here (a_record w found same at) rest = rw (known.0, found) refl
     one false other (no_record none apart) rest = rw none rest
     one false other (a_record w found same at) rest = cc (other, same)
 
-pub value_told : (j : Journal) (n : ℕ) (end : Holding) (q : Facet) → IsNumbered j → value_at (later j n) end q ≡ told_by j (first_writer q (later j n)) end q
+pub value_told : (j : Journal) (n : ℕ) (end : Holding) (q : Facet) → IsNumbered j → value_at (later j n) end q ≡ held_before j (first_writer q (later j n)) end q
 value_told j n end q numbered = told j (later j n) end q (later_known j n numbered)

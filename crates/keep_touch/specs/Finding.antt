@@ -38,9 +38,9 @@ abbrev pub last_writer : Facet → List Numbered → Option ℕ
 last_writer facet ns = first_writer facet (reverse ns)
 
 -- what the facet held before its first writer, where there is one: what that asked for; and else what it holds in the end
-abbrev pub told_by : Journal → Option ℕ → Holding → Holding
-told_by j None end facet = end facet
-told_by j (Some n) end facet = option_map_or (λ c. before_of c facet) (kept_change j n) (end facet)
+abbrev pub held_before : Journal → Option ℕ → Holding → Holding
+held_before j None end facet = end facet
+held_before j (Some n) end facet = option_map_or (λ c. before_of c facet) (kept_change j n) (end facet)
 
 -- the lesser number, where there are two
 abbrev pub sooner : Option ℕ → Option ℕ → Option ℕ

@@ -6,7 +6,7 @@ ghost use Rattle.keep_change.specs.Fold.{first_leaning};
 ghost use Rattle.keep_change.specs.Holdings.{value_at};
 ghost use Rattle.keep_journal.specs.History.{IsNumbered};
 ghost use Rattle.keep_journal.specs.Kept.{earlier, later};
-ghost use Rattle.keep_touch.specs.Finding.{first_among, first_toucher, first_writer, in_force, last_writer, sooner, told_by, StandsAlone};
+ghost use Rattle.keep_touch.specs.Finding.{first_among, first_toucher, first_writer, in_force, last_writer, sooner, held_before, StandsAlone};
 ghost use Rattle.keep_touch.specs.Mentions.{is_followed, mentions, AreNoted};
 
 use crate::mention::{Mention, above, below};
@@ -40,7 +40,7 @@ impl Touch {
         ensures exact { result ≡ first_writer facet (later history.now.journal n) }
         // It tells what the facet held at the place of change n.
         ensures value { (end : Holding) → value_at (later history.now.journal n) end facet
-            ≡ told_by history.now.journal result end facet }
+            ≡ held_before history.now.journal result end facet }
     {
         if history.last_change() <= n {
             return None;

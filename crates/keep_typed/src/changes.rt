@@ -2,7 +2,7 @@ ghost use Rattle.std.specs.Prelude.{IfOk};
 ghost use Rattle.keep_words.specs.Faults.{fault_in};
 ghost use Rattle.keep_words.specs.Read.{Reads, rows_in};
 ghost use Rattle.keep_words.specs.Said.{Asks, IsBackup, IsRewrite};
-ghost use Rattle.keep_typed.specs.Names.{is_changing, is_taking};
+ghost use Rattle.keep_typed.specs.Names.{is_changing, is_counting};
 
 use crate::forgetting::forget;
 use crate::reads::{change, place};
@@ -33,7 +33,7 @@ pub fn changing<'a>(
         "prune" => Command::Prune {
             older_than: wait(alloc, matches, "keep prune [--older-than SPAN]")?,
         },
-        _ => match taking(name, matches) {
+        _ => match counting(name, matches) {
             Some(command) => command,
             None => return Ok(None),
         },
@@ -42,8 +42,8 @@ pub fn changing<'a>(
 }
 
 /// What the words ask behind the name of a command that goes by numbers of changes, or by folders.
-fn taking<'a>(name: &str, matches: &ArgMatches<'a>) -> Option<Command<'a>>
-    ensures { Asks is_taking name.now (rows_in matches.now) result }
+fn counting<'a>(name: &str, matches: &ArgMatches<'a>) -> Option<Command<'a>>
+    ensures { Asks is_counting name.now (rows_in matches.now) result }
 {
     match name {
         "init" => Some(Command::Init {

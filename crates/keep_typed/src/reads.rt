@@ -1,7 +1,7 @@
 ghost use Rattle.std.specs.Prelude.{◌≡◌, IfOk};
 ghost use Rattle.keep_words.specs.Read.{place_of, rows_in};
 ghost use Rattle.keep_words.specs.Said.{Asks, IsChosen, IsRestore, change_of};
-ghost use Rattle.keep_typed.specs.Names.{is_reading, is_telling};
+ghost use Rattle.keep_typed.specs.Names.{is_reading, is_showing};
 
 use clap::ArgMatches;
 use keep_words::{Chosen, Command, Restore, count, flag, number, text, texts};
@@ -36,7 +36,7 @@ pub fn reading<'a>(
             pattern: place(matches, "PATTERN"),
         },
         "restore" => Command::Restore(restore(alloc, matches)?),
-        _ => match telling(name, matches) {
+        _ => match showing(name, matches) {
             Some(command) => command,
             None => return Ok(None),
         },
@@ -45,8 +45,8 @@ pub fn reading<'a>(
 }
 
 /// What the words ask behind the name of a command that tells of the repository and not of its snapshots.
-fn telling<'a>(name: &str, matches: &ArgMatches<'a>) -> Option<Command<'a>>
-    ensures { Asks is_telling name.now (rows_in matches.now) result }
+fn showing<'a>(name: &str, matches: &ArgMatches<'a>) -> Option<Command<'a>>
+    ensures { Asks is_showing name.now (rows_in matches.now) result }
 {
     match name {
         "check" => Some(Command::Check {

@@ -5,8 +5,8 @@
 //! one. Empty lines and `#` are passed over.
 #![tactic(auto)]
 
+mod printed_words;
 mod shown_words;
-mod told;
 
 use keep_typed::read_words;
 use std::alloc::{AllocError, Global};
@@ -29,7 +29,7 @@ fn answer<W: Write>(alloc: Global, line: &str, writer: &mut W) -> io::Result<()>
     let typed = words_in(alloc, line)?;
     let words: Vec<&str> = typed.iter().map(|word| word.as_str()).collect(alloc)?;
     match read_words(alloc, words.as_slice()) {
-        Ok(words) => told::tell(&words, writer),
+        Ok(words) => printed_words::print_words(&words, writer),
         Err(error) => writeln!(writer, "no {:?} {}", error.kind(), error.exit_code()),
     }
 }

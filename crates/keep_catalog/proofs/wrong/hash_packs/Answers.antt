@@ -12,7 +12,7 @@ loop-pack-preserved c =
     let packs = c.args.packs.now in
     let i = c.loop-pack.pack-index in
     let pack = get_or packs i no_id in
-    c.in_ok-tell.ensures
+    c.in_ok-note_blobs.ensures
     ∙ ap (λ bs. c.loop-pack.wrong.items ++ map (in_pack pack) (first_of_each blob_eq bs)) (c.deref.ensures.value ∙ c.in_ok-blobs.ensures)
     ∙ ap (λ ws. ws ++ wrong_in r pack) c.loop-pack.invariant
     ∙ sym (flat_map_taken packs i pack no_id c.loop-pack-test.true refl (wrong_in r))

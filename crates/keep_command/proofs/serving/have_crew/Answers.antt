@@ -28,12 +28,12 @@ returns-in-Ok-clause-crews g c =
     c.order.result.time.now c.order.result.size (ledger_of c.args.book) after.state tally.accepted tally.length)) c.in-Ok.is c.work-left.ensures.crewed in
     crews-worked takes answers (settings_view c.order.result.settings) (settings_of options) c.order.result.time.now options.time
     c.order.result.size options.crew (on_shelf c.args.book) after (hooks_of c.args.book) (hooks_of c.work-left.result.0) c.in-Ok.tally
-    (g.W.Write.contents c.args.writer.now) (g.W.Write.contents c.tell_crew.new.writer) c.tell_crew.result
+    (g.W.Write.contents c.args.writer.now) (g.W.Write.contents c.report_crew.new.writer) c.report_crew.result
     c.order.ensures.settings c.order.ensures.time c.order.ensures.size c.work-left.ensures.hooks
-    (subst answers c.in-Ok.is c.work-left.ensures.answered) crewed c.leave.ensures c.tell_crew.ensures.tells
+    (subst answers c.in-Ok.is c.work-left.ensures.answered) crewed c.leave.ensures c.report_crew.ensures.tells
 
 pub returns-in-Ok-clause-whole : goal.returns-in-Ok-clause-whole
-returns-in-Ok-clause-whole g c = c.tell_crew.ensures.whole
+returns-in-Ok-clause-whole g c = c.report_crew.ensures.whole
 
 pub returns-in-Err-clause-crews : goal.returns-in-Err-clause-crews
 returns-in-Err-clause-crews g c =

@@ -44,7 +44,7 @@ returns-in-Ok-Tell-clause-answers g c =
     let kit = kit_view c.args.kit.now in
     let state = state_of kit c.args.self.now c.args.book.now in
     AnswersDue-meant _ _ state (state_of kit c.args.self.now c.args.book.now) (meant_by state c.args.command) (meaning.Tell c.in-Ok-Tell.topic) _
-    (rw c.in-Ok-Tell.field-0-is at c.in-Ok-Tell.ensures) (c.tell.ensures.answers kit)
+    (rw c.in-Ok-Tell.field-0-is at c.in-Ok-Tell.ensures) (c.answer_topic.ensures.answers kit)
 
 pub returns-in-Ok-Compare-clause-answers : goal.returns-in-Ok-Compare-clause-answers
 returns-in-Ok-Compare-clause-answers g c =

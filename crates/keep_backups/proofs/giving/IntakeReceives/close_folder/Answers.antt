@@ -7,6 +7,6 @@ use Rattle.keep_backups.proofs.giving.IntakeReceives.close_folder.Goals as goal
 pub returns : goal.returns
 returns g c =
     let others = carried_view c.in_ok-others.others in
-    given_so (ClosedFolder c.args.sight.now) close_refusal (Closes others) c.args.self.now.archive c.close_folder-done.new.self c.told.new.self.archive
-    c.close_folder-done.result c.told.result (λ a b closes. (others, c.in_ok-others.ensures, closes))
-    c.close_folder-done.ensures c.told.ensures.done c.told.ensures.archive
+    given_so (ClosedFolder c.args.sight.now) close_refusal (Closes others) c.args.self.now.archive c.close_folder-done.new.self c.heed.new.self.archive
+    c.close_folder-done.result c.heed.result (λ a b closes. (others, c.in_ok-others.ensures, closes))
+    c.close_folder-done.ensures c.heed.ensures.done c.heed.ensures.archive

@@ -5,6 +5,6 @@ use Rattle.keep_backups.proofs.giving.IntakeReceives.drop_file.Goals as goal
 
 pub returns : goal.returns
 returns g c =
-    given_so DroppedFile never DropsFile c.args.self.now.archive c.drop_file-done.new.self c.told.new.self.archive
-    c.drop_file-done.result c.told.result (λ a b drops. drops)
-    c.drop_file-done.ensures c.told.ensures.done c.told.ensures.archive
+    given_so DroppedFile never DropsFile c.args.self.now.archive c.drop_file-done.new.self c.heed.new.self.archive
+    c.drop_file-done.result c.heed.result (λ a b drops. drops)
+    c.drop_file-done.ensures c.heed.ensures.done c.heed.ensures.archive

@@ -7,6 +7,6 @@ use Rattle.keep_backups.proofs.giving.IntakeReceives.open_folder.Goals as goal
 pub returns : goal.returns
 returns g c =
     let name = string_bytes c.in_ok-name.name in
-    given_so (OpenedFolder c.args.name.now) (open_refusal name) (Opens name) c.args.self.now.archive c.open_folder-done.new.self c.told.new.self.archive
-    c.open_folder-done.result c.told.result (λ a b opens. subst (λ n. Opens n a b) c.in_ok-name.ensures opens)
-    c.open_folder-done.ensures c.told.ensures.done c.told.ensures.archive
+    given_so (OpenedFolder c.args.name.now) (open_refusal name) (Opens name) c.args.self.now.archive c.open_folder-done.new.self c.heed.new.self.archive
+    c.open_folder-done.result c.heed.result (λ a b opens. subst (λ n. Opens n a b) c.in_ok-name.ensures opens)
+    c.open_folder-done.ensures c.heed.ensures.done c.heed.ensures.archive

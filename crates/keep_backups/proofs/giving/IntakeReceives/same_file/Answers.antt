@@ -10,6 +10,6 @@ returns g c =
     let name = string_bytes c.in_ok-name.name in
     let others = carried_view c.in_ok-others.others in
     let content = c.args.content.now in
-    given_so (GotSame c.args.name.now content c.args.sight.now) (node_refusal name) (SamesFile name content others) c.args.self.now.archive c.same_file-done.new.self c.told.new.self.archive
-    c.same_file-done.result c.told.result (λ a b sames. (others, c.in_ok-others.ensures, subst (λ n. SamesFile n content others a b) c.in_ok-name.ensures sames))
-    c.same_file-done.ensures c.told.ensures.done c.told.ensures.archive
+    given_so (GotSame c.args.name.now content c.args.sight.now) (node_refusal name) (SamesFile name content others) c.args.self.now.archive c.same_file-done.new.self c.heed.new.self.archive
+    c.same_file-done.result c.heed.result (λ a b sames. (others, c.in_ok-others.ensures, subst (λ n. SamesFile n content others a b) c.in_ok-name.ensures sames))
+    c.same_file-done.ensures c.heed.ensures.done c.heed.ensures.archive

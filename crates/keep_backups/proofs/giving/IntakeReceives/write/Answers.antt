@@ -5,6 +5,6 @@ use Rattle.keep_backups.proofs.giving.IntakeReceives.write.Goals as goal
 
 pub returns : goal.returns
 returns g c =
-    given_so (Wrote c.args.bytes.now) never (WritesFile c.args.bytes.now) c.args.self.now.archive c.write-done.new.self c.told.new.self.archive
-    c.write-done.result c.told.result (λ a b writes. writes)
-    c.write-done.ensures c.told.ensures.done c.told.ensures.archive
+    given_so (Wrote c.args.bytes.now) never (WritesFile c.args.bytes.now) c.args.self.now.archive c.write-done.new.self c.heed.new.self.archive
+    c.write-done.result c.heed.result (λ a b writes. writes)
+    c.write-done.ensures c.heed.ensures.done c.heed.ensures.archive

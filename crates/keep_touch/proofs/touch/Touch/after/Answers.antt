@@ -4,7 +4,7 @@ use Rattle.std.specs.List.Sorted.{IsNonDecreasingBy}
 use Rattle.keep_change.specs.Holdings.{value_at}
 use Rattle.keep_journal.specs.History.{last_change}
 use Rattle.keep_journal.proofs.Kept.{later_none}
-use Rattle.keep_touch.specs.Finding.{first_writer, told_by}
+use Rattle.keep_touch.specs.Finding.{first_writer, held_before}
 use Rattle.keep_touch.proofs.Rising.{noted_in_order}
 use Rattle.keep_touch.proofs.Searching.{writer_found}
 use Rattle.keep_touch.proofs.Telling.{value_told}
@@ -31,4 +31,4 @@ returns-clause-exact c = writer_found c.args.self.now c.args.history.now.journal
 pub returns-clause-value : goal.returns-clause-value
 returns-clause-value c end =
     value_told c.args.history.now.journal c.args.n end c.args.facet c.last_change.ensures.numbered
-    ∙ ap (λ o. told_by c.args.history.now.journal o end c.args.facet) (sym (returns-clause-exact c))
+    ∙ ap (λ o. held_before c.args.history.now.journal o end c.args.facet) (sym (returns-clause-exact c))

@@ -6,7 +6,7 @@ use Rattle.keep_names.specs.declared.blob.BlobId.{BlobId}
 use Rattle.keep_catalog.specs.Orders.{blob_eq}
 use Rattle.keep_index.specs.Joining.{first_of_each}
 use Rattle.keep_catalog.proofs.Hashes.{in_pack}
-use Rattle.keep_catalog.proofs.wrong.tell.Given as goal
+use Rattle.keep_catalog.proofs.wrong.note_blobs.Given as goal
 
 abbrev pub invariant-loop-blob : goal.invariant-loop-blob
 invariant-loop-blob l = record {

@@ -3,7 +3,7 @@ use Rattle.keep_answers.proofs.AnswerLemmas.{AnswersMeant-puts}
 use Rattle.keep_answers.proofs.RestoreLemmas.{Audited-tells}
 use Rattle.keep_answers.specs.Meaning.{Tell}
 use Rattle.keep_answers.specs.State.{state_of}
-use Rattle.keep_answers.proofs.session.Session.tell.Goals as goal
+use Rattle.keep_answers.proofs.session.Session.answer_topic.Goals as goal
 
 pub returns-in-Audit-clause-answers : goal.returns-in-Audit-clause-answers
 returns-in-Audit-clause-answers g c = λ kit.

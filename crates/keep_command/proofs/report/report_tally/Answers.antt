@@ -1,6 +1,6 @@
 use Rattle.keep_command.proofs.ReportLemmas.{lines-flushed, reports-flushed}
 use Rattle.keep_command.specs.Following.{report_text}
-use Rattle.keep_command.proofs.report.tell_tally.Goals as goal
+use Rattle.keep_command.proofs.report.report_tally.Goals as goal
 
 pub returns-in-Ok-clause-reports : goal.returns-in-Ok-clause-reports
 returns-in-Ok-clause-reports g c =

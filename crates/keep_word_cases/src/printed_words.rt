@@ -3,24 +3,24 @@ use keep_words::{Backup, Chosen, Command, Forget, Keep, Restore, Rewrite, Tag, W
 use std::io::{self, Write};
 
 /// Writes what the words ask, in a line: the folder, `json`, the seconds to wait, and the command.
-pub(crate) fn tell<W: Write>(words: &Words<'_>, writer: &mut W) -> io::Result<()> {
+pub(crate) fn print_words<W: Write>(words: &Words<'_>, writer: &mut W) -> io::Result<()> {
     let repo = Maybe(words.repo);
     let json = given(words.json, "json");
     write!(writer, "{repo} {json} {} ", words.wait)?;
-    tell_command(&words.command, writer)?;
+    print_command(&words.command, writer)?;
     writer.write_all(b"\n")
 }
 
-fn tell_command<W: Write>(command: &Command<'_>, writer: &mut W) -> io::Result<()> {
+fn print_command<W: Write>(command: &Command<'_>, writer: &mut W) -> io::Result<()> {
     match command {
-        Command::Backup(backup) => tell_backup(backup, writer),
-        Command::Restore(restore) => tell_restore(restore, writer),
-        Command::Forget(forget) => tell_forget(forget, writer),
-        Command::Tag(tag) => tell_tag(tag, writer),
-        Command::Rewrite(rewrite) => tell_rewrite(rewrite, writer),
+        Command::Backup(backup) => print_backup(backup, writer),
+        Command::Restore(restore) => print_restore(restore, writer),
+        Command::Forget(forget) => print_forget(forget, writer),
+        Command::Tag(tag) => print_tag(tag, writer),
+        Command::Rewrite(rewrite) => print_rewrite(rewrite, writer),
         Command::Snapshots { chosen, latest } => {
             writer.write_all(b"snapshots ")?;
-            tell_chosen(chosen, writer)?;
+            print_chosen(chosen, writer)?;
             write!(writer, " {}", Maybe(*latest))
         }
         Command::Ls { snapshot, path } => write!(writer, "ls {snapshot} {}", Maybe(*path)),
@@ -30,12 +30,12 @@ fn tell_command<W: Write>(command: &Command<'_>, writer: &mut W) -> io::Result<(
         Command::Init { folder } => write!(writer, "init {folder}"),
         Command::Script { file } => write!(writer, "script {}", Maybe(*file)),
         Command::Rescue { folder, target } => write!(writer, "rescue {folder} {target}"),
-        other => tell_numbers(other, writer),
+        other => print_numbers(other, writer),
     }
 }
 
 /// Those that go by numbers and flags.
-fn tell_numbers<W: Write>(command: &Command<'_>, writer: &mut W) -> io::Result<()> {
+fn print_numbers<W: Write>(command: &Command<'_>, writer: &mut W) -> io::Result<()> {
     match command {
         Command::Check { read_data } => {
             write!(writer, "check {}", given(*read_data, "read-data"))
@@ -65,7 +65,7 @@ fn tell_numbers<W: Write>(command: &Command<'_>, writer: &mut W) -> io::Result<(
     }
 }
 
-fn tell_backup<W: Write>(backup: &Backup<'_>, writer: &mut W) -> io::Result<()> {
+fn print_backup<W: Write>(backup: &Backup<'_>, writer: &mut W) -> io::Result<()> {
     write!(
         writer,
         "backup {} {}",
@@ -77,37 +77,37 @@ fn tell_backup<W: Write>(backup: &Backup<'_>, writer: &mut W) -> io::Result<()> 
     write!(writer, " {} {dry_run}", List(&backup.exclude))
 }
 
-fn tell_chosen<W: Write>(chosen: &Chosen<'_>, writer: &mut W) -> io::Result<()> {
+fn print_chosen<W: Write>(chosen: &Chosen<'_>, writer: &mut W) -> io::Result<()> {
     let (host, tag) = (Maybe(chosen.host), Maybe(chosen.tag));
     write!(writer, "{host} {tag} {}", Maybe(chosen.path))
 }
 
-fn tell_restore<W: Write>(restore: &Restore<'_>, writer: &mut W) -> io::Result<()> {
+fn print_restore<W: Write>(restore: &Restore<'_>, writer: &mut W) -> io::Result<()> {
     write!(writer, "restore {} {}", restore.snapshot, restore.target)?;
     write!(writer, " {}", List(&restore.include))
 }
 
-fn tell_forget<W: Write>(forget: &Forget<'_>, writer: &mut W) -> io::Result<()> {
+fn print_forget<W: Write>(forget: &Forget<'_>, writer: &mut W) -> io::Result<()> {
     writer.write_all(b"forget ")?;
-    tell_chosen(&forget.chosen, writer)?;
+    print_chosen(&forget.chosen, writer)?;
     writer.write_all(b" ")?;
-    tell_keep(&forget.keep, writer)?;
+    print_keep(&forget.keep, writer)?;
     write!(writer, " {}", given(forget.dry_run, "dry-run"))
 }
 
-fn tell_keep<W: Write>(keep: &Keep<'_>, writer: &mut W) -> io::Result<()> {
+fn print_keep<W: Write>(keep: &Keep<'_>, writer: &mut W) -> io::Result<()> {
     write!(writer, "{} {} ", Maybe(keep.last), Maybe(keep.daily))?;
     write!(writer, "{} {} ", Maybe(keep.weekly), Maybe(keep.monthly))?;
     write!(writer, "{} {}", Maybe(keep.yearly), List(&keep.tags))
 }
 
-fn tell_tag<W: Write>(tag: &Tag<'_>, writer: &mut W) -> io::Result<()> {
+fn print_tag<W: Write>(tag: &Tag<'_>, writer: &mut W) -> io::Result<()> {
     write!(writer, "tag {} {}", Maybe(tag.snapshot), List(&tag.add))?;
     write!(writer, " {}", List(&tag.remove))?;
     write!(writer, " {}", List(&tag.set))
 }
 
-fn tell_rewrite<W: Write>(rewrite: &Rewrite<'_>, writer: &mut W) -> io::Result<()> {
+fn print_rewrite<W: Write>(rewrite: &Rewrite<'_>, writer: &mut W) -> io::Result<()> {
     let forget = given(rewrite.forget, "forget");
     let dry_run = given(rewrite.dry_run, "dry-run");
     write!(

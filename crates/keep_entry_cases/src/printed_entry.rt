@@ -5,7 +5,7 @@ use keep_names::{FileName, Id};
 use std::alloc::Global;
 
 /// What an entry says: its number, the event, and the lists that aren't empty.
-pub(crate) fn tell(alloc: Global, entry: &Entry) -> Result<String, No> {
+pub(crate) fn print_entry(alloc: Global, entry: &Entry) -> Result<String, No> {
     let mut told = format!(in alloc;
         "{} {} {}",
         entry.at,
@@ -13,9 +13,9 @@ pub(crate) fn tell(alloc: Global, entry: &Entry) -> Result<String, No> {
         entry.event.number
     )?;
     match &entry.event.kind {
-        EventKind::Commit(change) => tell_change(alloc, change.as_change(), &mut told)?,
+        EventKind::Commit(change) => print_change(alloc, change.as_change(), &mut told)?,
         EventKind::Undo | EventKind::Redo => {}
-        EventKind::Empty(marks) => tell_marks(alloc, "marks", marks.as_slice(), &mut told)?,
+        EventKind::Empty(marks) => print_marks(alloc, "marks", marks.as_slice(), &mut told)?,
     }
     Ok(told)
 }
@@ -29,15 +29,15 @@ fn word_of(kind: &EventKind) -> &'static str {
     }
 }
 
-fn tell_change(alloc: Global, change: &Change, told: &mut String) -> Result<(), No> {
-    tell_files(alloc, "adds", change.adds.as_slice(), told)?;
-    tell_files(alloc, "drops", change.drops.as_slice(), told)?;
-    tell_marks(alloc, "sets", change.sets.as_slice(), told)?;
-    tell_marks(alloc, "clears", change.clears.as_slice(), told)?;
-    tell_names(alloc, "present", change.present.as_slice(), told)?;
-    tell_names(alloc, "absent", change.absent.as_slice(), told)?;
-    tell_packs(alloc, "marked", change.marked.as_slice(), told)?;
-    tell_packs(alloc, "unmarked", change.unmarked.as_slice(), told)?;
+fn print_change(alloc: Global, change: &Change, told: &mut String) -> Result<(), No> {
+    print_files(alloc, "adds", change.adds.as_slice(), told)?;
+    print_files(alloc, "drops", change.drops.as_slice(), told)?;
+    print_marks(alloc, "sets", change.sets.as_slice(), told)?;
+    print_marks(alloc, "clears", change.clears.as_slice(), told)?;
+    print_names(alloc, "present", change.present.as_slice(), told)?;
+    print_names(alloc, "absent", change.absent.as_slice(), told)?;
+    print_packs(alloc, "marked", change.marked.as_slice(), told)?;
+    print_packs(alloc, "unmarked", change.unmarked.as_slice(), told)?;
     if change.strict {
         told.push_str(" strict")?;
     }
@@ -45,7 +45,7 @@ fn tell_change(alloc: Global, change: &Change, told: &mut String) -> Result<(), 
 }
 
 /// Writes a list's word, unless the list is empty.
-fn tell_word(alloc: Global, word: &str, count: usize, told: &mut String) -> Result<(), No> {
+fn print_word(alloc: Global, word: &str, count: usize, told: &mut String) -> Result<(), No> {
     if count > 0 {
         let text = format!(in alloc; " {word}")?;
         told.push_str(text.as_str())?;
@@ -53,13 +53,13 @@ fn tell_word(alloc: Global, word: &str, count: usize, told: &mut String) -> Resu
     Ok(())
 }
 
-fn tell_files(
+fn print_files(
     alloc: Global,
     word: &str,
     files: &[StoredFile],
     told: &mut String,
 ) -> Result<(), No> {
-    tell_word(alloc, word, files.len(), told)?;
+    print_word(alloc, word, files.len(), told)?;
     for file in files {
         let digits = hex::encode(alloc, file.bytes().as_slice())?;
         let name = file.name();
@@ -69,8 +69,8 @@ fn tell_files(
     Ok(())
 }
 
-fn tell_names(alloc: Global, word: &str, names: &[FileName], told: &mut String) -> Result<(), No> {
-    tell_word(alloc, word, names.len(), told)?;
+fn print_names(alloc: Global, word: &str, names: &[FileName], told: &mut String) -> Result<(), No> {
+    print_word(alloc, word, names.len(), told)?;
     for name in names {
         let text = format!(in alloc; " {}/{}", name.kind, name.id)?;
         told.push_str(text.as_str())?;
@@ -78,8 +78,8 @@ fn tell_names(alloc: Global, word: &str, names: &[FileName], told: &mut String) 
     Ok(())
 }
 
-fn tell_marks(alloc: Global, word: &str, marks: &[PackMark], told: &mut String) -> Result<(), No> {
-    tell_word(alloc, word, marks.len(), told)?;
+fn print_marks(alloc: Global, word: &str, marks: &[PackMark], told: &mut String) -> Result<(), No> {
+    print_word(alloc, word, marks.len(), told)?;
     for mark in marks {
         let text = format!(in alloc; " {}@{}", mark.pack, mark.mark.moment)?;
         told.push_str(text.as_str())?;
@@ -87,8 +87,8 @@ fn tell_marks(alloc: Global, word: &str, marks: &[PackMark], told: &mut String) 
     Ok(())
 }
 
-fn tell_packs(alloc: Global, word: &str, packs: &[Id], told: &mut String) -> Result<(), No> {
-    tell_word(alloc, word, packs.len(), told)?;
+fn print_packs(alloc: Global, word: &str, packs: &[Id], told: &mut String) -> Result<(), No> {
+    print_word(alloc, word, packs.len(), told)?;
     for pack in packs {
         let text = format!(in alloc; " {pack}")?;
         told.push_str(text.as_str())?;
