@@ -113,7 +113,7 @@ impl Session {
         match resolve(alloc, kit, line) {
             Ok(job) => {
                 let outcome = self.perform(&job, book);
-                self.require_told(book)?;
+                self.require_sure(book)?;
                 write_outcome(alloc, outcome, writer)
             }
             Err(LineError::Bad(why)) => Err(Halt::BadLine(why)),
@@ -138,7 +138,7 @@ impl Session {
     {
         let change = added(self.alloc, kind, bytes)?;
         let outcome = self.commit_now(book, change);
-        self.require_told(book)?;
+        self.require_sure(book)?;
         write_committed(self.alloc, outcome, writer)
     }
 
@@ -158,7 +158,7 @@ impl Session {
     {
         let change = dropped(self.alloc, book.ledger().live(), name)?;
         let outcome = self.commit_now(book, change);
-        self.require_told(book)?;
+        self.require_sure(book)?;
         write_committed(self.alloc, outcome, writer)
     }
 
@@ -177,7 +177,7 @@ impl Session {
         ensures sums { HasSums book.new }
     {
         let reply = self.ask(book, revision.request());
-        self.require_told(book)?;
+        self.require_sure(book)?;
         write_reply(self.alloc, reply, writer)
     }
 
@@ -196,7 +196,7 @@ impl Session {
         ensures sums { HasSums book.new }
     {
         let taken = self.take_back(book, number);
-        self.require_told(book)?;
+        self.require_sure(book)?;
         write_taken(self.alloc, taken, writer)
     }
 

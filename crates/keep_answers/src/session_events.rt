@@ -95,10 +95,10 @@ impl Session {
     }
 
     /// Holds an answer back where a call of the shelf failed, and it isn't known whether it was done.
-    pub fn require_told<S: Shelf>(&self, book: &Book<S>) -> Result<(), Halt>
+    pub fn require_sure<S: Shelf>(&self, book: &Book<S>) -> Result<(), Halt>
         ensures { IfErr result (λ halt. (halt ≡ Untold) × (self.now.faulted ≡ true)) }
     {
-        if self.faulted && !book.ledger().shelf().is_told() {
+        if self.faulted && !book.ledger().shelf().is_sure() {
             return Err(Halt::Untold);
         }
         Ok(())

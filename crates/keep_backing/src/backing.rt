@@ -11,7 +11,7 @@ use keep_host_source::{HostSource, host_name, user_name};
 use keep_ledger::Refusal;
 use keep_plan::PlanError;
 use keep_progress::{CountedSource, Meter};
-use keep_run::{Failure, Left, Run, left_value, name_left, patterns_of, refused, require_told};
+use keep_run::{Failure, Left, Run, left_value, name_left, patterns_of, refused, require_sure};
 use keep_shelf::Shelf;
 use keep_sources::{Known, Scope, Why};
 use keep_tables::utc_time;
@@ -65,7 +65,7 @@ fn taken<S: Shelf, H: Hashing + Copy>(
         cut: run.settings().cut,
     };
     let came = back_up(run.alloc, book, source, hashing, &wish);
-    require_told(run, book)?;
+    require_sure(run, book)?;
     Ok(came)
 }
 

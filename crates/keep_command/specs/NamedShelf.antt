@@ -18,5 +18,5 @@ IsHad None (Ok (Memory shelf)) = shelf ≡ stocked map.empty
 IsHad None (Ok (Folder shelf)) = ⊥
 IsHad None (Err error) = ⊥
 IsHad (Some name) (Ok (Memory shelf)) = ⊥
-IsHad (Some name) (Ok (Folder shelf)) = (shelf.shelved ≡ stocked shelf.shelved.content) × IsTrue shelf.is_told
+IsHad (Some name) (Ok (Folder shelf)) = (shelf.shelved ≡ stocked shelf.shelved.content) × IsTrue shelf.is_sure
 IsHad (Some name) (Err error) = ⊤

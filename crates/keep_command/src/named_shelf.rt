@@ -103,10 +103,10 @@ impl Shelf for NamedShelf<'_> {
         }
     }
 
-    fn is_told(&self) -> bool {
+    fn is_sure(&self) -> bool {
         match self {
-            NamedShelf::Memory(shelf) => shelf.is_told(),
-            NamedShelf::Folder(shelf) => shelf.is_told(),
+            NamedShelf::Memory(shelf) => shelf.is_sure(),
+            NamedShelf::Folder(shelf) => shelf.is_sure(),
         }
     }
 }

@@ -37,14 +37,14 @@ impl fmt::Display for Report {
 pub(crate) fn report_crew<'a, W: Write>(
     alloc: Global,
     report: Report,
-    is_told: bool,
+    is_sure: bool,
     writer: &mut W,
 ) -> Ending<'a>
     ensures tells { ReportsCrew (W.contents writer.old) (W.contents writer.new) report.size report.tally result }
     ensures whole { result ≢ Ending.Ran RunStatus.WriteFailed →
         WritesLines (W.contents writer.old) (W.contents writer.new) }
 {
-    if !is_told && report.tally.accepted < u64::from(report.size) {
+    if !is_sure && report.tally.accepted < u64::from(report.size) {
         return Ending::Ran(RunStatus::Untold);
     }
     report_tally(alloc, report, writer)

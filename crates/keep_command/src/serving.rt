@@ -205,12 +205,12 @@ where
         WritesLines (W.contents writer.old) (W.contents writer.new) }
 {
     let (left, worked) = crew.work(book, terms.order());
-    let is_told = left.ledger().shelf().is_told();
+    let is_sure = left.ledger().shelf().is_sure();
     shelves.leave(terms.options.folder, left);
     match worked {
         Ok(tally) => {
             let size = terms.options.crew;
-            report_crew(terms.alloc, Report { size, tally }, is_told, writer)
+            report_crew(terms.alloc, Report { size, tally }, is_sure, writer)
         }
         Err(refusal) => Ending::from(refusal),
     }

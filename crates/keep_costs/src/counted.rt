@@ -55,7 +55,7 @@ impl<S: Shelf> Shelf for Counted<S> {
         self.inner.list()
     }
 
-    fn is_told(&self) -> bool {
-        self.inner.is_told()
+    fn is_sure(&self) -> bool {
+        self.inner.is_sure()
     }
 }

@@ -1,2 +1,2 @@
 pub mod Config
-pub mod Told
+pub mod FolderShelfData

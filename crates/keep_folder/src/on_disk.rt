@@ -15,7 +15,7 @@ pub fn open_folder<'a>(
     root: &str,
 ) -> Result<FolderShelf<HostTree<'a>>, FolderError>
     ensures opened { IfOk result (λ shelf. shelf.shelved ≡ stocked shelf.shelved.content) }
-    ensures told { IfOk result (λ shelf. IsTrue shelf.is_told) }
+    ensures told { IfOk result (λ shelf. IsTrue shelf.is_sure) }
     ensures named { root.now ≡ [] → result ≡ Err (the_error.Fault the_cause.Missing) }
 {
     if root.is_empty() {

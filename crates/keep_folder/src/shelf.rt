@@ -31,7 +31,7 @@ pub struct FolderShelf<T: FileTree> {
     made: Log<Stock>,
     /// What each call that didn't fail left.
     calls: Log<Stock>,
-    is_told: bool,
+    is_sure: bool,
 }
 
 impl<T: FileTree> Model for FolderShelf<T> {
@@ -40,11 +40,11 @@ impl<T: FileTree> Model for FolderShelf<T> {
     ghost use Rattle.keep_files.specs.Content.{HoldsFiles};
     ghost use Rattle.keep_files.specs.Stands.{IsClosed};
     ghost use Rattle.keep_keyed_folder.specs.Keyed.{stands_in};
-    ghost use Rattle.keep_folder.specs.Told.{Told, coded_told};
+    ghost use Rattle.keep_folder.specs.FolderShelfData.{FolderShelfData, coded_folder_shelf};
 
-    ghost Value = { Told };
+    ghost Value = { FolderShelfData };
 
-    ghost coded = { coded_told };
+    ghost coded = { coded_folder_shelf };
 
     ghost view = { λ s. record {
       shelved = record {
@@ -53,11 +53,11 @@ impl<T: FileTree> Model for FolderShelf<T> {
         failures = s.failures;
         calls = s.calls.items;
       };
-      is_told = s.is_told;
+      is_sure = s.is_sure;
     } };
 
     ghost invariant = { λ s. IsClosed (stands_in T.seen s.folder)
-        × (IsTrue s.is_told → HoldsFiles (stands_in T.seen s.folder) s.content) };
+        × (IsTrue s.is_sure → HoldsFiles (stands_in T.seen s.folder) s.content) };
 }
 
 impl<T: FileTree> FolderShelf<T> {
@@ -66,7 +66,7 @@ impl<T: FileTree> FolderShelf<T> {
         requires closed { IsClosed (T.seen tree).stands }
         requires tmp { IsTmp (string_bytes tmp) }
         ensures opened { IfOk result (λ shelf. shelf.shelved ≡ stocked shelf.shelved.content) }
-        ensures told { IfOk result (λ shelf. IsTrue shelf.is_told) }
+        ensures told { IfOk result (λ shelf. IsTrue shelf.is_sure) }
         ensures read { IfOk result (λ shelf. HoldsFiles (T.seen tree).stands shelf.shelved.content) }
         ensures given { IfErr result (λ given. (T.seen given.tree).stands ≡ (T.seen tree).stands) }
     {
@@ -81,7 +81,7 @@ impl<T: FileTree> FolderShelf<T> {
                     failures: 0,
                     made,
                     calls: Log::new(),
-                    is_told: true,
+                    is_sure: true,
                 })
             }
             Err(error) => Err(NotOpened { tree, error }),
@@ -92,10 +92,10 @@ impl<T: FileTree> FolderShelf<T> {
         ensures found { IfOk result (λ found. found ≡ map.get self.old.shelved.content key) }
         ensures ok { OnOk result (self.new.shelved ≡ called self.old.shelved self.old.shelved.content) }
         ensures err { OnErr result (self.new.shelved ≡ self.old.shelved) }
-        ensures told { OnOk result (IsTrue self.old.is_told) }
-        ensures same { self.new.is_told ≡ self.old.is_told }
+        ensures told { OnOk result (IsTrue self.old.is_sure) }
+        ensures same { self.new.is_sure ≡ self.old.is_sure }
     {
-        self.require_told()?;
+        self.require_sure()?;
         let found = self.content.shared(key)?;
         self.note();
         Ok(found)
@@ -105,10 +105,10 @@ impl<T: FileTree> FolderShelf<T> {
         ensures listed { IfOk result (λ keys. keys.items ≡ map.keys self.old.shelved.content) }
         ensures ok { OnOk result (self.new.shelved ≡ called self.old.shelved self.old.shelved.content) }
         ensures err { OnErr result (self.new.shelved ≡ self.old.shelved) }
-        ensures told { OnOk result (IsTrue self.old.is_told) }
-        ensures same { self.new.is_told ≡ self.old.is_told }
+        ensures told { OnOk result (IsTrue self.old.is_sure) }
+        ensures same { self.new.is_sure ≡ self.old.is_sure }
     {
-        self.require_told()?;
+        self.require_sure()?;
         let keys = self.content.keys()?;
         self.note();
         Ok(keys)
@@ -118,15 +118,15 @@ impl<T: FileTree> FolderShelf<T> {
         ensures ok { OnOk result (self.new.shelved
             ≡ called self.old.shelved (map.insert self.old.shelved.content key bytes.now)) }
         ensures err { OnErr result (self.new.shelved ≡ self.old.shelved) }
-        ensures told { OnOk result (IsTrue self.old.is_told) }
-        ensures still { OnOk result (IsTrue self.new.is_told) }
+        ensures told { OnOk result (IsTrue self.old.is_sure) }
+        ensures still { OnOk result (IsTrue self.new.is_sure) }
     {
-        self.require_told()?;
+        self.require_sure()?;
         let path = KeyPath::new(self.alloc, key)?;
         let was = self.content.write(key, bytes.clone()?)?;
         if let Err(error) = self.folder.put(&path, bytes) {
             self.content.put_back(key, was);
-            self.is_told = is_told_by(error);
+            self.is_sure = is_sure_after(error);
             return Err(Fault);
         }
         self.note();
@@ -139,10 +139,10 @@ impl<T: FileTree> FolderShelf<T> {
         ensures ok { OnOk result (self.new.shelved
             ≡ called self.old.shelved (shifted self.old.shelved.content from to)) }
         ensures err { OnErr result (self.new.shelved ≡ self.old.shelved) }
-        ensures told { OnOk result (IsTrue self.old.is_told) }
-        ensures still { OnOk result (IsTrue self.new.is_told) }
+        ensures told { OnOk result (IsTrue self.old.is_sure) }
+        ensures still { OnOk result (IsTrue self.new.is_sure) }
     {
-        self.require_told()?;
+        self.require_sure()?;
         key_is_sized(from);
         let source = KeyPath::new(self.alloc, from)?;
         let target = KeyPath::new(self.alloc, to)?;
@@ -152,7 +152,7 @@ impl<T: FileTree> FolderShelf<T> {
         self.content.write(to, bytes)?;
         if let Err(error) = self.folder.shift(&source, &target) {
             self.content.put_back(to, None);
-            self.is_told = is_told_by(error);
+            self.is_sure = is_sure_after(error);
             return Err(Fault);
         }
         self.content.erase(from);
@@ -164,17 +164,17 @@ impl<T: FileTree> FolderShelf<T> {
         ensures ok { OnOk result (self.new.shelved
             ≡ called self.old.shelved (map.remove self.old.shelved.content key)) }
         ensures err { OnErr result (self.new.shelved ≡ self.old.shelved) }
-        ensures told { OnOk result (IsTrue self.old.is_told) }
-        ensures still { OnOk result (IsTrue self.new.is_told) }
+        ensures told { OnOk result (IsTrue self.old.is_sure) }
+        ensures still { OnOk result (IsTrue self.new.is_sure) }
     {
-        self.require_told()?;
+        self.require_sure()?;
         let path = KeyPath::new(self.alloc, key)?;
         if self.content.get(key).is_none() {
             self.note();
             return Ok(());
         }
         if let Err(error) = self.folder.remove(&path) {
-            self.is_told = is_told_by(error);
+            self.is_sure = is_sure_after(error);
             return Err(Fault);
         }
         self.content.erase(key);
@@ -183,16 +183,16 @@ impl<T: FileTree> FolderShelf<T> {
     }
 
     /// Refuses a shelf that can't be told.
-    fn require_told(&self) -> Result<(), Fault>
-        ensures { OnOk result (IsTrue self.now.is_told) }
+    fn require_sure(&self) -> Result<(), Fault>
+        ensures { OnOk result (IsTrue self.now.is_sure) }
     {
-        if self.is_told { Ok(()) } else { Err(Fault) }
+        if self.is_sure { Ok(()) } else { Err(Fault) }
     }
 
     /// Notes that a call was done, and left what stands there now.
     fn note(&mut self)
         ensures called { self.new.shelved ≡ called self.old.shelved self.old.shelved.content }
-        ensures same { self.new.is_told ≡ self.old.is_told }
+        ensures same { self.new.is_sure ≡ self.old.is_sure }
     {
         self.calls = self.calls.and(&self.content);
     }
@@ -200,7 +200,7 @@ impl<T: FileTree> FolderShelf<T> {
     /// Counts a call that failed.
     fn fail(&mut self) -> Fault
         ensures failed { self.new.shelved ≡ failed self.old.shelved }
-        ensures same { self.new.is_told ≡ self.old.is_told }
+        ensures same { self.new.is_sure ≡ self.old.is_sure }
     {
         self.failures = self.failures.saturating_add(1);
         Fault
@@ -214,7 +214,7 @@ impl<T: FileTree> Shelf for FolderShelf<T> {
         ensures found { IfOk result (λ found. found ≡ map.get self.old.shelved.content key) }
         ensures ok { OnOk result (self.new.shelved ≡ called self.old.shelved self.old.shelved.content) }
         ensures err { OnErr result (self.new.shelved ≡ failed self.old.shelved) }
-        ensures told { OnOk result (IsTrue self.old.is_told) }
+        ensures told { OnOk result (IsTrue self.old.is_sure) }
     {
         match self.try_read(key) {
             Ok(found) => Ok(found),
@@ -226,8 +226,8 @@ impl<T: FileTree> Shelf for FolderShelf<T> {
         ensures ok { OnOk result (self.new.shelved
             ≡ called self.old.shelved (map.insert self.old.shelved.content key bytes.now)) }
         ensures err { OnErr result (self.new.shelved ≡ failed self.old.shelved) }
-        ensures told { OnOk result (IsTrue self.old.is_told) }
-        ensures still { OnOk result (IsTrue self.new.is_told) }
+        ensures told { OnOk result (IsTrue self.old.is_sure) }
+        ensures still { OnOk result (IsTrue self.new.is_sure) }
     {
         match self.try_write(key, bytes) {
             Ok(()) => Ok(()),
@@ -241,8 +241,8 @@ impl<T: FileTree> Shelf for FolderShelf<T> {
         ensures ok { OnOk result (self.new.shelved
             ≡ called self.old.shelved (shifted self.old.shelved.content from to)) }
         ensures err { OnErr result (self.new.shelved ≡ failed self.old.shelved) }
-        ensures told { OnOk result (IsTrue self.old.is_told) }
-        ensures still { OnOk result (IsTrue self.new.is_told) }
+        ensures told { OnOk result (IsTrue self.old.is_sure) }
+        ensures still { OnOk result (IsTrue self.new.is_sure) }
     {
         match self.try_shift(from, to) {
             Ok(()) => Ok(()),
@@ -254,8 +254,8 @@ impl<T: FileTree> Shelf for FolderShelf<T> {
         ensures ok { OnOk result (self.new.shelved
             ≡ called self.old.shelved (map.remove self.old.shelved.content key)) }
         ensures err { OnErr result (self.new.shelved ≡ failed self.old.shelved) }
-        ensures told { OnOk result (IsTrue self.old.is_told) }
-        ensures still { OnOk result (IsTrue self.new.is_told) }
+        ensures told { OnOk result (IsTrue self.old.is_sure) }
+        ensures still { OnOk result (IsTrue self.new.is_sure) }
     {
         match self.try_erase(key) {
             Ok(()) => Ok(()),
@@ -267,7 +267,7 @@ impl<T: FileTree> Shelf for FolderShelf<T> {
         ensures listed { IfOk result (λ keys. keys.items ≡ map.keys self.old.shelved.content) }
         ensures ok { OnOk result (self.new.shelved ≡ called self.old.shelved self.old.shelved.content) }
         ensures err { OnErr result (self.new.shelved ≡ failed self.old.shelved) }
-        ensures told { OnOk result (IsTrue self.old.is_told) }
+        ensures told { OnOk result (IsTrue self.old.is_sure) }
     {
         match self.try_list() {
             Ok(keys) => Ok(keys),
@@ -275,15 +275,15 @@ impl<T: FileTree> Shelf for FolderShelf<T> {
         }
     }
 
-    fn is_told(&self) -> bool
-        ensures told { result ≡ self.now.is_told }
+    fn is_sure(&self) -> bool
+        ensures told { result ≡ self.now.is_sure }
     {
-        self.is_told
+        self.is_sure
     }
 }
 
 /// Whether it is known what became of an act that ended so.
-fn is_told_by(error: TreeError) -> bool
+fn is_sure_after(error: TreeError) -> bool
     ensures { IsTrue result ↔ (error ≡ Broken) }
 {
     matches!(error, TreeError::Broken)

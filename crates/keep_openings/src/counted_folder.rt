@@ -15,7 +15,7 @@ pub fn open_counted<'a>(
     root: &str,
 ) -> Result<FolderShelf<CountedTree<'a>>, FolderError>
     ensures opened { IfOk result (λ shelf. shelf.shelved ≡ stocked shelf.shelved.content) }
-    ensures told { IfOk result (λ shelf. IsTrue shelf.is_told) }
+    ensures told { IfOk result (λ shelf. IsTrue shelf.is_sure) }
 {
     let tmp = name_of_run(rt)?;
     let files = files.clone()?;

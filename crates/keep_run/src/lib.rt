@@ -13,5 +13,5 @@ pub use failure::{Failure, report_failure};
 pub use left::{Left, left_value, name_left};
 pub use meant_words::{meant, pattern_of, patterns_of};
 pub use printing::{numbers_text, print_rows};
-pub use refusing::{refused, require_told};
+pub use refusing::{refused, require_sure};
 pub use run::Run;

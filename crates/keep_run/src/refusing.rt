@@ -12,8 +12,8 @@ pub fn refused(run: &Run<'_>, about: u64, refusal: &Refusal) -> Failure {
 
 /// Fails where a call of the book's shelf failed, and it isn't known whether it was done. Then it isn't known either whether
 /// what was asked of the book was done, whatever it answered.
-pub fn require_told<S: Shelf>(run: &Run<'_>, book: &Book<S>) -> Result<(), Failure> {
-    if book.ledger().shelf().is_told() {
+pub fn require_sure<S: Shelf>(run: &Run<'_>, book: &Book<S>) -> Result<(), Failure> {
+    if book.ledger().shelf().is_sure() {
         return Ok(());
     }
     let cause = String::from_str(

@@ -168,7 +168,7 @@ impl<S: Shelf> Shelf for FailingShelf<S> {
         }
     }
 
-    fn is_told(&self) -> bool {
-        self.inner.is_told()
+    fn is_sure(&self) -> bool {
+        self.inner.is_sure()
     }
 }

@@ -69,7 +69,7 @@ pub trait Shelf: Drop {
 
     /// Whether it is known of each call that failed that it wasn't done. Where it isn't, as behind a network that was
     /// cut, what stands there isn't known before the shelf is opened anew.
-    fn is_told(&self) -> bool {
+    fn is_sure(&self) -> bool {
         true
     }
 }

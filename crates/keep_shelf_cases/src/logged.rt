@@ -78,7 +78,7 @@ impl<S: Shelf> Shelf for Logged<S> {
         keys
     }
 
-    fn is_told(&self) -> bool {
-        self.inner.is_told()
+    fn is_sure(&self) -> bool {
+        self.inner.is_sure()
     }
 }

@@ -201,7 +201,7 @@ impl<S: Shelf> Shelf for RecordingShelf<S> {
         }
     }
 
-    fn is_told(&self) -> bool {
-        self.inner.is_told()
+    fn is_sure(&self) -> bool {
+        self.inner.is_sure()
     }
 }

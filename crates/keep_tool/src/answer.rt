@@ -9,7 +9,7 @@ use keep_deeds::{Came, NoDeed, deed_of, perform};
 use keep_journal::History;
 use keep_names::Id;
 use keep_outcomes::{Way, print_effects, print_outcome, print_pruned, print_taken};
-use keep_run::{Failure, Run, meant, numbers_text, refused, require_told};
+use keep_run::{Failure, Run, meant, numbers_text, refused, require_sure};
 use keep_shelf::Shelf;
 use keep_words::{Chosen, Command};
 
@@ -32,7 +32,7 @@ pub(crate) fn answer<S: Shelf, H: Hashing + Copy>(
             confirm(run, book, command)?;
             hash_first(run, hashing, book, command);
             let came = perform(run.alloc, book, run.settings(), deed);
-            require_told(run, book)?;
+            require_sure(run, book)?;
             print_came(run, book.ledger().history(), command, came)
         }
         Err(NoDeed::Unnamed) => Err(Failure::unmeant(run.alloc, "name a snapshot")),

@@ -24,15 +24,15 @@ returns-in_err-change-clause-answers g c = λ kit.
     let passed = err_from_is_err_and c.from_residual.result c.from_residual.ensures.1 in
     AnswersMeant-none _ (state_of kit c.args.self.now c.args.book.now) (Drop c.args.name) _ (passed.1 ∙ ap Err passed.2)
 
-pub returns-in_err-require_told-clause-answers : goal.returns-in_err-require_told-clause-answers
-returns-in_err-require_told-clause-answers g c = λ kit.
+pub returns-in_err-require_sure-clause-answers : goal.returns-in_err-require_sure-clause-answers
+returns-in_err-require_sure-clause-answers g c = λ kit.
     let made = c.commit_now-outcome in
     let state = state_of kit c.args.self.now c.args.book.now in
     let after = state_of kit made.new.self made.new.book in
     let text = reply_answer (commit_text made.result.1) made.result.0 in
     let dropped = rw (c.live.ensures, c.ledger.ensures) at c.in_ok-change.ensures in
-    let passed = err_from_is_err_and c.from_residual-in_err-require_told.result c.from_residual-in_err-require_told.ensures.1 in
-    let untold = c.in_err-require_told.ensures in
+    let passed = err_from_is_err_and c.from_residual-in_err-require_sure.result c.from_residual-in_err-require_sure.ensures.1 in
+    let untold = c.in_err-require_sure.ensures in
     AnswersMeant-untold _ state after (Drop c.args.name) text _ (passed.1 ∙ ap Err (passed.2 ∙ untold.0)) untold.1
     (subst (λ (change : Change). Committed state change text after) dropped
     (Committed-by kit c.args.self.now made.new.self c.args.book.now made.new.book c.in_ok-change.change made.result.1 made.result.0 made.ensures.responds made.ensures.noted made.ensures.sizes))
