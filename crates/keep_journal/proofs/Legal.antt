@@ -10,7 +10,7 @@ use Rattle.keep_journal.specs.declared.event.Entry.{Entry}
 use Rattle.keep_journal.specs.declared.event.EventKind.{EventKind}
 use Rattle.keep_journal.specs.declared.event.EventKind.TheVariants.{Commit, Undo, Redo, Empty}
 use Rattle.keep_journal.proofs.Commits.{final_number-push, last_marks-push, IsNumbered-push}
-use Rattle.keep_journal.specs.Told.{is_told, is_told_by, told_at, still_told}
+use Rattle.keep_journal.specs.Lasting.{lasts, lasts_by, lasting_among, lasting}
 use Rattle.keep_journal.proofs.Telling.{committed_told, count_told, final_told, force_told, length_told, told_with, told_without}
 
 -- ---- a legal journal is numbered
@@ -49,7 +49,7 @@ module _ (f b : ℕ) (low : b ≤ f) where
   all es = record { base = b; entries = es }
 
   abbrev told : List Entry → Journal
-  told es = record { base = f; entries = told_at f es }
+  told es = record { base = f; entries = lasting_among f es }
 
   last_told : (es : List Entry) → IsNumbered (all es) → last_change (told es) ≡ f + (b + 1 + length (committed (all es)) - (f + 1))
   last_told es h = ap (λ cs. f + length cs) (committed_told f es) ∙ ap (λ n. f + n) (count_told f (b + 1) (committed (all es)) h.commits (omega arith))
@@ -58,7 +58,7 @@ module _ (f b : ℕ) (low : b ≤ f) where
   abbrev IsFirst : List Entry → Type 0
   IsFirst es = (final_number (all es) ≡ f → last_marks (all es) ≡ None) → last_marks (told es) ≡ None
 
-  fits_told : (es : List Entry) → IsNumbered (all es) → IsFirst es → (n : ℕ) (kind : EventKind) → is_told_by f n kind ≡ true → FitsBy (all es) n kind → FitsBy (told es) n kind
+  fits_told : (es : List Entry) → IsNumbered (all es) → IsFirst es → (n : ℕ) (kind : EventKind) → lasts_by f n kind ≡ true → FitsBy (all es) n kind → FitsBy (told es) n kind
   fits_told es h first n (Commit c) is fits = omega (arith, last_told es h, ltb-true f n is)
   fits_told es h first n Undo is fits =
       let above : f < n = ltb-true f n is in
@@ -70,7 +70,7 @@ module _ (f b : ℕ) (low : b ≤ f) where
       let it : n ≡ f = eqb-true n f is in
       (fits.0, omega (arith, final_told f es), omega (arith, last_told es h), λ same. first (λ so. fits.3 (it ∙ sym so)))
 
-  next_told : (es : List Entry) (e : Entry) → IsNumbered (all es) → IsFirst es → is_told f e.event ≡ true → ComesNext (all es) e → ComesNext (told es) e
+  next_told : (es : List Entry) (e : Entry) → IsNumbered (all es) → IsFirst es → lasts f e.event ≡ true → ComesNext (all es) e → ComesNext (told es) e
   next_told es e h first is next = record {
     above = omega (arith, next.above, length_told f 0 0 es h.events (omega arith));
     fits = fits_told es h first e.event.number e.event.kind is next.fits;
@@ -81,14 +81,14 @@ module _ (f b : ℕ) (low : b ≤ f) where
 
   -- an entry that is no emptying leaves the marks
   plain_more : (es : List Entry) (e : Entry) (n : ℕ) (kind : EventKind) → IsFirst es → ((m : ℕ) → final_by m n kind ≡ m) → ((o : Option (List PackMark)) → marks_by o kind ≡ o) → IsFirst (es ++ one e n kind ∷ [])
-  plain_more es e n kind first no_final no_marks only = by (is_told_by f n kind) refl ∙ first before
+  plain_more es e n kind first no_final no_marks only = by (lasts_by f n kind) refl ∙ first before
     where
       before : final_number (all es) ≡ f → last_marks (all es) ≡ None
       before so =
           sym (last_marks-push (all es) e.at (record { number = n; kind = kind }) ∙ no_marks (last_marks (all es)))
           ∙ only (final_number-push (all es) e.at (record { number = n; kind = kind }) ∙ no_final (final_number (all es)) ∙ so)
 
-      by : (t : Bool) → is_told_by f n kind ≡ t → last_marks (told (es ++ one e n kind ∷ [])) ≡ last_marks (told es)
+      by : (t : Bool) → lasts_by f n kind ≡ t → last_marks (told (es ++ one e n kind ∷ [])) ≡ last_marks (told es)
       by true is =
           ap (λ xs. last_marks (record { base = f; entries = xs })) (told_with f es (one e n kind) is)
           ∙ last_marks-push (told es) e.at (record { number = n; kind = kind }) ∙ no_marks (last_marks (told es))
@@ -116,10 +116,10 @@ module _ (f b : ℕ) (low : b ≤ f) where
               ∙ first (λ so. absurd (eqb-false n f is (omega (arith, so, fits.1, high, final))))
 
   turns_told : (es rest : List Entry) → IsNumbered (all es) → IsFirst es → ComeInTurn (all es) rest
-      → fold (λ before e. final_after before e.event) (final_number (all es)) rest ≡ f → ComeInTurn (told es) (told_at f rest)
+      → fold (λ before e. final_after before e.event) (final_number (all es)) rest ≡ f → ComeInTurn (told es) (lasting_among f rest)
   turns_told es [] h first come final = tt
   turns_told es (e ∷ rest) h first come final =
-      by (is_told f e.event) refl (turns_told (es ++ e ∷ []) rest (IsNumbered-push (all es) e h come.0) (first_more es e first come.0 upto) come.1 ends)
+      by (lasts f e.event) refl (turns_told (es ++ e ∷ []) rest (IsNumbered-push (all es) e h come.0) (first_more es e first come.0 upto) come.1 ends)
     where
       ends : fold (λ before x. final_after before x.event) (final_number (posted (all es) e.at e.event)) rest ≡ f
       ends = ap (λ g. fold (λ before (x : Entry). final_after before x.event) g rest) (final_number-push (all es) e.at e.event) ∙ final
@@ -127,10 +127,10 @@ module _ (f b : ℕ) (low : b ≤ f) where
       upto : final_number (posted (all es) e.at e.event) ≤ f
       upto = subst (λ g. final_number (posted (all es) e.at e.event) ≤ g) ends (final_rises (posted (all es) e.at e.event) rest come.1)
 
-      by : (t : Bool) → is_told f e.event ≡ t → ComeInTurn (told (es ++ e ∷ [])) (told_at f rest) → ComeInTurn (told es) (cond t (e ∷ told_at f rest) (told_at f rest))
-      by true is later = (next_told es e h first is come.0, subst (λ xs. ComeInTurn (record { base = f; entries = xs }) (told_at f rest)) (told_with f es e is) later)
-      by false is later = subst (λ xs. ComeInTurn (record { base = f; entries = xs }) (told_at f rest)) (told_without f es e is) later
+      by : (t : Bool) → lasts f e.event ≡ t → ComeInTurn (told (es ++ e ∷ [])) (lasting_among f rest) → ComeInTurn (told es) (cond t (e ∷ lasting_among f rest) (lasting_among f rest))
+      by true is later = (next_told es e h first is come.0, subst (λ xs. ComeInTurn (record { base = f; entries = xs }) (lasting_among f rest)) (told_with f es e is) later)
+      by false is later = subst (λ xs. ComeInTurn (record { base = f; entries = xs }) (lasting_among f rest)) (told_without f es e is) later
 
-pub legal_told : (j : Journal) → IsLegal j → IsLegal (still_told j)
+pub legal_told : (j : Journal) → IsLegal j → IsLegal (lasting j)
 legal_told j legal =
     turns_told (final_number j) j.base (legal_numbered j legal).first_final [] j.entries (none_numbered j.base) (λ only. refl) legal refl

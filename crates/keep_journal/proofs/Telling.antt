@@ -11,7 +11,7 @@ use Rattle.keep_journal.specs.declared.event.Entry.{Entry}
 use Rattle.keep_journal.specs.declared.event.Event.{Event}
 use Rattle.keep_journal.specs.declared.event.EventKind.{EventKind}
 use Rattle.keep_journal.specs.declared.event.EventKind.TheVariants.{Commit, Undo, Redo, Empty}
-use Rattle.keep_journal.specs.Told.{is_told, is_told_by, told_at}
+use Rattle.keep_journal.specs.Lasting.{lasts, lasts_by, lasting_among}
 use Rattle.keep_journal.proofs.Filters.{either, fold-filter}
 
 -- the entry of an event of this kind, beside another one
@@ -19,10 +19,10 @@ abbrev of_kind : Entry → EventKind → Entry
 of_kind e kind = record { at = e.at; event = record { number = e.event.number; kind = kind } }
 
 -- an event that is told makes nothing else final
-pub final_itself : (f : ℕ) (e : Event) → is_told f e ≡ true → final_after f e ≡ f
+pub final_itself : (f : ℕ) (e : Event) → lasts f e ≡ true → final_after f e ≡ f
 final_itself f e told = by e.number e.kind told
   where
-    by : (n : ℕ) (kind : EventKind) → is_told_by f n kind ≡ true → final_by f n kind ≡ f
+    by : (n : ℕ) (kind : EventKind) → lasts_by f n kind ≡ true → final_by f n kind ≡ f
     by n (Commit c) t = refl
     by n Undo t = refl
     by n Redo t = refl
@@ -30,35 +30,35 @@ final_itself f e told = by e.number e.kind told
 
 module _ (f : ℕ) where
   -- one more entry
-  pub told_more : (es : List Entry) (e : Entry) (b : Bool) → is_told f e.event ≡ b → told_at f (es ++ e ∷ []) ≡ told_at f es ++ cond b (e ∷ []) []
-  told_more es e b is = filter-append (λ (x : Entry). is_told f x.event) es (e ∷ []) ∙ ap (λ t. told_at f es ++ cond t (e ∷ []) []) is
+  pub told_more : (es : List Entry) (e : Entry) (b : Bool) → lasts f e.event ≡ b → lasting_among f (es ++ e ∷ []) ≡ lasting_among f es ++ cond b (e ∷ []) []
+  told_more es e b is = filter-append (λ (x : Entry). lasts f x.event) es (e ∷ []) ∙ ap (λ t. lasting_among f es ++ cond t (e ∷ []) []) is
 
-  pub told_with : (es : List Entry) (e : Entry) → is_told f e.event ≡ true → told_at f (es ++ e ∷ []) ≡ told_at f es ++ e ∷ []
+  pub told_with : (es : List Entry) (e : Entry) → lasts f e.event ≡ true → lasting_among f (es ++ e ∷ []) ≡ lasting_among f es ++ e ∷ []
   told_with es e told = told_more es e true told
 
-  pub told_without : (es : List Entry) (e : Entry) → is_told f e.event ≡ false → told_at f (es ++ e ∷ []) ≡ told_at f es
-  told_without es e silent = told_more es e false silent ∙ append-nil (told_at f es)
+  pub told_without : (es : List Entry) (e : Entry) → lasts f e.event ≡ false → lasting_among f (es ++ e ∷ []) ≡ lasting_among f es
+  told_without es e silent = told_more es e false silent ∙ append-nil (lasting_among f es)
 
   -- what is told makes nothing else final
-  pub final_told : (es : List Entry) → fold (λ before e. final_after before e.event) f (told_at f es) ≡ f
+  pub final_told : (es : List Entry) → fold (λ before e. final_after before e.event) f (lasting_among f es) ≡ f
   final_told [] = refl
-  final_told (e ∷ es) = by (is_told f e.event) refl (final_told es)
+  final_told (e ∷ es) = by (lasts f e.event) refl (final_told es)
     where
-      by : (b : Bool) → is_told f e.event ≡ b → fold (λ before x. final_after before x.event) f (told_at f es) ≡ f
-          → fold (λ before x. final_after before x.event) f (cond b (e ∷ told_at f es) (told_at f es)) ≡ f
-      by true told rest = ap (λ g. fold (λ before (x : Entry). final_after before x.event) g (told_at f es)) (final_itself f e.event told) ∙ rest
+      by : (b : Bool) → lasts f e.event ≡ b → fold (λ before x. final_after before x.event) f (lasting_among f es) ≡ f
+          → fold (λ before x. final_after before x.event) f (cond b (e ∷ lasting_among f es) (lasting_among f es)) ≡ f
+      by true told rest = ap (λ g. fold (λ before (x : Entry). final_after before x.event) g (lasting_among f es)) (final_itself f e.event told) ∙ rest
       by false silent rest = rest
 
   -- the later changes are in force as before
   pub force_told : (m : ℕ) → f < m → (es : List Entry) (b : Bool)
-      → fold (λ before e. in_force_after m before e.event) b (told_at f es) ≡ fold (λ before e. in_force_after m before e.event) b es
+      → fold (λ before e. in_force_after m before e.event) b (lasting_among f es) ≡ fold (λ before e. in_force_after m before e.event) b es
   force_told m above es b =
-      fold-filter (λ before (e : Entry). in_force_after m before e.event) (λ e. is_told f e.event) (λ before e silent. idle before e.event.number e.event.kind silent) es b
+      fold-filter (λ before (e : Entry). in_force_after m before e.event) (λ e. lasts f e.event) (λ before e silent. idle before e.event.number e.event.kind silent) es b
     where
       other : (n : ℕ) → nat_lt f n ≡ false → (n == m) ≡ false
       other n below = ne_eqb n m (λ same. omega (arith, ltb-false f n below))
 
-      idle : (before : Bool) (n : ℕ) (kind : EventKind) → is_told_by f n kind ≡ false → in_force_by (n == m) before kind ≡ before
+      idle : (before : Bool) (n : ℕ) (kind : EventKind) → lasts_by f n kind ≡ false → in_force_by (n == m) before kind ≡ before
       idle before n (Commit c) silent = rw (other n silent) refl
       idle before n Undo silent = rw (other n silent) refl
       idle before n Redo silent = rw (other n silent) refl
@@ -71,52 +71,52 @@ module _ (f : ℕ) where
   later cs = filter (λ c. nat_lt f c.number) cs
 
   -- the commits are those of the later changes
-  pub committed_told : (es : List Entry) → filter_map (λ e. commit_of e.event) (told_at f es) ≡ filter (λ c. nat_lt f c.number) (filter_map (λ e. commit_of e.event) es)
+  pub committed_told : (es : List Entry) → filter_map (λ e. commit_of e.event) (lasting_among f es) ≡ filter (λ c. nat_lt f c.number) (filter_map (λ e. commit_of e.event) es)
   committed_told [] = refl
   committed_told (e ∷ es) = by e.event.kind (committed_told es)
     where
-      by : (kind : EventKind) → commits (told_at f es) ≡ later (commits es)
-          → commits (cond (is_told_by f e.event.number kind) (of_kind e kind ∷ told_at f es) (told_at f es))
+      by : (kind : EventKind) → commits (lasting_among f es) ≡ later (commits es)
+          → commits (cond (lasts_by f e.event.number kind) (of_kind e kind ∷ lasting_among f es) (lasting_among f es))
           ≡ later (cons_option (commit_by e.event.number kind) (commits es))
-      by (Commit c) rest = elim (nat_lt f e.event.number) as (λ b. commits (cond b (of_kind e (Commit c) ∷ told_at f es) (told_at f es)) ≡ cond b (record { number = e.event.number; change = c } ∷ later (commits es)) (later (commits es))) [
+      by (Commit c) rest = elim (nat_lt f e.event.number) as (λ b. commits (cond b (of_kind e (Commit c) ∷ lasting_among f es) (lasting_among f es)) ≡ cond b (record { number = e.event.number; change = c } ∷ later (commits es)) (later (commits es))) [
         | true ↦ ap (λ cs. record { number = e.event.number; change = c } ∷ cs) rest
         | false ↦ rest
       ]
-      by Undo rest = either (λ xs. commits xs ≡ later (commits es)) (nat_lt f e.event.number) (of_kind e Undo ∷ told_at f es) (told_at f es) rest rest
-      by Redo rest = either (λ xs. commits xs ≡ later (commits es)) (nat_lt f e.event.number) (of_kind e Redo ∷ told_at f es) (told_at f es) rest rest
-      by (Empty marks) rest = either (λ xs. commits xs ≡ later (commits es)) (e.event.number == f) (of_kind e (Empty marks) ∷ told_at f es) (told_at f es) rest rest
+      by Undo rest = either (λ xs. commits xs ≡ later (commits es)) (nat_lt f e.event.number) (of_kind e Undo ∷ lasting_among f es) (lasting_among f es) rest rest
+      by Redo rest = either (λ xs. commits xs ≡ later (commits es)) (nat_lt f e.event.number) (of_kind e Redo ∷ lasting_among f es) (lasting_among f es) rest rest
+      by (Empty marks) rest = either (λ xs. commits xs ≡ later (commits es)) (e.event.number == f) (of_kind e (Empty marks) ∷ lasting_among f es) (lasting_among f es) rest rest
 
   abbrev marked : Option (List PackMark) → List Entry → Option (List PackMark)
   marked x xs = fold (λ before y. marks_after before y.event) x xs
 
   abbrev Goes : List Entry → ℕ → Option (List PackMark) → Option (List PackMark) → Type 0
-  Goes es m x y = fold (λ before z. final_after before z.event) m es ≡ f → (m ≡ f → x ≡ y) → marked x (told_at f es) ≡ marked y es
+  Goes es m x y = fold (λ before z. final_after before z.event) m es ≡ f → (m ≡ f → x ≡ y) → marked x (lasting_among f es) ≡ marked y es
 
   -- the last emptying has the marks that it had
   pub marks_told : (es : List Entry) (top : ℕ) (a b : Option (List PackMark)) → fold (λ before e. final_after before e.event) top es ≡ f → (top ≡ f → a ≡ b)
-      → fold (λ before e. marks_after before e.event) a (told_at f es) ≡ fold (λ before e. marks_after before e.event) b es
+      → fold (λ before e. marks_after before e.event) a (lasting_among f es) ≡ fold (λ before e. marks_after before e.event) b es
   marks_told [] top a b final same = same final
   marks_told (e ∷ es) top a b final same = by e.event.number e.event.kind final (λ m x y. marks_told es m x y)
     where
       by : (n : ℕ) (kind : EventKind) → fold (λ before z. final_after before z.event) (final_by top n kind) es ≡ f → ((m : ℕ) (x y : Option (List PackMark)) → Goes es m x y)
-          → marked a (cond (is_told_by f n kind) (record { at = e.at; event = record { number = n; kind = kind } } ∷ told_at f es) (told_at f es)) ≡ marked (marks_by b kind) es
-      by n (Commit c) is rest = either (λ xs. marked a xs ≡ marked b es) (nat_lt f n) _ (told_at f es) (rest top a b is same) (rest top a b is same)
-      by n Undo is rest = either (λ xs. marked a xs ≡ marked b es) (nat_lt f n) _ (told_at f es) (rest top a b is same) (rest top a b is same)
-      by n Redo is rest = either (λ xs. marked a xs ≡ marked b es) (nat_lt f n) _ (told_at f es) (rest top a b is same) (rest top a b is same)
+          → marked a (cond (lasts_by f n kind) (record { at = e.at; event = record { number = n; kind = kind } } ∷ lasting_among f es) (lasting_among f es)) ≡ marked (marks_by b kind) es
+      by n (Commit c) is rest = either (λ xs. marked a xs ≡ marked b es) (nat_lt f n) _ (lasting_among f es) (rest top a b is same) (rest top a b is same)
+      by n Undo is rest = either (λ xs. marked a xs ≡ marked b es) (nat_lt f n) _ (lasting_among f es) (rest top a b is same) (rest top a b is same)
+      by n Redo is rest = either (λ xs. marked a xs ≡ marked b es) (nat_lt f n) _ (lasting_among f es) (rest top a b is same) (rest top a b is same)
       by n (Empty marks) is rest = at (n == f) refl
         where
           at : (t : Bool) → (n == f) ≡ t
-              → marked a (cond t (record { at = e.at; event = record { number = n; kind = Empty marks } } ∷ told_at f es) (told_at f es)) ≡ marked (Some marks) es
+              → marked a (cond t (record { at = e.at; event = record { number = n; kind = Empty marks } } ∷ lasting_among f es) (lasting_among f es)) ≡ marked (Some marks) es
           at true it = rest n (Some marks) (Some marks) is (λ m. refl)
           at false other = rest n a (Some marks) is (λ m. absurd (eqb-false n f other m))
 
   -- the last number isn't higher
-  pub length_told : (m a : ℕ) (es : List Entry) → AscendFrom m es → a ≤ m → fold (λ before e. e.at) a (told_at f es) ≤ fold (λ before e. e.at) m es
+  pub length_told : (m a : ℕ) (es : List Entry) → AscendFrom m es → a ≤ m → fold (λ before e. e.at) a (lasting_among f es) ≤ fold (λ before e. e.at) m es
   length_told m a [] h low = low
-  length_told m a (e ∷ es) h low = by (is_told f e.event) (λ b c. length_told e.at b es h.1 c)
+  length_told m a (e ∷ es) h low = by (lasts f e.event) (λ b c. length_told e.at b es h.1 c)
     where
-      by : (b : Bool) → ((c : ℕ) → c ≤ e.at → fold (λ before x. x.at) c (told_at f es) ≤ fold (λ before x. x.at) e.at es)
-          → fold (λ before x. x.at) a (cond b (e ∷ told_at f es) (told_at f es)) ≤ fold (λ before x. x.at) e.at es
+      by : (b : Bool) → ((c : ℕ) → c ≤ e.at → fold (λ before x. x.at) c (lasting_among f es) ≤ fold (λ before x. x.at) e.at es)
+          → fold (λ before x. x.at) a (cond b (e ∷ lasting_among f es) (lasting_among f es)) ≤ fold (λ before x. x.at) e.at es
       by true rest = rest e.at (omega arith)
       by false rest = rest a (omega (arith, h.0))
 

@@ -9,7 +9,7 @@ use Rattle.keep_journal.specs.declared.event.Entry.{Entry}
 use Rattle.keep_journal.specs.declared.event.EventKind.{EventKind}
 use Rattle.keep_journal.specs.declared.event.EventKind.TheVariants.{Commit, Undo, Redo, Empty}
 use Rattle.keep_journal.proofs.Commits.{final_number-push}
-use Rattle.keep_journal.specs.Told.{Follow, is_told, is_told_by, told_at}
+use Rattle.keep_journal.specs.Lasting.{Follow, lasts, lasts_by, lasting_among}
 use Rattle.keep_journal.proofs.Filters.{filter-filter}
 use Rattle.keep_journal.proofs.Legal.{final_rises}
 
@@ -55,26 +55,26 @@ follow_within f top (e ∷ es) follow low =
 
 -- ---- what is told where more changes are final
 
-pub told_before : (f n : ℕ) → f < n → (e : Entry) → IsWithin f e → is_told n e.event ≡ true → is_told f e.event ≡ true
+pub told_before : (f n : ℕ) → f < n → (e : Entry) → IsWithin f e → lasts n e.event ≡ true → lasts f e.event ≡ true
 told_before f n below e within told = by e.event.number e.event.kind within told
   where
-    by : (m : ℕ) (kind : EventKind) → final_by f m kind ≤ f → is_told_by n m kind ≡ true → is_told_by f m kind ≡ true
+    by : (m : ℕ) (kind : EventKind) → final_by f m kind ≤ f → lasts_by n m kind ≡ true → lasts_by f m kind ≡ true
     by m (Commit c) low t = lt-ltb f m (omega (arith, ltb-true n m t))
     by m Undo low t = lt-ltb f m (omega (arith, ltb-true n m t))
     by m Redo low t = lt-ltb f m (omega (arith, ltb-true n m t))
     by m (Empty marks) low t = absurd (omega (arith, eqb-true m n t))
 
 -- it is told of what was told before
-pub told_deep : (f n : ℕ) → f < n → (es : List Entry) → AllByRecursion (IsWithin f) es → told_at n (told_at f es) ≡ told_at n es
-told_deep f n below es within = filter-filter (λ (e : Entry). is_told n e.event) (λ e. is_told f e.event) es ∙ same es within
+pub told_deep : (f n : ℕ) → f < n → (es : List Entry) → AllByRecursion (IsWithin f) es → lasting_among n (lasting_among f es) ≡ lasting_among n es
+told_deep f n below es within = filter-filter (λ (e : Entry). lasts n e.event) (λ e. lasts f e.event) es ∙ same es within
   where
     both : (a b : Bool) → (b ≡ true → a ≡ true) → (a && b) ≡ b
     both true b so = refl
     both false true so = so refl
     both false false so = refl
 
-    same : (xs : List Entry) → AllByRecursion (IsWithin f) xs → filter (λ e. is_told f e.event && is_told n e.event) xs ≡ told_at n xs
+    same : (xs : List Entry) → AllByRecursion (IsWithin f) xs → filter (λ e. lasts f e.event && lasts n e.event) xs ≡ lasting_among n xs
     same [] all = refl
     same (x ∷ xs) all =
-        ap (λ b. cond b (x ∷ filter (λ e. is_told f e.event && is_told n e.event) xs) (filter (λ e. is_told f e.event && is_told n e.event) xs)) (both (is_told f x.event) (is_told n x.event) (told_before f n below x all.0))
-        ∙ ap (λ ys. cond (is_told n x.event) (x ∷ ys) ys) (same xs all.1)
+        ap (λ b. cond b (x ∷ filter (λ e. lasts f e.event && lasts n e.event) xs) (filter (λ e. lasts f e.event && lasts n e.event) xs)) (both (lasts f x.event) (lasts n x.event) (told_before f n below x all.0))
+        ∙ ap (λ ys. cond (lasts n x.event) (x ∷ ys) ys) (same xs all.1)

@@ -5,14 +5,14 @@
 mod event;
 mod history;
 mod history_threads;
+mod lasting_laws;
 mod posting;
 mod request;
 mod standing;
-mod told_laws;
 
 pub use event::{Entry, Event, EventKind, Notice};
 pub use history::{History, Status};
 pub use history_threads::histories_cross_threads;
+pub use lasting_laws::{what_lasts_grows, what_lasts_is_kept};
 pub use posting::Posting;
 pub use request::{Request, Told};
-pub use told_laws::{what_is_told_grows, what_is_told_is_kept};

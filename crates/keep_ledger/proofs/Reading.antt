@@ -12,7 +12,7 @@ use Rattle.keep_journal.specs.Journal.{Journal}
 use Rattle.keep_journal.specs.Kept.{above}
 use Rattle.keep_journal.specs.Opening.{IsOpen, opening_under}
 use Rattle.keep_journal.specs.declared.event.Entry as the_entry
-use Rattle.keep_journal.specs.Told.{entry_at, is_told, told_at, still_told}
+use Rattle.keep_journal.specs.Lasting.{entry_at, lasts, lasting_among, lasting}
 use Rattle.keep_journal.proofs.KeptTold.{told_is_told}
 use Rattle.keep_shelf.specs.Shelved.{Content, Shelved, called}
 use Rattle.keep_shelf.specs.declared.key.Key.TheVariants.{Live, Trash, Entry}
@@ -52,20 +52,20 @@ filled None None listed found = cc found
 filled None (Some e) listed found = absurd listed
 filled (Some bytes) a listed found = refl
 
-pub told_stand : (stand : Stand) (opening : Repository) (j : Journal) → Reads stand opening (still_told j) → EntriesStand j stand
+pub told_stand : (stand : Stand) (opening : Repository) (j : Journal) → Reads stand opening (lasting j) → EntriesStand j stand
 told_stand stand opening j r =
     let f = final_number (all_of r.entries) in
     let all = all_weaker (λ (e : the_entry.Entry). is_some (entry_at r.entries e.at) ≡ true) (λ e. is_some (stand (Entry e.at)) ≡ true)
     (λ e found. filled (stand (Entry e.at)) (entry_at r.entries e.at) (r.lists.listed e.at) found) r.entries (each_found r.entries) in
     subst (λ (i : Journal). AllByRecursion (λ (e : the_entry.Entry). is_some (stand (Entry e.at)) ≡ true) i.entries) (sym r.tells)
-    (all_weaker (λ (e : the_entry.Entry). (is_some (stand (Entry e.at)) ≡ true) × (is_told f e.event ≡ true)) (λ e. is_some (stand (Entry e.at)) ≡ true) (λ e both. both.0) (told_at f r.entries)
-    (all_filtered (λ (e : the_entry.Entry). is_some (stand (Entry e.at)) ≡ true) (λ e. is_told f e.event) r.entries all))
+    (all_weaker (λ (e : the_entry.Entry). (is_some (stand (Entry e.at)) ≡ true) × (lasts f e.event ≡ true)) (λ e. is_some (stand (Entry e.at)) ≡ true) (λ e both. both.0) (lasting_among f r.entries)
+    (all_filtered (λ (e : the_entry.Entry). is_some (stand (Entry e.at)) ≡ true) (λ e. lasts f e.event) r.entries all))
 
 -- ---- what is read
 
 module _ (content : Content) (opening : Repository) (j : Journal) (live : Repository) (reads : Reads (finite.get content) opening j) (is : IsOpen opening j live) where
-  told_again : still_told j ≡ j
-  told_again = ap still_told reads.tells ∙ told_is_told (all_of reads.entries) ∙ sym reads.tells
+  told_again : lasting j ≡ j
+  told_again = ap lasting reads.tells ∙ told_is_told (all_of reads.entries) ∙ sym reads.tells
 
   -- nothing of it is final that it wasn't when it began
   pub begins_final : j.base ≡ final_number j
@@ -88,7 +88,7 @@ module _ (content : Content) (opening : Repository) (j : Journal) (live : Reposi
 
   says_it : IsRead (opening_under j live) j (due_in j content) (finite.get content)
   says_it = record {
-    reads = subst (λ o. Reads (finite.get content) o (still_told j)) (sym (opening_told opening j live is)) (subst (Reads (finite.get content) opening) (sym told_again) reads);
+    reads = subst (λ o. Reads (finite.get content) o (lasting j)) (sym (opening_told opening j live is)) (subst (Reads (finite.get content) opening) (sym told_again) reads);
     belong = subst (λ i. AllByRecursion (IsMoveOf i) (due_in j content)) (sym told_again) leads.belong;
   }
 

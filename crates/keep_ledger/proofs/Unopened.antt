@@ -4,7 +4,7 @@ use Rattle.std.specs.Prelude.{◌≢◌}
 use Rattle.std.specs.FinMap as finite
 use Rattle.keep_repo.specs.Repository.{Repository}
 use Rattle.keep_journal.specs.Journal.{Journal}
-use Rattle.keep_journal.specs.Told.{still_told}
+use Rattle.keep_journal.specs.Lasting.{lasting}
 use Rattle.keep_shelf.specs.Shelved.{Content, Shelved, failed, risen}
 use Rattle.keep_moves.specs.Calls.{Make, looks, played}
 use Rattle.keep_moves.specs.declared.moves.Move.{Move}
@@ -94,13 +94,13 @@ module _ (s : Shelved) where
     content_same : b.shelf.content ≡ s.content
     content_same = ap (λ (t : Shelved). t.content) is.shelf ∙ reads_leave count s
 
-    told_there : Reads (finite.get s.content) b.state.opening (still_told b.state.events)
-    told_there = subst (λ (d : Content). Reads (finite.get d) b.state.opening (still_told b.state.events)) content_same shown.reads.reads
+    told_there : Reads (finite.get s.content) b.state.opening (lasting b.state.events)
+    told_there = subst (λ (d : Content). Reads (finite.get d) b.state.opening (lasting b.state.events)) content_same shown.reads.reads
 
     -- what says what the ledger says
-    still : (content : Content) → Reads (finite.get content) b.state.opening (still_told b.state.events) → P content
+    still : (content : Content) → Reads (finite.get content) b.state.opening (lasting b.state.events) → P content
     still content reads opening events before =
-        let same = one_reading_lem (finite.get s.content) opening b.state.opening events (still_told b.state.events) before told_there in
+        let same = one_reading_lem (finite.get s.content) opening b.state.opening events (lasting b.state.events) before told_there in
         subst (λ (o : Repository). Reads (finite.get content) o events) (sym same.0)
         (subst (λ (j : Journal). Reads (finite.get content) b.state.opening j) (sym same.1) reads)
 
@@ -109,7 +109,7 @@ module _ (s : Shelved) where
         let read = moves_read b.state.opening b.state.events b.due b.shelf made shown.reads shown.can in
         grown_then P s b.shelf reached (subst (Grown P s) (sym is.shelf) (read_grows count))
         (grown_by P (map Make moves) b.shelf
-        (all_weaker (λ content. Reads (finite.get content) b.state.opening (still_told b.state.events)) P still (contents_along (map Make moves) b.shelf.content) read.0))
+        (all_weaker (λ content. Reads (finite.get content) b.state.opening (lasting b.state.events)) P still (contents_along (map Make moves) b.shelf.content) read.0))
 
     whole : reached ≡ played (looks count ++ map Make (take made (due_in b.state.events s.content))) s
     whole =

@@ -2,7 +2,7 @@
 use Rattle.std.specs.Prelude.{drop, length, ◌⊎◌}
 use Rattle.std.specs.FinMap as finite
 use Rattle.std.specs.List.{AllByRecursion}
-use Rattle.keep_journal.specs.Told.{still_told}
+use Rattle.keep_journal.specs.Lasting.{lasting}
 use Rattle.keep_shelf.specs.Shelved.{Content}
 use Rattle.keep_moves.specs.Move.{CanMake}
 use Rattle.keep_reading.specs.Reads.{Reads}
@@ -19,7 +19,7 @@ pub record IsShown (b : OnShelf) : Type 0 where
 
 -- this content says what the ledger says
 abbrev pub Says : LedgerState → Content → Type 0
-Says b content = Reads (finite.get content) b.opening (still_told b.events)
+Says b content = Reads (finite.get content) b.opening (lasting b.events)
 
 -- it says what the ledger says before the request, or after it
 abbrev pub IsBeforeOrAfter : LedgerState → Request → Content → Type 0

@@ -18,7 +18,7 @@ use Rattle.keep_journal.specs.History.{change_of, committed, final_number, is_in
 use Rattle.keep_journal.specs.Journal.{Journal, posted}
 use Rattle.keep_journal.specs.declared.event.Entry as the_entry
 use Rattle.keep_journal.proofs.Commits.{committed-Empty, final_number-push, is_in_force-push}
-use Rattle.keep_journal.specs.Told.{is_told, told_at}
+use Rattle.keep_journal.specs.Lasting.{lasts, lasting_among}
 use Rattle.keep_journal.proofs.Filters.{filter-filter}
 use Rattle.keep_journal.proofs.Legal.{legal_numbered}
 use Rattle.keep_shelf.specs.declared.key.Key.{Key}
@@ -71,10 +71,10 @@ module _ (j : Journal) (k n : ℕ) (marks : List PackMark) (live : Repository) (
   silenced_stand : AllByRecursion (λ x. is_some (g (Entry x.at)) ≡ true) (filter out j.entries)
   silenced_stand =
       subst (AllByRecursion (λ (x : the_entry.Entry). is_some (g (Entry x.at)) ≡ true))
-      (filter-filter (λ (x : the_entry.Entry). not (is_told n x.event)) (λ x. is_told (final_number j) x.event) j.entries)
-      (all_weaker (λ (x : the_entry.Entry). (is_some (g (Entry x.at)) ≡ true) × (not (is_told n x.event) ≡ true)) (λ x. is_some (g (Entry x.at)) ≡ true) (λ x both. both.0)
-      (filter (λ (x : the_entry.Entry). not (is_told n x.event)) (told_at (final_number j) j.entries))
-      (all_filtered (λ (x : the_entry.Entry). is_some (g (Entry x.at)) ≡ true) (λ x. not (is_told n x.event)) (told_at (final_number j) j.entries) there))
+      (filter-filter (λ (x : the_entry.Entry). not (lasts n x.event)) (λ x. lasts (final_number j) x.event) j.entries)
+      (all_weaker (λ (x : the_entry.Entry). (is_some (g (Entry x.at)) ≡ true) × (not (lasts n x.event) ≡ true)) (λ x. is_some (g (Entry x.at)) ≡ true) (λ x both. both.0)
+      (filter (λ (x : the_entry.Entry). not (lasts n x.event)) (lasting_among (final_number j) j.entries))
+      (all_filtered (λ (x : the_entry.Entry). is_some (g (Entry x.at)) ≡ true) (λ x. not (lasts n x.event)) (lasting_among (final_number j) j.entries) there))
 
   filled : AllFilled h (swept_keys j n)
   filled = all_append (λ key. is_some (h key) ≡ true) trash entries (filled_trash j n numbered once h is.trash)

@@ -6,7 +6,7 @@ use Rattle.std.proofs.lemmas.Bool.{cases_eq, eq-eqb, ne_eqb}
 use Rattle.keep_change.proofs.Records.{or_neither}
 use Rattle.keep_journal.specs.History.{AscendFrom}
 use Rattle.keep_journal.specs.declared.event.Entry as the_entry
-use Rattle.keep_journal.specs.Told.{entry_at, is_told, told_at}
+use Rattle.keep_journal.specs.Lasting.{entry_at, lasts, lasting_among}
 use Rattle.keep_journal.proofs.Filters.{either}
 use Rattle.keep_journal.proofs.Within.{IsWithin, told_before}
 use Rattle.keep_shelf.specs.declared.key.Key.{Key}
@@ -75,26 +75,26 @@ module _ (f n : ℕ) (below : f < n) where
 
   -- what is left under a number
   pub left_standing : (m i : ℕ) (es : List the_entry.Entry) → AscendFrom m es → AllByRecursion (IsWithin f) es
-      → cond (is_in (Entry i) (entry_keys (filter is_out es))) None (text_at (told_at f es) i) ≡ text_at (told_at n es) i
+      → cond (is_in (Entry i) (entry_keys (filter is_out es))) None (text_at (lasting_among f es) i) ≡ text_at (lasting_among n es) i
   left_standing m i [] h within = refl
   left_standing m i (e ∷ es) h within = elim (cases_eq e.at i) [
-    | inl same ↦ own same (is_told f e.event) refl (is_told n e.event) refl
+    | inl same ↦ own same (lasts f e.event) refl (lasts n e.event) refl
     | inr other ↦
         let apart : (e.at == i) ≡ false = ne_eqb e.at i other in
-        ap₂ (λ t o. cond t None o) (in_passed e (filter is_out es) i (is_out e) (entry_other i e.at (λ s. other (sym s)))) (passed e (told_at f es) i (is_told f e.event) apart)
+        ap₂ (λ t o. cond t None o) (in_passed e (filter is_out es) i (is_out e) (entry_other i e.at (λ s. other (sym s)))) (passed e (lasting_among f es) i (lasts f e.event) apart)
         ∙ left_standing e.at i es h.1 within.1
-        ∙ sym (passed e (told_at n es) i (is_told n e.event) apart)
+        ∙ sym (passed e (lasting_among n es) i (lasts n e.event) apart)
   ]
     where
-      none : (g : ℕ) → e.at ≡ i → entry_at (told_at g es) i ≡ None
-      none g same = none_below e.at i (λ x. is_told g x.event) es h.1 (omega arith)
+      none : (g : ℕ) → e.at ≡ i → entry_at (lasting_among g es) i ≡ None
+      none g same = none_below e.at i (λ x. lasts g x.event) es h.1 (omega arith)
 
       out : e.at ≡ i → is_in (Entry i) (entry_keys (filter is_out es)) ≡ false
       out same = in_below is_out e.at i es h.1 (omega arith)
 
-      own : e.at ≡ i → (a : Bool) → is_told f e.event ≡ a → (b : Bool) → is_told n e.event ≡ b
-          → cond (is_in (Entry i) (entry_keys (cond (a && not b) (e ∷ filter is_out es) (filter is_out es)))) None (text_at (cond a (e ∷ told_at f es) (told_at f es)) i)
-          ≡ text_at (cond b (e ∷ told_at n es) (told_at n es)) i
+      own : e.at ≡ i → (a : Bool) → lasts f e.event ≡ a → (b : Bool) → lasts n e.event ≡ b
+          → cond (is_in (Entry i) (entry_keys (cond (a && not b) (e ∷ filter is_out es) (filter is_out es)))) None (text_at (cond a (e ∷ lasting_among f es) (lasting_among f es)) i)
+          ≡ text_at (cond b (e ∷ lasting_among n es) (lasting_among n es)) i
       own same true told true still = rw (out same, eq-eqb e.at i same) refl
       own same true told false silent = rw (entry_same i e.at (sym same), none n same) refl
       own same false told true still = cc (sym told ∙ told_before f n below e within.0 still)

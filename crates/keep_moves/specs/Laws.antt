@@ -14,7 +14,7 @@ use Rattle.keep_journal.specs.History.{change_of, committed, final_number, Comes
 use Rattle.keep_journal.specs.Journal.{Journal, posted}
 use Rattle.keep_journal.specs.declared.event.Event.{Event}
 use Rattle.keep_shelf.specs.Shelved.{Content, Shelved}
-use Rattle.keep_journal.specs.Told.{still_told}
+use Rattle.keep_journal.specs.Lasting.{lasting}
 use Rattle.keep_shelf.specs.declared.key.Key.TheVariants.{Entry}
 use Rattle.keep_moves.specs.Behind.{IsBehind}
 use Rattle.keep_moves.specs.Calls.{Call, Make, looks, made_in, played}
@@ -94,7 +94,7 @@ RedoIsBegun =
 
 -- something stands under the number of each entry that still tells something
 abbrev pub EntriesStand : Journal → Stand → Type 0
-EntriesStand j stand = AllByRecursion (λ e. is_some (stand (Entry e.at)) ≡ true) (still_told j).entries
+EntriesStand j stand = AllByRecursion (λ e. is_some (stand (Entry e.at)) ≡ true) (lasting j).entries
 
 -- and with an emptying that moves the final number up, where each entry that it erases stands: it changes no live file
 abbrev pub EmptyIsBegun : Type 0

@@ -14,7 +14,7 @@ use Rattle.keep_journal.specs.declared.event.Entry as the_entry
 use Rattle.keep_journal.specs.declared.event.Event.{Event}
 use Rattle.keep_journal.specs.declared.event.EventKind.{EventKind}
 use Rattle.keep_journal.specs.declared.event.EventKind.TheVariants.{Commit, Undo, Redo, Empty}
-use Rattle.keep_journal.specs.Told.{is_told}
+use Rattle.keep_journal.specs.Lasting.{lasts}
 use Rattle.keep_shelf.specs.declared.key.Key.{Key}
 use Rattle.keep_shelf.specs.declared.key.Key.TheVariants.{Live, Trash, Entry}
 use Rattle.keep_moves.specs.declared.moves.Move.{Move}
@@ -63,7 +63,7 @@ made_final j f n = chosen (λ m. nat_le m n && nat_lt f m) j
 
 -- whether the event tells something where changes up to f are final, and nothing where those up to n are
 abbrev pub is_silenced : ℕ → ℕ → Event → Bool
-is_silenced f n e = is_told f e && not (is_told n e)
+is_silenced f n e = lasts f e && not (lasts n e)
 
 -- the keys of entries
 abbrev pub entry_keys : List the_entry.Entry → List Key

@@ -2,7 +2,7 @@ ghost use Rattle.std.specs.Prelude.{◌≡◌, ◌<◌, ◌≤◌, ◌++◌, IfO
 ghost use Rattle.keep_journal.specs.History.{final_number as last_final, last_change};
 ghost use Rattle.keep_shelf.specs.declared.key.Key.TheVariants.{Trash};
 ghost use Rattle.keep_moves.specs.Lists.{swept_keys, trash_at};
-ghost use Rattle.keep_moves.specs.Notices.{silenced_keys, tells as tells_something};
+ghost use Rattle.keep_moves.specs.Notices.{silenced_keys, notice_lasts as tells_something};
 ghost use Rattle.keep_moves.specs.declared.moves.Move.TheVariants.{Erase};
 
 use crate::moves::Move;
@@ -63,7 +63,7 @@ fn sweep_entries(
         ≡ moves.old.items ++ map Erase (silenced_keys final_number n notices.now)) }
 {
     for notice in notices {
-        if tells(final_number, notice) && !tells(n, notice) {
+        if notice_lasts(final_number, notice) && !notice_lasts(n, notice) {
             moves.push(Move::Erase(Key::Entry(notice.at)))?;
         }
     }
@@ -71,7 +71,7 @@ fn sweep_entries(
 }
 
 /// Whether the event still tells something where changes up to this number are final.
-fn tells(final_number: u64, notice: &Notice) -> bool
+fn notice_lasts(final_number: u64, notice: &Notice) -> bool
     ensures { result ≡ tells_something final_number notice.now }
 {
     match notice.what {

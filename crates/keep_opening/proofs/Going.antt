@@ -7,10 +7,10 @@ use Rattle.keep_journal.specs.History.{final_after, final_number, last_marks, le
 use Rattle.keep_journal.specs.Journal.{Journal}
 use Rattle.keep_journal.specs.declared.event.Entry as the_entry
 use Rattle.keep_journal.specs.declared.event.Event.{Event}
-use Rattle.keep_journal.specs.Told.{is_told}
+use Rattle.keep_journal.specs.Lasting.{lasts}
 use Rattle.keep_journal.proofs.Telling.{final_told}
 use Rattle.keep_moves.specs.Move.{Stand}
-use Rattle.keep_reading.specs.Bad.{first_bad_after, is_bad, is_wrong, told_by}
+use Rattle.keep_reading.specs.Bad.{first_bad_after, is_bad, is_wrong, lasting_by}
 use Rattle.keep_reading.specs.Leaves.{AreLeaves, entries_of, entry_of}
 use Rattle.keep_reading.specs.Reads.{all_of}
 use Rattle.keep_reading.specs.declared.leaf.Leaf.{Leaf}
@@ -32,7 +32,7 @@ journal_by f es = record { base = f; entries = es }
 pub record Goes (f : ℕ) (all rest : List Leaf) (j : Journal) (top : ℕ) : Type 0 where
   pub before : List the_entry.Entry
   pub low : ℕ
-  pub journal : j ≡ told_by f before
+  pub journal : j ≡ lasting_by f before
   pub above : top ≡ final_number (all_of before)
   pub on : IsOn f low before
   pub rises : Rises place_of rest
@@ -70,7 +70,7 @@ next_comes f all leaf rest j top goes =
 -- whether it is wrong is said of these entries
 same_wrong : (f : ℕ) (all : List Leaf) (leaf : Leaf) (rest : List Leaf) (j : Journal) (top : ℕ) (goes : Goes f all (leaf ∷ rest) j top) → is_wrong f top j leaf ≡ is_bad f goes.before leaf
 same_wrong f all leaf rest j top goes =
-    ap (λ (i : Journal). is_wrong f top i leaf) goes.journal ∙ ap (λ (n : ℕ). is_wrong f n (told_by f goes.before) leaf) goes.above
+    ap (λ (i : Journal). is_wrong f top i leaf) goes.journal ∙ ap (λ (n : ℕ). is_wrong f n (lasting_by f goes.before) leaf) goes.above
 
 on_right : (f low at : ℕ) (before : List the_entry.Entry) (o : Option Event) → IsOn f low before → ((e : Event) → o ≡ Some e → low < at)
     → is_bad f before (leaf_made at o) ≡ false → IsOn f at (before ++ entries_of (leaf_made at o ∷ []))
@@ -86,7 +86,7 @@ goes_on f all leaf rest j top up new goes taken =
       before = goes.before ++ es;
       low = leaf.at;
       journal = taken.journal ∙ ap (λ (i : Journal). journal_after f i leaf) goes.journal
-          ∙ ap (journal_by f) (sym (filter-append (λ (e : the_entry.Entry). is_told f e.event) goes.before es));
+          ∙ ap (journal_by f) (sym (filter-append (λ (e : the_entry.Entry). lasts f e.event) goes.before es));
       above = taken.above ∙ ap (λ (n : ℕ). top_after n leaf) goes.above
           ∙ sym (fold-append (λ (n : ℕ) (e : the_entry.Entry). final_after n e.event) 0 goes.before es);
       on = on_right f goes.low leaf.at goes.before leaf.event goes.on goes.events.0 right;
@@ -101,9 +101,9 @@ pub goes_wrong : (f : ℕ) (all : List Leaf) (leaf : Leaf) (rest : List Leaf) (j
 goes_wrong f all leaf rest j top goes wrong =
     sym goes.bad ∙ ap (λ b. cond b (Some leaf.at) (first_bad_after f (goes.before ++ entries_of (leaf ∷ [])) rest)) (sym (same_wrong f all leaf rest j top goes) ∙ wrong)
 
-pub goes_last : (f : ℕ) (all : List Leaf) (j : Journal) (top : ℕ) → Goes f all [] j top → (j ≡ told_by f (entries_of all)) × (first_bad_after f [] all ≡ None)
+pub goes_last : (f : ℕ) (all : List Leaf) (j : Journal) (top : ℕ) → Goes f all [] j top → (j ≡ lasting_by f (entries_of all)) × (first_bad_after f [] all ≡ None)
 goes_last f all j top goes = (
-  goes.journal ∙ ap (told_by f) (sym (append-nil goes.before) ∙ goes.entries),
+  goes.journal ∙ ap (lasting_by f) (sym (append-nil goes.before) ∙ goes.entries),
   sym goes.bad,
 )
 

@@ -21,7 +21,7 @@ use Rattle.keep_journal.specs.declared.event.EventKind.{EventKind}
 use Rattle.keep_journal.specs.declared.event.EventKind.TheVariants.{Commit, Undo, Redo, Empty}
 use Rattle.keep_journal.specs.declared.event.Notice.{Notice}
 use Rattle.keep_journal.proofs.Later.{well_formed_change}
-use Rattle.keep_journal.specs.Told.{entry_at}
+use Rattle.keep_journal.specs.Lasting.{entry_at}
 use Rattle.keep_shelf.specs.Key.{key_cmp}
 use Rattle.keep_shelf.specs.Shelved.{Content}
 use Rattle.keep_shelf.specs.declared.key.Key.{Key}

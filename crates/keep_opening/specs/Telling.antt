@@ -2,7 +2,7 @@
 use Rattle.std.specs.Prelude.{◌≡◌, ℕ, ◌<◌, false, [], ◌∷◌, ◌++◌, fold, None, IfSome}
 use Rattle.keep_journal.specs.History.{final_after, final_number, last_marks, length_of}
 use Rattle.keep_journal.specs.Journal.{Journal}
-use Rattle.keep_journal.specs.Told.{told_at}
+use Rattle.keep_journal.specs.Lasting.{lasting_among}
 use Rattle.keep_reading.specs.Bad.{is_wrong}
 use Rattle.keep_reading.specs.Leaves.{entries_of}
 use Rattle.keep_reading.specs.declared.leaf.Leaf.{Leaf}
@@ -13,7 +13,7 @@ top_after top leaf = fold (λ before e. final_after before e.event) top (entries
 
 -- the journal with what the leaf tells, where changes up to f are final
 abbrev pub journal_after : ℕ → Journal → Leaf → Journal
-journal_after f j leaf = record j { entries = j.entries ++ told_at f (entries_of (leaf ∷ [])) }
+journal_after f j leaf = record j { entries = j.entries ++ lasting_among f (entries_of (leaf ∷ [])) }
 
 -- a leaf can come after this journal, which tells of the changes after f: its number is above, and until the emptying
 -- that made f final comes, no other is told

@@ -6,7 +6,7 @@ ghost use Rattle.keep_opening.specs.declared.open_error.OpenError.TheVariants as
 ghost use Rattle.keep_reading.specs.Bad.{first_bad, fits_by, is_misfit as is_misfit_after, is_wrong};
 ghost use Rattle.keep_reading.specs.Leaves.{AreLeaves, entries_of};
 ghost use Rattle.keep_reading.specs.Reads.{all_of, told};
-ghost use Rattle.keep_journal.specs.Told.{is_told as is_told_at};
+ghost use Rattle.keep_journal.specs.Lasting.{lasts as lasts_at};
 
 use crate::open_error::OpenError;
 use keep_journal::{Entry, Event, EventKind, History, Posting, Status};
@@ -83,7 +83,7 @@ fn take_leaf(
         return Err(OpenError::BadEntry(at));
     }
     let next = final_after(top, &event);
-    if is_told(final_number, &event) {
+    if lasts(final_number, &event) {
         let posting = Posting::of(alloc, Entry { at, event })?;
         history.reserve()?;
         history.push(posting);
@@ -97,12 +97,12 @@ fn is_misfit(history: &History, final_number: u64, top: u64, event: &Event) -> b
     ensures numbered { IsNumbered history.now.journal }
 {
     let fits = fits(history, event);
-    event.number <= top || is_told(final_number, event) && !fits
+    event.number <= top || lasts(final_number, event) && !fits
 }
 
 /// Whether the event still tells something where changes up to this number are final.
-fn is_told(final_number: u64, event: &Event) -> bool
-    ensures { result ≡ is_told_at final_number event.now }
+fn lasts(final_number: u64, event: &Event) -> bool
+    ensures { result ≡ lasts_at final_number event.now }
 {
     match &event.kind {
         EventKind::Empty(_) => event.number == final_number,

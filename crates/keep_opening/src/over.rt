@@ -23,13 +23,13 @@ pub(crate) fn over_moves(
     ensures { IfOk result (λ moves. moves.items
         ≡ map Erase (filter (is_over_by n history.now.journal) (finite.keys stock.now))) }
 {
-    let told = told_numbers(alloc, history)?;
+    let told = lasting_numbers(alloc, history)?;
     let keys = stock.keys()?;
     erase_over(alloc, &told, n, keys.as_slice())
 }
 
 /// The numbers of the events that still tell something.
-fn told_numbers(alloc: Global, history: &History) -> Result<BTreeSet<u64>, AllocError>
+fn lasting_numbers(alloc: Global, history: &History) -> Result<BTreeSet<u64>, AllocError>
     ensures { IfOk result (λ told. (k : ℕ)
         → tree.contains nat_cmp told k ≡ list_any (λ notice. notice.at == k) (notices_of history.now.journal)) }
 {

@@ -3,7 +3,7 @@ use Rattle.std.proofs.Common.{◌≡◌, ℕ, List, [], ◌∷◌, sym, subst}
 use Rattle.keep_repo.specs.Repository.{Repository}
 use Rattle.keep_sound.specs.Met.{HasOneText}
 use Rattle.keep_sound.specs.Selection.{IsSoundState}
-use Rattle.keep_journal.specs.Laws.{ToldIsOpen}
+use Rattle.keep_journal.specs.Laws.{LastingIsOpen}
 use Rattle.keep_reading.specs.Reads.{OneReading}
 use Rattle.keep_ledger.specs.LedgerState.{LedgerState}
 use Rattle.keep_ledger.specs.Made.{with_event}
@@ -18,7 +18,7 @@ use Rattle.keep_planned_books.proofs.Heard.{by_reply}
 use Rattle.keep_planned_books.proofs.Keeping.{Keep, Laws, keep_first, keep_next}
 use Rattle.keep_planned_books.proofs.Opening.{opened_is, read_sound}
 
-module _ (laws : Laws) (audits : SoundLosesNoBlob) (stays : ToldIsOpen) where
+module _ (laws : Laws) (audits : SoundLosesNoBlob) (stays : LastingIsOpen) where
   loses_nothing : (r all : Repository) → HasOneText all → IsSoundState all r → LosesNothing r
   loses_nothing r all one is = record { whole = (laws.whole r all is.part one).0 is.sound; audit = audits r is.sound }
 

@@ -8,8 +8,8 @@ use Rattle.keep_journal.specs.Kept.{kept, unfinal}
 use Rattle.keep_journal.proofs.Filters.{filter-filter}
 use Rattle.keep_journal.proofs.KeptTold.{final_is, kept_is}
 use Rattle.keep_journal.proofs.Telling.{committed_told}
-use Rattle.keep_journal.specs.Laws.{ToldIsOpen}
-use Rattle.keep_journal.specs.Told.{still_told}
+use Rattle.keep_journal.specs.Laws.{LastingIsOpen}
+use Rattle.keep_journal.specs.Lasting.{lasting}
 use Rattle.keep_shelf.specs.Shelved.{Shelved}
 use Rattle.keep_reading.specs.Reads.{OneReading}
 use Rattle.keep_sound.specs.Selection.{IsSoundHistory}
@@ -24,16 +24,16 @@ and_same : (b : Bool) → (b && b) ≡ b
 and_same true = refl
 and_same false = refl
 
-unfinal_told : (j : Journal) → unfinal (still_told j) ≡ unfinal j
+unfinal_told : (j : Journal) → unfinal (lasting j) ≡ unfinal j
 unfinal_told j =
     let f : ℕ = final_number j in
-    ap (λ (n : ℕ). filter (λ (c : Numbered). nat_lt n c.number) (committed (still_told j))) (final_is j)
+    ap (λ (n : ℕ). filter (λ (c : Numbered). nat_lt n c.number) (committed (lasting j))) (final_is j)
     ∙ ap (filter (λ (c : Numbered). nat_lt f c.number)) (committed_told f j.entries)
     ∙ filter-filter (λ (c : Numbered). nat_lt f c.number) (λ c. nat_lt f c.number) (committed j)
     ∙ (λ i. filter (λ (c : Numbered). and_same (nat_lt f c.number) i) (committed j))
 
 -- so it is as sound
-pub read_sound : ToldIsOpen → (all : Repository) (book : LedgerState) → IsSoundBook all book → IsSoundBook all (read_again book)
+pub read_sound : LastingIsOpen → (all : Repository) (book : LedgerState) → IsSoundBook all book → IsSoundBook all (read_again book)
 read_sound stays all book sound = record {
   is_open = stays book.opening book.events book.live sound.is_open;
   history = subst (λ (ns : List Numbered). IsSoundHistory all book.opening ns) (sym (unfinal_told book.events)) sound.history;

@@ -2,7 +2,7 @@
 use Rattle.std.specs.Prelude.{◌≡◌, ◌⊎◌, List, [], ◌∷◌, Ok}
 use Rattle.keep_repo.specs.Repository.{Repository}
 use Rattle.keep_hooks.specs.Guards.{Rule}
-use Rattle.keep_journal.specs.Told.{still_told}
+use Rattle.keep_journal.specs.Lasting.{lasting}
 use Rattle.keep_view.specs.Shown.{shown_of}
 use Rattle.keep_ledger.specs.LedgerState.{LedgerState, new_ledger}
 use Rattle.keep_ledger.specs.Made.{with_event}
@@ -37,7 +37,7 @@ IsPlanned all books (Empty n) = Unit {0}
 
 -- the book that is read of a shelf which says what this one says: the events that still tell something
 abbrev pub read_again : LedgerState → LedgerState
-read_again book = record { opening = book.opening; events = still_told book.events; live = book.live }
+read_again book = record { opening = book.opening; events = lasting book.events; live = book.live }
 
 -- The books of a planned history, the last first: it begins over the opening without events, and each next book is what
 -- an accepted request left of the last one. A commit's change may have been planned on an earlier book. Where the shelf

@@ -10,7 +10,7 @@ use crate::{
     views_know_what_books_know,
 };
 use keep_jobs::{HoldsFilter, Job};
-use keep_journal::what_is_told_is_kept;
+use keep_journal::what_lasts_is_kept;
 use keep_names::orders_tell_apart;
 use keep_read::sound_repositories_lose_no_blob;
 use keep_reading::one_reading;
@@ -60,7 +60,7 @@ pub fn planned_histories_lose_nothing()
 {
     planned_changes_keep_whole();
     sound_repositories_are_whole();
-    what_is_told_is_kept();
+    what_lasts_is_kept();
     one_reading();
     views_know_what_books_know();
     books_begin_sound();

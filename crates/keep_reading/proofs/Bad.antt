@@ -7,12 +7,12 @@ use Rattle.keep_journal.specs.Journal.{Journal}
 use Rattle.keep_journal.specs.declared.event.Entry as the_entry
 use Rattle.keep_journal.specs.declared.event.Event.{Event}
 use Rattle.keep_journal.proofs.Commits.{final_number-push, length_of-push, IsLegal-push}
-use Rattle.keep_journal.specs.Told.{Follow, is_told, told_at}
+use Rattle.keep_journal.specs.Lasting.{Follow, lasts, lasting_among}
 use Rattle.keep_journal.proofs.Legal.{legal_numbered}
 use Rattle.keep_journal.proofs.Telling.{final_told, told_with, told_without}
 use Rattle.keep_shelf.specs.declared.key.Key.TheVariants.{Entry}
 use Rattle.keep_moves.specs.Move.{Stand}
-use Rattle.keep_reading.specs.Bad.{NoneIsBad, OneIsBad, first_bad, first_bad_after, fits_by, is_misfit, told_by}
+use Rattle.keep_reading.specs.Bad.{NoneIsBad, OneIsBad, first_bad, first_bad_after, fits_by, is_misfit, lasting_by}
 use Rattle.keep_reading.specs.Leaves.{AreLeaves, IsLeaf, Tells, entries_of}
 use Rattle.keep_reading.specs.Reads.{all_of, told}
 use Rattle.keep_reading.specs.declared.leaf.Leaf.{Leaf}
@@ -36,46 +36,46 @@ journal_by f es = record { base = f; entries = es }
 
 -- nothing is wrong with an event that follows, and fits if it is told
 fine : (f : ℕ) (before : List the_entry.Entry) (e : Event) → final_number (all_of before) < e.number
-    → (is_told f e ≡ true → fits_by (told_by f before) e.number e.kind ≡ true) → is_misfit f (final_number (all_of before)) (told_by f before) e ≡ false
-fine f before e above fits = or_from _ _ (lt-leb e.number (final_number (all_of before)) above) (by (is_told f e) fits)
+    → (lasts f e ≡ true → fits_by (lasting_by f before) e.number e.kind ≡ true) → is_misfit f (final_number (all_of before)) (lasting_by f before) e ≡ false
+fine f before e above fits = or_from _ _ (lt-leb e.number (final_number (all_of before)) above) (by (lasts f e) fits)
   where
-    by : (b : Bool) → (b ≡ true → fits_by (told_by f before) e.number e.kind ≡ true) → (b && not (fits_by (told_by f before) e.number e.kind)) ≡ false
+    by : (b : Bool) → (b ≡ true → fits_by (lasting_by f before) e.number e.kind ≡ true) → (b && not (fits_by (lasting_by f before) e.number e.kind)) ≡ false
     by true so = not_from_true _ (so refl)
     by false so = refl
 
 -- what is told with it is legal where it was, and no longer than its number
 pub record IsOn (f at : ℕ) (es : List the_entry.Entry) : Type 0 where
   pub follow : Follow 0 es
-  pub legal : IsLegal (told_by f es)
-  pub long : length_of (told_by f es) ≤ at
+  pub legal : IsLegal (lasting_by f es)
+  pub long : length_of (lasting_by f es) ≤ at
 
-pub on_next : (f low at : ℕ) (before : List the_entry.Entry) (e : Event) → IsOn f low before → low < at → is_misfit f (final_number (all_of before)) (told_by f before) e ≡ false → IsOn f at (before ++ entry_made at e ∷ [])
+pub on_next : (f low at : ℕ) (before : List the_entry.Entry) (e : Event) → IsOn f low before → low < at → is_misfit f (final_number (all_of before)) (lasting_by f before) e ≡ false → IsOn f at (before ++ entry_made at e ∷ [])
 on_next f low at before e on above fine_here =
     let parts = or_parts _ _ fine_here in
     let up = leb-false e.number (final_number (all_of before)) parts.0 in
-    by (is_told f e) refl (follow_push 0 before (entry_made at e) on.follow up) up parts.1
+    by (lasts f e) refl (follow_push 0 before (entry_made at e) on.follow up) up parts.1
   where
     fitting : (b : Bool) → not b ≡ false → b ≡ true
     fitting true h = refl
     fitting false h = cc h
 
-    by : (b : Bool) → is_told f e ≡ b → Follow 0 (before ++ entry_made at e ∷ []) → final_number (all_of before) < e.number
-        → (b && not (fits_by (told_by f before) e.number e.kind)) ≡ false → IsOn f at (before ++ entry_made at e ∷ [])
+    by : (b : Bool) → lasts f e ≡ b → Follow 0 (before ++ entry_made at e ∷ []) → final_number (all_of before) < e.number
+        → (b && not (fits_by (lasting_by f before) e.number e.kind)) ≡ false → IsOn f at (before ++ entry_made at e ∷ [])
     by true is follow up fit =
-        let same : told_at f (before ++ entry_made at e ∷ []) ≡ told_at f before ++ entry_made at e ∷ [] = told_with f before (entry_made at e) is in
+        let same : lasting_among f (before ++ entry_made at e ∷ []) ≡ lasting_among f before ++ entry_made at e ∷ [] = told_with f before (entry_made at e) is in
         let long = on.long in
-        let next : ComesNext (told_by f before) (entry_made at e) = record {
+        let next : ComesNext (lasting_by f before) (entry_made at e) = record {
           above = omega (arith, long, above);
-          fits = fits_from f (final_number (all_of before)) (told_by f before) e (legal_numbered (told_by f before) on.legal) (final_told f before)
-              (none_told f 0 before None on.follow) is up (fitting (fits_by (told_by f before) e.number e.kind) fit);
+          fits = fits_from f (final_number (all_of before)) (lasting_by f before) e (legal_numbered (lasting_by f before) on.legal) (final_told f before)
+              (none_told f 0 before None on.follow) is up (fitting (fits_by (lasting_by f before) e.number e.kind) fit);
         } in
         record {
           follow = follow;
-          legal = subst (λ (es : List the_entry.Entry). IsLegal (journal_by f es)) (sym same) (IsLegal-push (told_by f before) (entry_made at e) on.legal next);
-          long = subst (λ (es : List the_entry.Entry). length_of (journal_by f es) ≤ at) (sym same) (subst (λ (n : ℕ). n ≤ at) (sym (length_of-push (told_by f before) at e)) (omega arith));
+          legal = subst (λ (es : List the_entry.Entry). IsLegal (journal_by f es)) (sym same) (IsLegal-push (lasting_by f before) (entry_made at e) on.legal next);
+          long = subst (λ (es : List the_entry.Entry). length_of (journal_by f es) ≤ at) (sym same) (subst (λ (n : ℕ). n ≤ at) (sym (length_of-push (lasting_by f before) at e)) (omega arith));
         }
     by false is follow up fit =
-        let same : told_at f (before ++ entry_made at e ∷ []) ≡ told_at f before = told_without f before (entry_made at e) is in
+        let same : lasting_among f (before ++ entry_made at e ∷ []) ≡ lasting_among f before = told_without f before (entry_made at e) is in
         let long = on.long in
         record {
           follow = follow;
@@ -89,7 +89,7 @@ on_next f low at before e on above fine_here =
 record Clean (f : ℕ) (before : List the_entry.Entry) (leaves : List Leaf) : Type 0 where
   entries : leaves ≡ map leaf_of (entries_of leaves)
   follow : Follow 0 (before ++ entries_of leaves)
-  legal : IsLegal (told_by f (before ++ entries_of leaves))
+  legal : IsLegal (lasting_by f (before ++ entries_of leaves))
 
 -- each leaf that has an event is above the number
 abbrev pub AreAbove : ℕ → List Leaf → Type 0
@@ -110,13 +110,13 @@ clean_step : (f low at : ℕ) (before : List the_entry.Entry) (o : Option Event)
 clean_step f low at before None leaves on above none rest = cc none
 clean_step f low at before (Some e) leaves on above none rest =
     let x : the_entry.Entry = entry_made at e in
-    let parts = not_refused (is_misfit f (final_number (all_of before)) (told_by f before) e) at (first_bad_after f (before ++ x ∷ []) leaves) none in
+    let parts = not_refused (is_misfit f (final_number (all_of before)) (lasting_by f before) e) at (first_bad_after f (before ++ x ∷ []) leaves) none in
     let later = rest (before ++ x ∷ []) (on_next f low at before e on (above e refl) parts.0) parts.1 in
     let same = append_assoc before (x ∷ []) (entries_of leaves) in
     record {
       entries = ap (λ ls. leaf_made at (Some e) ∷ ls) later.entries;
       follow = subst (Follow 0) same later.follow;
-      legal = subst (λ (es : List the_entry.Entry). IsLegal (told_by f es)) same later.legal;
+      legal = subst (λ (es : List the_entry.Entry). IsLegal (lasting_by f es)) same later.legal;
     }
 
 none_bad : (f low : ℕ) (before : List the_entry.Entry) (leaves : List Leaf) → Rises place_of leaves → AreAbove low leaves → IsOn f low before
@@ -124,7 +124,7 @@ none_bad : (f low : ℕ) (before : List the_entry.Entry) (leaves : List Leaf) �
 none_bad f low before [] rises above on none = record {
   entries = refl;
   follow = subst (Follow 0) (sym (append-nil before)) on.follow;
-  legal = subst (λ (es : List the_entry.Entry). IsLegal (told_by f es)) (sym (append-nil before)) on.legal;
+  legal = subst (λ (es : List the_entry.Entry). IsLegal (lasting_by f es)) (sym (append-nil before)) on.legal;
 }
 none_bad f low before (leaf ∷ leaves) rises above on none =
     clean_step f low leaf.at before leaf.event leaves on above.0 none
@@ -153,25 +153,25 @@ none_is_bad stand leaves are none =
 
 -- ---- a reading has nothing wrong
 
-none_found : (f : ℕ) (before es : List the_entry.Entry) → Follow (final_number (all_of before)) es → ComeInTurn (told_by f before) (told_at f es)
+none_found : (f : ℕ) (before es : List the_entry.Entry) → Follow (final_number (all_of before)) es → ComeInTurn (lasting_by f before) (lasting_among f es)
     → first_bad_after f before (map leaf_of es) ≡ None
 none_found f before [] follow come = refl
 none_found f before (e ∷ es) follow come =
-    by (is_told f e.event) refl come (none_found f (before ++ e ∷ []) es (subst (λ (n : ℕ). Follow n es) (sym (final_number-push (all_of before) e.at e.event)) follow.1))
+    by (lasts f e.event) refl come (none_found f (before ++ e ∷ []) es (subst (λ (n : ℕ). Follow n es) (sym (final_number-push (all_of before) e.at e.event)) follow.1))
   where
-    by : (b : Bool) → is_told f e.event ≡ b → ComeInTurn (told_by f before) (cond b (e ∷ told_at f es) (told_at f es))
-        → (ComeInTurn (told_by f (before ++ e ∷ [])) (told_at f es) → first_bad_after f (before ++ e ∷ []) (map leaf_of es) ≡ None)
+    by : (b : Bool) → lasts f e.event ≡ b → ComeInTurn (lasting_by f before) (cond b (e ∷ lasting_among f es) (lasting_among f es))
+        → (ComeInTurn (lasting_by f (before ++ e ∷ [])) (lasting_among f es) → first_bad_after f (before ++ e ∷ []) (map leaf_of es) ≡ None)
         → first_bad_after f before (leaf_of e ∷ map leaf_of es) ≡ None
     by true is turn rest =
-        let same : told_at f (before ++ e ∷ []) ≡ told_at f before ++ e ∷ [] = told_with f before e is in
-        let right = fine f before e.event follow.0 (λ t. fits_to (told_by f before) e.event turn.0.fits) in
+        let same : lasting_among f (before ++ e ∷ []) ≡ lasting_among f before ++ e ∷ [] = told_with f before e is in
+        let right = fine f before e.event follow.0 (λ t. fits_to (lasting_by f before) e.event turn.0.fits) in
         ap (λ b. cond b (Some e.at) (first_bad_after f (before ++ e ∷ []) (map leaf_of es))) right
-        ∙ rest (subst (λ (ds : List the_entry.Entry). ComeInTurn (journal_by f ds) (told_at f es)) (sym same) turn.1)
+        ∙ rest (subst (λ (ds : List the_entry.Entry). ComeInTurn (journal_by f ds) (lasting_among f es)) (sym same) turn.1)
     by false is turn rest =
-        let same : told_at f (before ++ e ∷ []) ≡ told_at f before = told_without f before e is in
+        let same : lasting_among f (before ++ e ∷ []) ≡ lasting_among f before = told_without f before e is in
         let right = fine f before e.event follow.0 (λ t. cc (is, t)) in
         ap (λ b. cond b (Some e.at) (first_bad_after f (before ++ e ∷ []) (map leaf_of es))) right
-        ∙ rest (subst (λ (ds : List the_entry.Entry). ComeInTurn (journal_by f ds) (told_at f es)) (sym same) turn)
+        ∙ rest (subst (λ (ds : List the_entry.Entry). ComeInTurn (journal_by f ds) (lasting_among f es)) (sym same) turn)
 
 entries_back : (es : List the_entry.Entry) → entries_of (map leaf_of es) ≡ es
 entries_back [] = refl

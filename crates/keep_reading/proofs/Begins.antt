@@ -16,7 +16,7 @@ use Rattle.keep_journal.specs.Opening.{IsOpen}
 use Rattle.keep_journal.specs.declared.event.Entry as the_entry
 use Rattle.keep_journal.specs.declared.event.Event.{Event}
 use Rattle.keep_journal.proofs.Commits.{final_number-push, last_marks-push}
-use Rattle.keep_journal.specs.Told.{Follow, is_told, still_told}
+use Rattle.keep_journal.specs.Lasting.{Follow, lasts, lasting}
 use Rattle.keep_journal.proofs.KeptTold.{change_is, final_is, force_is, is_kept_by, is_open, told_grows}
 use Rattle.keep_journal.proofs.Legal.{legal_numbered}
 use Rattle.keep_journal.proofs.Long.{as_long}
@@ -44,20 +44,20 @@ use Rattle.keep_reading.proofs.Entering.{last_event-push, lists_push, the_new}
 use Rattle.keep_reading.proofs.Plain.{IsPlain, all_among, plain}
 
 -- the trash is told by what is still told
-pub trash_told : (j : Journal) (n : ℕ) (name : FileName) → trashed (still_told j) n name ≡ trashed j n name
+pub trash_told : (j : Journal) (n : ℕ) (name : FileName) → trashed (lasting j) n name ≡ trashed j n name
 trash_told j n name = by (nat_le n (final_number j)) refl
   where
-    by : (b : Bool) → nat_le n (final_number j) ≡ b → trashed (still_told j) n name ≡ trashed j n name
+    by : (b : Bool) → nat_le n (final_number j) ≡ b → trashed (lasting j) n name ≡ trashed j n name
     by true low =
-        ap (λ f. cond (nat_le n f) None (option_and_then (λ (c : Change). file_bytes (cond (is_in_force (still_told j) n) (before_of c (File name)) (after_of c (File name)))) (change_of (still_told j) n))) (final_is j)
-        ∙ ap (λ b. cond b None (option_and_then (λ (c : Change). file_bytes (cond (is_in_force (still_told j) n) (before_of c (File name)) (after_of c (File name)))) (change_of (still_told j) n))) low
+        ap (λ f. cond (nat_le n f) None (option_and_then (λ (c : Change). file_bytes (cond (is_in_force (lasting j) n) (before_of c (File name)) (after_of c (File name)))) (change_of (lasting j) n))) (final_is j)
+        ∙ ap (λ b. cond b None (option_and_then (λ (c : Change). file_bytes (cond (is_in_force (lasting j) n) (before_of c (File name)) (after_of c (File name)))) (change_of (lasting j) n))) low
         ∙ sym (ap (λ b. cond b None (option_and_then (λ (c : Change). file_bytes (cond (is_in_force j n) (before_of c (File name)) (after_of c (File name)))) (change_of j n))) low)
     by false high =
         let above : final_number j < n = leb-false n (final_number j) high in
-        trashed_same j (still_told j) n name (ap (nat_le n) (final_is j)) (force_is j n above) (change_is j n above)
+        trashed_same j (lasting j) n name (ap (nat_le n) (final_is j)) (force_is j n above) (change_is j n above)
 
 -- the entries on a shelf have the final number of the journal that is read
-pub same_final : (opening : Repository) (j : Journal) (stand : Stand) (reads : Reads stand opening (still_told j)) → final_number (all_of reads.entries) ≡ final_number j
+pub same_final : (opening : Repository) (j : Journal) (stand : Stand) (reads : Reads stand opening (lasting j)) → final_number (all_of reads.entries) ≡ final_number j
 same_final opening j stand reads = sym (ap (λ (i : Journal). i.base) reads.tells)
 
 -- ---- the entry of an event is put
@@ -65,7 +65,7 @@ same_final opening j stand reads = sym (ap (λ (i : Journal). i.base) reads.tell
 module _ (opening next live : Repository) (j : Journal) (k : ℕ) (e : Event) (stand : Stand) (legal : IsLegal j)
     (comes : ComesNext j (record { at = k; event = e })) (above : final_number j < e.number) (fits : Fits e)
     (opens : IsOpen next (posted j k e) live) (order : HasMarksInOrder (posted j k e) e.kind)
-    (reads : Reads stand opening (still_told j)) where
+    (reads : Reads stand opening (lasting j)) where
   abbrev entries : List the_entry.Entry
   entries = reads.entries
 
@@ -85,9 +85,9 @@ module _ (opening next live : Repository) (j : Journal) (k : ℕ) (e : Event) (s
 
 module _ (opening live : Repository) (j : Journal) (k : ℕ) (e : Event) (stand : Stand) (p : IsPlain e.number e.kind) (legal : IsLegal j)
     (comes : ComesNext j (record { at = k; event = e })) (opens : IsOpen opening (posted j k e) live)
-    (reads : Reads stand opening (still_told j)) where
+    (reads : Reads stand opening (lasting j)) where
   abbrev after : Journal
-  after = still_told (posted j k e)
+  after = lasting (posted j k e)
 
   above : final_number j < e.number
   above = p.above j (legal_numbered j legal) comes.fits
@@ -95,10 +95,10 @@ module _ (opening live : Repository) (j : Journal) (k : ℕ) (e : Event) (stand 
   final : final_number (posted j k e) ≡ final_number j
   final = final_number-push j k e ∙ p.final (final_number j)
 
-  is_new : (f : ℕ) → f < e.number → is_told f e ≡ true
+  is_new : (f : ℕ) → f < e.number → lasts f e ≡ true
   is_new f low = p.told f ∙ lt-ltb f e.number low
 
-  grows : after ≡ posted (still_told j) k e
+  grows : after ≡ posted (lasting j) k e
   grows = told_grows j k e (is_new (final_number j) above) final
 
   tells : after ≡ told (reads.entries ++ the_new k e ∷ [])
@@ -111,7 +111,7 @@ module _ (opening live : Repository) (j : Journal) (k : ℕ) (e : Event) (stand 
   marks = reads.marks ∙ sym (ap (λ o. unwrap_or o []) (last_marks-push (all_of reads.entries) k e ∙ p.marks _))
 
   last : last_event after ≡ Some e
-  last = ap last_event grows ∙ last_event-push (still_told j) k e
+  last = ap last_event grows ∙ last_event-push (lasting j) k e
 
   moves_are : moves_by after e.number e.kind ≡ moves_of j e
   moves_are = p.same after j k (change_is (posted j k e) e.number (omega (arith, final, above)))

@@ -22,7 +22,7 @@ use Rattle.keep_journal.specs.Opening.{IsOpen, unfold_of}
 use Rattle.keep_journal.specs.declared.event.Entry as the_entry
 use Rattle.keep_journal.specs.declared.event.EventKind.{EventKind}
 use Rattle.keep_journal.specs.declared.event.EventKind.TheVariants.{Commit, Undo, Redo, Empty}
-use Rattle.keep_journal.specs.Told.{Follow, is_told}
+use Rattle.keep_journal.specs.Lasting.{Follow, lasts}
 use Rattle.keep_journal.proofs.KeptTold.{marks_is}
 use Rattle.keep_journal.proofs.Legal.{legal_numbered}
 use Rattle.keep_shelf.specs.declared.key.Key.TheVariants.{Live}
@@ -70,7 +70,7 @@ proper_commits (e ∷ es) each = (proper_commit e.event.number e.event.kind each
 pub told_proper : (es : List the_entry.Entry) → AllByRecursion IsEntry es → All IsProperChange (committed (told es))
 told_proper es each =
     All-from_recursion IsProperChange (committed (told es))
-    (committed_all IsProperChange (told es).entries (proper_commits (told es).entries (all_filter IsEntry (λ e. is_told (told es).base e.event) es each)))
+    (committed_all IsProperChange (told es).entries (proper_commits (told es).entries (all_filter IsEntry (λ e. lasts (told es).base e.event) es each)))
 
 -- ---- the opening
 

@@ -22,7 +22,7 @@ use Rattle.keep_journal.specs.Opening.{AreWellFormed, IsOpen}
 use Rattle.keep_journal.specs.declared.event.Entry as the_entry
 use Rattle.keep_journal.specs.declared.event.Event.{Event}
 use Rattle.keep_journal.proofs.Commits.{committed-Empty, final_number-push, is_in_force-push, last_marks-push}
-use Rattle.keep_journal.specs.Told.{entry_at, told_at, still_told}
+use Rattle.keep_journal.specs.Lasting.{entry_at, lasting_among, lasting}
 use Rattle.keep_journal.proofs.KeptTold.{is_open, told_shrinks}
 use Rattle.keep_journal.proofs.Legal.{legal_numbered}
 use Rattle.keep_journal.proofs.Within.{IsWithin, follow_within, told_deep, turns_within}
@@ -66,12 +66,12 @@ the_second false b off e = e
 
 module _ (opening next live : Repository) (j : Journal) (k n : ℕ) (marks : List PackMark) (stand : Stand) (legal : IsLegal j)
     (comes : ComesNext j (record { at = k; event = emptying n marks })) (below : final_number j < n) (fits : Fits (emptying n marks))
-    (opens : IsOpen next (posted j k (emptying n marks)) live) (is : IsSettled j live stand) (reads : Reads stand opening (still_told j)) where
+    (opens : IsOpen next (posted j k (emptying n marks)) live) (is : IsSettled j live stand) (reads : Reads stand opening (lasting j)) where
   abbrev e : Event
   e = emptying n marks
 
   abbrev after : Journal
-  after = still_told (posted j k (emptying n marks))
+  after = lasting (posted j k (emptying n marks))
 
   abbrev f : ℕ
   f = final_number j
@@ -96,15 +96,15 @@ module _ (opening next live : Repository) (j : Journal) (k n : ℕ) (marks : Lis
 
   -- ---- what it tells
 
-  same_told : told_at f j.entries ≡ told_at f es
-  same_told = ap (λ (i : Journal). i.entries) reads.tells ∙ ap (λ g. told_at g es) es_final
+  same_told : lasting_among f j.entries ≡ lasting_among f es
+  same_told = ap (λ (i : Journal). i.entries) reads.tells ∙ ap (λ g. lasting_among g es) es_final
 
-  same_later : told_at n j.entries ≡ told_at n es
+  same_later : lasting_among n j.entries ≡ lasting_among n es
   same_later =
-      sym (told_deep f n below j.entries within) ∙ ap (told_at n) same_told
+      sym (told_deep f n below j.entries within) ∙ ap (lasting_among n) same_told
       ∙ told_deep f n below es (follow_within f 0 es reads.follow (omega (arith, es_final)))
 
-  shrinks : after ≡ posted (record { base = n; entries = told_at n j.entries }) k (emptying n marks)
+  shrinks : after ≡ posted (record { base = n; entries = lasting_among n j.entries }) k (emptying n marks)
   shrinks = told_shrinks j k n marks
 
   tells : after ≡ told (es ++ the_new k (emptying n marks) ∷ [])
@@ -118,7 +118,7 @@ module _ (opening next live : Repository) (j : Journal) (k n : ℕ) (marks : Lis
       sym own ∙ sym (ap (λ o. unwrap_or o []) (last_marks-push (all_of es) k (emptying n marks)))
 
   last : last_event after ≡ Some (emptying n marks)
-  last = ap last_event shrinks ∙ last_event-push (record { base = n; entries = told_at n j.entries }) k (emptying n marks)
+  last = ap last_event shrinks ∙ last_event-push (record { base = n; entries = lasting_among n j.entries }) k (emptying n marks)
 
   -- ---- what stands there
 
@@ -173,8 +173,8 @@ module _ (opening next live : Repository) (j : Journal) (k n : ℕ) (marks : Lis
         | inl same ↦ cc (sym among ∙ ap (λ x. is_in (Entry x) gone) same ∙ in_past out 0 k j.entries numbered.events comes.above)
         | inr other ↦
             let left = left_standing (final_number j) n below 0 i j.entries numbered.events within in
-            let none = none_mapped (λ (x : the_entry.Entry). entry_text x.event) (entry_at (told_at n j.entries) i) (sym (ap (λ b. cond b None (option_map (λ (x : the_entry.Entry). entry_text x.event) (entry_at (told_at (final_number j) j.entries) i))) among) ∙ left) in
-            ap (λ (d : Journal). entry_at d.entries i) shrinks ∙ entry_old k (emptying n marks) (told_at n j.entries) i other ∙ none
+            let none = none_mapped (λ (x : the_entry.Entry). entry_text x.event) (entry_at (lasting_among n j.entries) i) (sym (ap (λ b. cond b None (option_map (λ (x : the_entry.Entry). entry_text x.event) (entry_at (lasting_among (final_number j) j.entries) i))) among) ∙ left) in
+            ap (λ (d : Journal). entry_at d.entries i) shrinks ∙ entry_old k (emptying n marks) (lasting_among n j.entries) i other ∙ none
       ]
 
   belong : AllByRecursion (IsMoveOf after) (map Erase (swept_keys j n))

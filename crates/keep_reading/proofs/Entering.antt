@@ -9,7 +9,7 @@ use Rattle.keep_journal.specs.History.{AscendFrom}
 use Rattle.keep_journal.specs.Journal.{Journal, posted}
 use Rattle.keep_journal.specs.declared.event.Entry as the_entry
 use Rattle.keep_journal.specs.declared.event.Event.{Event}
-use Rattle.keep_journal.specs.Told.{entry_at}
+use Rattle.keep_journal.specs.Lasting.{entry_at}
 use Rattle.keep_entries.specs.Entry.{IsEntry, Spells}
 use Rattle.keep_entries.specs.Spelling.{entry_text}
 use Rattle.keep_shelf.specs.declared.key.Key.TheVariants.{Entry}

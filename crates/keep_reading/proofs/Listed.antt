@@ -5,7 +5,7 @@ use Rattle.std.specs.Option.{option_map}
 use Rattle.keep_journal.specs.History.{AscendFrom}
 use Rattle.keep_journal.specs.declared.event.Entry as the_entry
 use Rattle.keep_journal.specs.declared.event.Event.{Event}
-use Rattle.keep_journal.specs.Told.{entry_at}
+use Rattle.keep_journal.specs.Lasting.{entry_at}
 use Rattle.keep_shelf.specs.declared.key.Key.TheVariants.{Entry}
 use Rattle.keep_entries.specs.Entry.{IsEntry, Spells}
 use Rattle.keep_entries.proofs.Telling.{one_event}

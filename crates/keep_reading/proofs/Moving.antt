@@ -11,7 +11,7 @@ use Rattle.keep_journal.specs.declared.event.Entry as the_entry
 use Rattle.keep_journal.specs.declared.event.Event.{Event}
 use Rattle.keep_journal.specs.declared.event.EventKind.{EventKind}
 use Rattle.keep_journal.specs.declared.event.EventKind.TheVariants.{Commit, Undo, Redo, Empty}
-use Rattle.keep_journal.specs.Told.{Follow, entry_at, told_at, still_told}
+use Rattle.keep_journal.specs.Lasting.{Follow, entry_at, lasting_among, lasting}
 use Rattle.keep_journal.proofs.KeptTold.{marks_is}
 use Rattle.keep_shelf.specs.Shelved.{called}
 use Rattle.keep_shelf.specs.declared.key.Key.{Key}
@@ -109,7 +109,7 @@ says_without stand opening j k r over =
     let f = final_number (all_of r.entries) in
     let silent = idle k f r.entries (subst (λ (i : Journal). entry_at i.entries k ≡ None) r.tells over) in
     let same : told (without k r.entries) ≡ told r.entries =
-    ap (λ g. record { base = g; entries = told_at g (without k r.entries) }) (final_without k f r.entries 0 0 silent refl (λ so. so))
+    ap (λ g. record { base = g; entries = lasting_among g (without k r.entries) }) (final_without k f r.entries 0 0 silent refl (λ so. so))
     ∙ ap (λ es. record { base = f; entries = es }) (told_without k f r.entries silent) in
     record {
       entries = without k r.entries;
@@ -162,8 +162,8 @@ moves_read opening j [] s (suc i) read can = (tt, read)
 moves_read opening j (m ∷ due) s (suc i) read can =
     let remain = first_remains m due (finite.get s.content) can in
     let stands = made_stands m s.content remain in
-    let next : Reads (finite.get (made_in m s.content)) opening (still_told j) =
-    subst (λ (g : Stand). Reads g opening (still_told j)) (sym stands) (a_move_reads (finite.get s.content) opening (still_told j) m read.reads read.belong.0 remain) in
+    let next : Reads (finite.get (made_in m s.content)) opening (lasting j) =
+    subst (λ (g : Stand). Reads g opening (lasting j)) (sym stands) (a_move_reads (finite.get s.content) opening (lasting j) m read.reads read.belong.0 remain) in
     let rest = moves_read opening j due (called s (made_in m s.content)) i (record { reads = next; belong = read.belong.1 })
     (subst (CanMake due) (sym stands) (rest_can m due (finite.get s.content) can)) in
     ((next, rest.0), rest.1)

@@ -11,7 +11,7 @@ use Rattle.keep_journal.specs.Journal.{Journal, posted}
 use Rattle.keep_journal.specs.declared.event.EventKind.{EventKind}
 use Rattle.keep_journal.specs.declared.event.EventKind.TheVariants.{Commit, Undo, Redo, Empty}
 use Rattle.keep_journal.proofs.Commits.{committed-Redo, committed-Undo}
-use Rattle.keep_journal.specs.Told.{is_told_by}
+use Rattle.keep_journal.specs.Lasting.{lasts_by}
 use Rattle.keep_entries.specs.Laws.{HasMarksInOrder}
 use Rattle.keep_shelf.specs.declared.key.Key.TheVariants.{Entry}
 use Rattle.keep_moves.specs.Lists.{back_of, moves_by, out_of, put_of, redo_moves, undo_moves}
@@ -45,7 +45,7 @@ redo_off n (Some c) = two_off (back_of n) (out_of n) (λ x k. refl) (λ x k. ref
 pub record IsPlain (n : ℕ) (kind : EventKind) : Type 0 where
   pub final : (b : ℕ) → final_by b n kind ≡ b
   pub marks : (o : Option (List PackMark)) → marks_by o kind ≡ o
-  pub told : (f : ℕ) → is_told_by f n kind ≡ nat_lt f n
+  pub told : (f : ℕ) → lasts_by f n kind ≡ nat_lt f n
   pub above : (j : Journal) → IsNumbered j → FitsBy j n kind → final_number j < n
   pub order : (j : Journal) → HasMarksInOrder j kind
   pub off : (j : Journal) → AllByRecursion IsOff (moves_by j n kind)

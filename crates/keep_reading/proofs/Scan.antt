@@ -9,7 +9,7 @@ use Rattle.keep_journal.specs.declared.event.Entry.{Entry}
 use Rattle.keep_journal.specs.declared.event.Event.{Event}
 use Rattle.keep_journal.specs.declared.event.EventKind.{EventKind}
 use Rattle.keep_journal.specs.declared.event.EventKind.TheVariants.{Commit, Undo, Redo, Empty}
-use Rattle.keep_journal.specs.Told.{Follow, is_told, is_told_by, told_at}
+use Rattle.keep_journal.specs.Lasting.{Follow, lasts, lasts_by, lasting_among}
 use Rattle.keep_journal.proofs.Within.{follow_rises}
 use Rattle.keep_reading.specs.Bad.{fits_by}
 
@@ -25,42 +25,42 @@ marks o es = fold (λ before e. marks_after before e.event) o es
 
 -- before changes up to f become final no emptying is told
 pub none_told : (f top : ℕ) (es : List Entry) (o : Option (List PackMark)) → Follow top es → fold (λ before e. final_after before e.event) top es < f
-    → marks o (told_at f es) ≡ o
+    → marks o (lasting_among f es) ≡ o
 none_told f top [] o follow low = refl
 none_told f top (e ∷ es) o follow low =
     by e.event.number e.event.kind refl (follow_rises (final_after top e.event) es follow.1) (none_told f (final_after top e.event) es o follow.1 low)
   where
-    same : (b : Bool) (k : EventKind) → marks_by o k ≡ o → marks o (told_at f es) ≡ o → cond b (marks (marks_by o k) (told_at f es)) (marks o (told_at f es)) ≡ o
-    same true k is rest = ap (λ p. marks p (told_at f es)) is ∙ rest
+    same : (b : Bool) (k : EventKind) → marks_by o k ≡ o → marks o (lasting_among f es) ≡ o → cond b (marks (marks_by o k) (lasting_among f es)) (marks o (lasting_among f es)) ≡ o
+    same true k is rest = ap (λ p. marks p (lasting_among f es)) is ∙ rest
     same false k is rest = rest
 
-    pushed : (b : Bool) → marks o (cond b (e ∷ told_at f es) (told_at f es)) ≡ cond b (marks (marks_after o e.event) (told_at f es)) (marks o (told_at f es))
+    pushed : (b : Bool) → marks o (cond b (e ∷ lasting_among f es) (lasting_among f es)) ≡ cond b (marks (marks_after o e.event) (lasting_among f es)) (marks o (lasting_among f es))
     pushed true = refl
     pushed false = refl
 
     by : (n : ℕ) (kind : EventKind) → ◌≡◌ {A = Event} e.event (record { number = n; kind = kind })
         → final_after top e.event ≤ fold (λ before (x : Entry). final_after before x.event) (final_after top e.event) es
-        → marks o (told_at f es) ≡ o → marks o (cond (is_told f e.event) (e ∷ told_at f es) (told_at f es)) ≡ o
-    by n (Commit c) is up rest = pushed (is_told f e.event) ∙ ap (λ (x : Event). cond (is_told f e.event) (marks (marks_after o x) (told_at f es)) (marks o (told_at f es))) is ∙ same (is_told f e.event) (Commit c) refl rest
-    by n Undo is up rest = pushed (is_told f e.event) ∙ ap (λ (x : Event). cond (is_told f e.event) (marks (marks_after o x) (told_at f es)) (marks o (told_at f es))) is ∙ same (is_told f e.event) Undo refl rest
-    by n Redo is up rest = pushed (is_told f e.event) ∙ ap (λ (x : Event). cond (is_told f e.event) (marks (marks_after o x) (told_at f es)) (marks o (told_at f es))) is ∙ same (is_told f e.event) Redo refl rest
+        → marks o (lasting_among f es) ≡ o → marks o (cond (lasts f e.event) (e ∷ lasting_among f es) (lasting_among f es)) ≡ o
+    by n (Commit c) is up rest = pushed (lasts f e.event) ∙ ap (λ (x : Event). cond (lasts f e.event) (marks (marks_after o x) (lasting_among f es)) (marks o (lasting_among f es))) is ∙ same (lasts f e.event) (Commit c) refl rest
+    by n Undo is up rest = pushed (lasts f e.event) ∙ ap (λ (x : Event). cond (lasts f e.event) (marks (marks_after o x) (lasting_among f es)) (marks o (lasting_among f es))) is ∙ same (lasts f e.event) Undo refl rest
+    by n Redo is up rest = pushed (lasts f e.event) ∙ ap (λ (x : Event). cond (lasts f e.event) (marks (marks_after o x) (lasting_among f es)) (marks o (lasting_among f es))) is ∙ same (lasts f e.event) Redo refl rest
     by n (Empty ms) is up rest = elim (cases_eq n f) [
       | inl same_number ↦
           let final : final_after top e.event ≡ n = ap (final_after top) is in
           absurd (omega (arith, up, low, final))
       | inr other ↦
-          let silent : is_told f e.event ≡ false = ap (is_told f) is ∙ ne_eqb n f other in
-          ap (λ b. marks o (cond b (e ∷ told_at f es) (told_at f es))) silent ∙ rest
+          let silent : lasts f e.event ≡ false = ap (lasts f) is ∙ ne_eqb n f other in
+          ap (λ b. marks o (cond b (e ∷ lasting_among f es) (lasting_among f es))) silent ∙ rest
     ]
 
 -- ---- an event after a journal
 
 -- one that is told, of a change that no emptying so far made final, and passes the test fits the journal
 pub fits_from : (f top : ℕ) (j : Journal) (e : Event) → IsNumbered j → final_number j ≡ f → (top < f → last_marks j ≡ None)
-    → is_told f e ≡ true → top < e.number → fits_by j e.number e.kind ≡ true → Fits j e
+    → lasts f e ≡ true → top < e.number → fits_by j e.number e.kind ≡ true → Fits j e
 fits_from f top j e numbered final first told above fits = by e.number e.kind told above fits
   where
-    by : (n : ℕ) (kind : EventKind) → is_told_by f n kind ≡ true → top < n → fits_by j n kind ≡ true → FitsBy j n kind
+    by : (n : ℕ) (kind : EventKind) → lasts_by f n kind ≡ true → top < n → fits_by j n kind ≡ true → FitsBy j n kind
     by n (Commit c) t up fit = eqb-true n (last_change j + 1) fit
     by n Undo t up fit =
         let one = and_parts _ _ fit in

@@ -5,7 +5,7 @@ use Rattle.std.specs.List.{AllByRecursion}
 use Rattle.std.proofs.Math.Seq.{drop-length, take-length}
 use Rattle.keep_repo.specs.Repository.{Repository}
 use Rattle.keep_journal.specs.Journal.{Journal}
-use Rattle.keep_journal.specs.Told.{still_told}
+use Rattle.keep_journal.specs.Lasting.{lasting}
 use Rattle.keep_shelf.specs.Shelved.{Content, Shelved, called}
 use Rattle.keep_moves.specs.Calls.{Make, left_by, looks, played}
 use Rattle.keep_moves.specs.Move.{CanMake}
@@ -31,11 +31,11 @@ all_looks P (suc i) content holds = (holds, all_looks P i content holds)
 -- ---- all moves that are due
 
 pub all_moves : (opening : Repository) (j : Journal) (due : List Move) (s : Shelved) → IsRead opening j due (finite.get s.content) → CanMake due (finite.get s.content)
-    → AllByRecursion (λ content. Reads (finite.get content) opening (still_told j)) (contents_along (map Make due) s.content)
+    → AllByRecursion (λ content. Reads (finite.get content) opening (lasting j)) (contents_along (map Make due) s.content)
     × IsRead opening j [] (finite.get (played (map Make due) s).content)
 all_moves opening j due s read can =
     let made = moves_read opening j due s (length due) read can in (
-      subst (λ ms. AllByRecursion (λ content. Reads (finite.get content) opening (still_told j)) (contents_along (map Make ms) s.content)) (take-length due) made.0,
+      subst (λ ms. AllByRecursion (λ content. Reads (finite.get content) opening (lasting j)) (contents_along (map Make ms) s.content)) (take-length due) made.0,
       subst (λ ms. IsRead opening j [] (finite.get (played (map Make ms) s).content)) (take-length due)
           (subst (λ ms. IsRead opening j ms (finite.get (played (map Make (take (length due) due)) s).content)) (drop-length due) made.1),
     )

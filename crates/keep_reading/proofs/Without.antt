@@ -7,7 +7,7 @@ use Rattle.keep_journal.specs.History.{final_after, final_by, AscendFrom}
 use Rattle.keep_journal.specs.declared.event.Entry as the_entry
 use Rattle.keep_journal.specs.declared.event.EventKind.{EventKind}
 use Rattle.keep_journal.specs.declared.event.EventKind.TheVariants.{Commit, Undo, Redo, Empty}
-use Rattle.keep_journal.specs.Told.{Follow, entry_at, is_told, is_told_by, told_at}
+use Rattle.keep_journal.specs.Lasting.{Follow, entry_at, lasts, lasts_by, lasting_among}
 use Rattle.keep_journal.proofs.Filters.{filter-filter, find-filter, find_agree}
 use Rattle.keep_entries.specs.Entry.{IsEntry}
 use Rattle.keep_shelf.specs.declared.key.Key.TheVariants.{Entry}
@@ -94,30 +94,30 @@ module _ (k : ℕ) where
   module _ (f : ℕ) where
     -- the entry of number k tells nothing where changes up to f are final
     abbrev Idle : List the_entry.Entry → Type 0
-    Idle es = AllByRecursion (λ e. (e.at == k) ≡ true → is_told f e.event ≡ false) es
+    Idle es = AllByRecursion (λ e. (e.at == k) ≡ true → lasts f e.event ≡ false) es
 
-    pub idle : (es : List the_entry.Entry) → entry_at (told_at f es) k ≡ None → Idle es
+    pub idle : (es : List the_entry.Entry) → entry_at (lasting_among f es) k ≡ None → Idle es
     idle [] none = tt
-    idle (e ∷ es) none = by (is_told f e.event) refl (e.at == k) refl none (idle es)
+    idle (e ∷ es) none = by (lasts f e.event) refl (e.at == k) refl none (idle es)
       where
-        by : (a : Bool) → is_told f e.event ≡ a → (b : Bool) → (e.at == k) ≡ b → entry_at (cond a (e ∷ told_at f es) (told_at f es)) k ≡ None
-            → (entry_at (told_at f es) k ≡ None → Idle es) → ((e.at == k) ≡ true → is_told f e.event ≡ false) × Idle es
+        by : (a : Bool) → lasts f e.event ≡ a → (b : Bool) → (e.at == k) ≡ b → entry_at (cond a (e ∷ lasting_among f es) (lasting_among f es)) k ≡ None
+            → (entry_at (lasting_among f es) k ≡ None → Idle es) → ((e.at == k) ≡ true → lasts f e.event ≡ false) × Idle es
         by true told true here found rest = cc (rw here at found)
         by true told false elsewhere found rest = ((λ here. cc (here, elsewhere)), rest (rw elsewhere at found))
         by false silent b is found rest = ((λ here. silent), rest found)
 
-    pub told_without : (es : List the_entry.Entry) → Idle es → told_at f (without es) ≡ told_at f es
-    told_without es idle = filter-filter (λ (e : the_entry.Entry). is_told f e.event) other es ∙ same es idle
+    pub told_without : (es : List the_entry.Entry) → Idle es → lasting_among f (without es) ≡ lasting_among f es
+    told_without es idle = filter-filter (λ (e : the_entry.Entry). lasts f e.event) other es ∙ same es idle
       where
-        one : (e : the_entry.Entry) (b : Bool) → (e.at == k) ≡ b → ((e.at == k) ≡ true → is_told f e.event ≡ false) → (not b && is_told f e.event) ≡ is_told f e.event
+        one : (e : the_entry.Entry) (b : Bool) → (e.at == k) ≡ b → ((e.at == k) ≡ true → lasts f e.event ≡ false) → (not b && lasts f e.event) ≡ lasts f e.event
         one e true here silent = sym (silent here)
         one e false elsewhere silent = refl
 
-        same : (xs : List the_entry.Entry) → Idle xs → filter (λ e. not (e.at == k) && is_told f e.event) xs ≡ told_at f xs
+        same : (xs : List the_entry.Entry) → Idle xs → filter (λ e. not (e.at == k) && lasts f e.event) xs ≡ lasting_among f xs
         same [] all = refl
         same (x ∷ xs) all =
-            ap (λ b. cond b (x ∷ filter (λ e. not (e.at == k) && is_told f e.event) xs) (filter (λ e. not (e.at == k) && is_told f e.event) xs)) (one x (x.at == k) refl all.0)
-            ∙ ap (λ ys. cond (is_told f x.event) (x ∷ ys) ys) (same xs all.1)
+            ap (λ b. cond b (x ∷ filter (λ e. not (e.at == k) && lasts f e.event) xs) (filter (λ e. not (e.at == k) && lasts f e.event) xs)) (one x (x.at == k) refl all.0)
+            ∙ ap (λ ys. cond (lasts f x.event) (x ∷ ys) ys) (same xs all.1)
 
     pub final_without : (es : List the_entry.Entry) (top a : ℕ) → Idle es → fold (λ before e. final_after before e.event) top es ≡ f → (top ≡ f → a ≡ f)
         → fold (λ before e. final_after before e.event) a (without es) ≡ f
@@ -131,7 +131,7 @@ module _ (k : ℕ) where
         kept n Redo is = same is
         kept n (Empty marks) is = is
 
-        gone : (n : ℕ) (kind : EventKind) → is_told_by f n kind ≡ false → final_by top n kind ≡ f → a ≡ f
+        gone : (n : ℕ) (kind : EventKind) → lasts_by f n kind ≡ false → final_by top n kind ≡ f → a ≡ f
         gone n (Commit c) silent is = same is
         gone n Undo silent is = same is
         gone n Redo silent is = same is

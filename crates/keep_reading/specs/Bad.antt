@@ -8,7 +8,7 @@ use Rattle.keep_journal.specs.declared.event.Entry as the_entry
 use Rattle.keep_journal.specs.declared.event.Event.{Event}
 use Rattle.keep_journal.specs.declared.event.EventKind.{EventKind}
 use Rattle.keep_journal.specs.declared.event.EventKind.TheVariants.{Commit, Undo, Redo, Empty}
-use Rattle.keep_journal.specs.Told.{is_told, told_at}
+use Rattle.keep_journal.specs.Lasting.{lasts, lasting_among}
 use Rattle.keep_moves.specs.Move.{Stand}
 use Rattle.keep_reading.specs.Checks.{TellAJournal}
 use Rattle.keep_reading.specs.Leaves.{AreLeaves, entries_of}
@@ -24,13 +24,13 @@ fits_by j n Redo = nat_lt (final_number j) n && (nat_le n (last_change j) && not
 fits_by j n (Empty marks) = true
 
 -- what the entries tell where changes up to f are final
-abbrev pub told_by : ℕ → List the_entry.Entry → Journal
-told_by f entries = record { base = f; entries = told_at f entries }
+abbrev pub lasting_by : ℕ → List the_entry.Entry → Journal
+lasting_by f entries = record { base = f; entries = lasting_among f entries }
 
 -- whether the event is wrong after this journal, where the last emptying so far was of changes up to top: it is of one
 -- of them, or it is told and doesn't fit
 abbrev pub is_misfit : ℕ → ℕ → Journal → Event → Bool
-is_misfit f top j e = nat_le e.number top || (is_told f e && not (fits_by j e.number e.kind))
+is_misfit f top j e = nat_le e.number top || (lasts f e && not (fits_by j e.number e.kind))
 
 -- whether something is wrong with the leaf there: it is no entry, or a misfit
 abbrev pub is_wrong : ℕ → ℕ → Journal → Leaf → Bool
@@ -38,7 +38,7 @@ is_wrong f top j leaf = option_map_or (is_misfit f top j) leaf.event true
 
 -- whether something is wrong with the leaf that comes after these entries
 abbrev pub is_bad : ℕ → List the_entry.Entry → Leaf → Bool
-is_bad f before leaf = is_wrong f (final_number (all_of before)) (told_by f before) leaf
+is_bad f before leaf = is_wrong f (final_number (all_of before)) (lasting_by f before) leaf
 
 -- the number of the first leaf with which something is wrong
 abbrev pub first_bad_after : ℕ → List the_entry.Entry → List Leaf → Option ℕ

@@ -11,7 +11,7 @@ use Rattle.keep_journal.specs.Journal.{Journal}
 use Rattle.keep_journal.specs.Kept.{kept}
 use Rattle.keep_journal.specs.Opening.{unfold_of}
 use Rattle.keep_journal.specs.declared.event.Entry as the_entry
-use Rattle.keep_journal.specs.Told.{Follow}
+use Rattle.keep_journal.specs.Lasting.{Follow}
 use Rattle.keep_shelf.specs.declared.key.Key.TheVariants.{Live, Trash}
 use Rattle.keep_moves.specs.Move.{Stand}
 use Rattle.keep_moves.specs.Standing.{trashed}

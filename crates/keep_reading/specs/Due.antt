@@ -6,7 +6,7 @@ use Rattle.keep_journal.specs.Journal.{Journal}
 use Rattle.keep_journal.specs.declared.event.Event.{Event}
 use Rattle.keep_journal.specs.declared.event.EventKind.{EventKind}
 use Rattle.keep_journal.specs.declared.event.EventKind.TheVariants.{Commit, Undo, Redo, Empty}
-use Rattle.keep_journal.specs.Told.{entry_at, still_told}
+use Rattle.keep_journal.specs.Lasting.{entry_at, lasting}
 use Rattle.keep_shelf.specs.declared.key.Key.{Key}
 use Rattle.keep_shelf.specs.declared.key.Key.TheVariants.{Live, Trash, Entry}
 use Rattle.keep_moves.specs.Lists.{moves_by}
@@ -56,5 +56,5 @@ IsMoveOf j m = BelongsTo j (last_event j) m
 -- what stands on the shelf says what the journal still tells, over this opening, and the moves that are due are its
 -- last event's
 pub record IsRead (opening : Repository) (j : Journal) (due : List Move) (stand : Stand) : Type 0 where
-  pub reads : Reads stand opening (still_told j)
-  pub belong : AllByRecursion (IsMoveOf (still_told j)) due
+  pub reads : Reads stand opening (lasting j)
+  pub belong : AllByRecursion (IsMoveOf (lasting j)) due

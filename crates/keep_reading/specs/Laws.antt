@@ -12,7 +12,7 @@ use Rattle.keep_journal.specs.Opening.{IsOpen}
 use Rattle.keep_journal.specs.declared.event.Event.{Event}
 use Rattle.keep_journal.specs.declared.event.EventKind.{EventKind}
 use Rattle.keep_journal.specs.declared.event.EventKind.TheVariants.{Empty}
-use Rattle.keep_journal.specs.Told.{still_told}
+use Rattle.keep_journal.specs.Lasting.{lasting}
 use Rattle.keep_entries.specs.Entry.{Fits}
 use Rattle.keep_shelf.specs.Shelved.{Content, Shelved}
 use Rattle.keep_moves.specs.Calls.{Call, Make, left_by, played}
@@ -44,7 +44,7 @@ abbrev pub MovesRead : Type 0
 MovesRead =
     (opening : Repository) (j : Journal) (due : List Move) (s : Shelved) (i : ℕ)
     → IsRead opening j due (finite.get s.content) → CanMake due (finite.get s.content)
-    → AllByRecursion (λ content. Reads (finite.get content) opening (still_told j)) (contents_along (map Make (take i due)) s.content)
+    → AllByRecursion (λ content. Reads (finite.get content) opening (lasting j)) (contents_along (map Make (take i due)) s.content)
     × IsRead opening j (drop i due) (finite.get (played (map Make (take i due)) s).content)
 
 abbrev pub is_emptying : EventKind → Bool

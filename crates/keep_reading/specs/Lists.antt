@@ -3,7 +3,7 @@ use Rattle.std.specs.Prelude.{ℕ, List, Option, Some, None}
 use Rattle.std.specs.List.{AllByRecursion}
 use Rattle.keep_journal.specs.History.{AscendFrom}
 use Rattle.keep_journal.specs.declared.event.Entry as the_entry
-use Rattle.keep_journal.specs.Told.{entry_at}
+use Rattle.keep_journal.specs.Lasting.{entry_at}
 use Rattle.keep_shelf.specs.declared.key.Key.TheVariants.{Entry}
 use Rattle.keep_entries.specs.Entry.{IsEntry, Spells}
 use Rattle.keep_moves.specs.Move.{Stand}

@@ -9,7 +9,7 @@ use Rattle.keep_journal.specs.History.{last_marks}
 use Rattle.keep_journal.specs.Journal.{Journal}
 use Rattle.keep_journal.specs.Opening.{IsOpen}
 use Rattle.keep_journal.specs.declared.event.Entry as the_entry
-use Rattle.keep_journal.specs.Told.{Follow, still_told}
+use Rattle.keep_journal.specs.Lasting.{Follow, lasting}
 use Rattle.keep_shelf.specs.declared.key.Key.TheVariants.{Live, Trash}
 use Rattle.keep_moves.specs.Move.{Stand}
 use Rattle.keep_moves.specs.Standing.{trashed}
@@ -22,7 +22,7 @@ all_of entries = record { base = 0; entries = entries }
 
 -- what they still tell
 abbrev pub told : List the_entry.Entry → Journal
-told entries = still_told (all_of entries)
+told entries = lasting (all_of entries)
 
 -- the marks of the last emptying among them, none where there was no emptying
 abbrev pub marks_in : List the_entry.Entry → List PackMark

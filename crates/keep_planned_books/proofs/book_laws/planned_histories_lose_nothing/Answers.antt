@@ -13,7 +13,7 @@ returns c =
       whole = c.sound_repositories_are_whole.ensures;
     } in
     let audits = c.sound_repositories_lose_no_blob.ensures in
-    let stays = c.what_is_told_is_kept.ensures.stays in
+    let stays = c.what_lasts_is_kept.ensures.stays in
     record {
       selections = selections_lose_nothing laws audits stays c.selections_of_books_are_sound.ensures;
       books = books_lose_nothing laws audits stays;

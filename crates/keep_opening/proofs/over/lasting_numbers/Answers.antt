@@ -1,7 +1,7 @@
 -- One more number.
 use Rattle.std.proofs.Common.{◌∙◌}
 use Rattle.keep_opening.proofs.Numbers.{next_number}
-use Rattle.keep_opening.proofs.over.told_numbers.Goals as goal
+use Rattle.keep_opening.proofs.over.lasting_numbers.Goals as goal
 
 pub loop-notice-preserved : goal.loop-notice-preserved
 loop-notice-preserved c k =

@@ -10,20 +10,20 @@ use Rattle.keep_journal.specs.declared.event.EventKind.TheVariants.{Empty}
 
 -- whether the event still tells something where changes up to f are final: it is about a later one, or is the emptying
 -- that made f final
-abbrev pub is_told_by : ℕ → ℕ → EventKind → Bool
-is_told_by f n (Empty marks) = n == f
-is_told_by f n _ = nat_lt f n
+abbrev pub lasts_by : ℕ → ℕ → EventKind → Bool
+lasts_by f n (Empty marks) = n == f
+lasts_by f n _ = nat_lt f n
 
-abbrev pub is_told : ℕ → Event → Bool
-is_told f e = is_told_by f e.number e.kind
+abbrev pub lasts : ℕ → Event → Bool
+lasts f e = lasts_by f e.number e.kind
 
 -- those of the entries that still tell something
-abbrev pub told_at : ℕ → List Entry → List Entry
-told_at f es = filter (λ e. is_told f e.event) es
+abbrev pub lasting_among : ℕ → List Entry → List Entry
+lasting_among f es = filter (λ e. lasts f e.event) es
 
 -- what the journal still tells: a history that begins with the final number
-abbrev pub still_told : Journal → Journal
-still_told j = record { base = final_number j; entries = told_at (final_number j) j.entries }
+abbrev pub lasting : Journal → Journal
+lasting j = record { base = final_number j; entries = lasting_among (final_number j) j.entries }
 
 -- where changes up to top are final, each of the entries is about a change that isn't final when it comes
 abbrev pub Follow : ℕ → List Entry → Type 0
