@@ -33,7 +33,7 @@ pub(crate) fn store_held<'a, H: Hashing>(
 {
     let catalog = view.catalog(alloc)?;
     let mut storing = Storing::new(alloc, catalog);
-    take_all(&mut storing, held)?;
+    store_all(&mut storing, held)?;
     let stored = storing.finish(alloc, view.repo(), hashing)?;
     Ok(stored)
 }
@@ -58,7 +58,7 @@ pub(crate) fn store_last<'a, H: Hashing>(
     if let Some(blob) = missing {
         return Err(PlanError::Reach(Unreached::MissingBlob(blob.id)));
     }
-    take_all(&mut storing, &going.blobs.held)?;
+    store_all(&mut storing, &going.blobs.held)?;
     let tree = storing.put(BlobType::Tree, CowSlice::Owned(text))?;
     let stored = storing.finish(alloc, view.repo(), hashing)?;
     Ok((tree, stored))
@@ -81,12 +81,12 @@ fn claim_all(storing: &mut Storing, named: &[BlobId]) -> Result<Option<BlobId>, 
 }
 
 /// Offers blobs that are held. None is hashed again.
-fn take_all<'a>(storing: &mut Storing<'a>, held: &'a [HeldBlob]) -> Result<(), AllocError>
+fn store_all<'a>(storing: &mut Storing<'a>, held: &'a [HeldBlob]) -> Result<(), AllocError>
     ensures { OnOk result ((r : Repository) (named : List the_blob.BlobId) (offered : List BlobData)
         → Keeps r named offered storing.old → Keeps r named (offered ++ map held_view held.now) storing.new) }
 {
     for one in held {
-        storing.take_in(one.blob, CowSlice::Borrowed(one.bytes.as_slice()))?;
+        storing.offer(one.blob, CowSlice::Borrowed(one.bytes.as_slice()))?;
     }
     Ok(())
 }

@@ -31,11 +31,11 @@ pub fn backup<S: Shelf, H: Hashing + Copy>(
 {
     let facts = facts_of(run, words)?;
     let known = unchanged(run, book, &facts)?;
-    match taken(run, hashing, book, words, &facts, known)? {
+    match walked(run, hashing, book, words, &facts, known)? {
         // A file that was known lacks a piece by now: all are read.
         Err(NotBackedUp::Unplanned(PlanError::Reach(_))) => {
             let none = HashMap::new(run.alloc);
-            let came = taken(run, hashing, book, words, &facts, none)?;
+            let came = walked(run, hashing, book, words, &facts, none)?;
             print_end(run, came, words.dry_run)
         }
         came => print_end(run, came, words.dry_run),
@@ -43,7 +43,7 @@ pub fn backup<S: Shelf, H: Hashing + Copy>(
 }
 
 /// Takes in what the words name. Files that are known and unchanged aren't read.
-fn taken<S: Shelf, H: Hashing + Copy>(
+fn walked<S: Shelf, H: Hashing + Copy>(
     run: &Run<'_>,
     hashing: H,
     book: &mut Book<S>,

@@ -178,13 +178,13 @@ fn walk<B: Begun, K: Keeps, R: Source, H: Hashing + Copy>(
         (taken_of (archive_view (archive_of taking.entry).archive)) (taken_of (archive_view filled.archive))
         (skipped_of taking.entry) filled.skipped.items) }
 {
-    let done = take(alloc, &mut taking, job);
+    let done = walk_source(alloc, &mut taking, job);
     let (_source, intake) = taking.into_parts();
     intake.filled(done)
 }
 
 /// Goes the walk. It gives what isn't taken, or not as it was seen.
-fn take<A: Receives, R: Source>(
+fn walk_source<A: Receives, R: Source>(
     alloc: Global,
     taking: &mut Taking<R, A>,
     job: &Scope,

@@ -83,7 +83,7 @@ impl<'a> Storing<'a> {
             return Err(PlanError::Full);
         }
         let id = id_of(bytes.as_slice());
-        self.take_in(BlobId { id, blob_type }, bytes)?;
+        self.offer(BlobId { id, blob_type }, bytes)?;
         Ok(id)
     }
 
@@ -109,7 +109,7 @@ impl<'a> Storing<'a> {
     }
 
     /// Offers one more blob, whose name is known and isn't made again.
-    pub fn take_in(&mut self, blob: BlobId, bytes: Text<'a>) -> Result<(), AllocError>
+    pub fn offer(&mut self, blob: BlobId, bytes: Text<'a>) -> Result<(), AllocError>
         requires own { blob.id.0 ≡ sha256 (text_bytes bytes) }
         requires fits { is_full (blob.blob_type, text_bytes bytes) ≡ false }
         ensures { OnOk result ((r : Repository) (named : List the_blob.BlobId) (offered : List BlobData)

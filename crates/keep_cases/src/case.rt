@@ -90,7 +90,7 @@ impl Case {
         writeln!(writer, "= {}", self.name)?;
         let mut script = self.script.as_slice();
         let shelves = HostShelves::new(rt, OneByOne);
-        let taken = self.take(&shelves);
+        let taken = self.shelf_there(&shelves);
         let ending = keepd(
             alloc,
             &shelves,
@@ -110,7 +110,7 @@ impl Case {
     }
 
     /// The shelf in the folder that another run has.
-    fn take<'a>(&self, shelves: &'a HostShelves<'_, OneByOne>) -> Option<NamedShelf<'a>> {
+    fn shelf_there<'a>(&self, shelves: &'a HostShelves<'_, OneByOne>) -> Option<NamedShelf<'a>> {
         let folder = self.taken.as_ref()?;
         shelves.open(Some(folder.as_str())).ok()
     }

@@ -5,7 +5,7 @@ use Rattle.keep_change.proofs.Records.{WritesOnce}
 use Rattle.keep_change.specs.Change.{is_ready, written}
 use Rattle.keep_change.specs.Halves.{IsBegun, begun_of, completed_of}
 use Rattle.keep_change.specs.NamedBytes.{NamedBytes}
-use Rattle.keep_change.specs.Result.{put_marks, reverse_of, take_marks}
+use Rattle.keep_change.specs.Result.{put_marks, reverse_of, remove_marks}
 use Rattle.keep_change.specs.declared.change.Change.{Change}
 use Rattle.keep_repo.specs.Repository.{Repository, held}
 use Rattle.keep_catalog.proofs.Coming.{re_marked}
@@ -33,7 +33,7 @@ went_kept c r after tables result files are is there kept went =
     subst (AreKept result) (sym is) (marked result (subst F are (went r) there kept)) where
       marked : (t : Option Tables) → AreKept t (without_files c.drops r) → AreKept t (completed_of c r)
       marked None h = tt
-      marked (Some t) h = re_marked (without_files c.drops r) t (take_marks c.clears r.marks) h
+      marked (Some t) h = re_marked (without_files c.drops r) t (remove_marks c.clears r.marks) h
 
 module _ (c : Change) (r : Repository) (once : WritesOnce (written c)) (begun : IsBegun c r) where
   -- between the halves the files that are to go are there

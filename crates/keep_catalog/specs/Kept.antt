@@ -18,7 +18,7 @@ use Rattle.keep_repo.specs.Repository.{Repository}
 use Rattle.keep_snap.specs.Snap.{SnapData, snap_view}
 use Rattle.keep_snap.specs.declared.snap.Snap.{Snap}
 use Rattle.keep_change.specs.NamedBytes.{NamedBytes}
-use Rattle.keep_change.specs.Result.{put_files, take_files}
+use Rattle.keep_change.specs.Result.{put_files, remove_files}
 use Rattle.keep_catalog.specs.Files.{packs_in, snap_in, why_unread}
 use Rattle.keep_catalog.specs.Orders.{listing_cmp, packed_blob_cmp, same_name}
 use Rattle.keep_catalog.specs.Places.{at, id_at, is_among, is_honest, is_stored, listed_in, listed_of}
@@ -136,7 +136,7 @@ abbrev pub with_files : List NamedBytes → Repository → Repository
 with_files fs r = record r { files = put_files fs r.files }
 
 abbrev pub without_files : List NamedBytes → Repository → Repository
-without_files fs r = record r { files = take_files fs r.files }
+without_files fs r = record r { files = remove_files fs r.files }
 
 -- each of these isn't there when it is put
 abbrev pub AreNew : List NamedBytes → finite.FinMap name_cmp (List ℕ) → Type 0

@@ -42,7 +42,7 @@ pub(crate) fn put_index(
 }
 
 /// Takes out what is kept of an index, and what it lists.
-pub(crate) fn take_index(
+pub(crate) fn remove_index(
     listed: &mut Listed,
     indexes: &mut Indexes,
     index: Id,

@@ -19,7 +19,7 @@ ghost use Rattle.keep_catalog.specs.Orders.{same_id, same_name};
 
 use crate::file_reading::{read_listed, read_pack, read_snapshot};
 use crate::headers::add_found;
-use crate::indexes::{Indexes, put_index, take_index};
+use crate::indexes::{Indexes, put_index, remove_index};
 use crate::listed::Listed;
 use crate::stored::{Stored, store, unstore};
 use crate::unread::{FileError, Unread};
@@ -195,7 +195,7 @@ impl Tables {
             OnOk result ((r : Repository) → IsKept r self.old → IsKept (without_file r name) self.new) }
     {
         forget(&mut self.unread, FileName::index(index));
-        take_index(&mut self.listed, &mut self.indexes, index)?;
+        remove_index(&mut self.listed, &mut self.indexes, index)?;
         Ok(())
     }
 

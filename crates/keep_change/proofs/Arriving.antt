@@ -10,7 +10,7 @@ use Rattle.keep_names.specs.Orders.{name_cmp}
 use Rattle.keep_names.specs.declared.file_name.FileName.{FileName}
 use Rattle.keep_change.specs.Filling.{FilesComeFrom}
 use Rattle.keep_change.specs.NamedBytes.{NamedBytes}
-use Rattle.keep_change.specs.Result.{put_files, take_files}
+use Rattle.keep_change.specs.Result.{put_files, remove_files}
 
 module _ {X : Type 0} (P : X → Type 0) where
   any_here : (x : X) (xs : List X) → P x → Any P (x ∷ xs)
@@ -27,7 +27,7 @@ is_file name bytes f = (f.name ≡ name) × (f.bytes ≡ bytes)
 
 module _ (name : FileName) (bytes : List ℕ) where
   -- a file that is left where some are taken was there
-  left_was_there : (fs : List NamedBytes) (m : finite.FinMap name_cmp (List ℕ)) → finite.get (take_files fs m) name ≡ Some bytes → finite.get m name ≡ Some bytes
+  left_was_there : (fs : List NamedBytes) (m : finite.FinMap name_cmp (List ℕ)) → finite.get (remove_files fs m) name ≡ Some bytes → finite.get m name ≡ Some bytes
   left_was_there [] m left = left
   left_was_there (f ∷ fs) m left =
       split (eq_by_cmp name_cmp name f.name)

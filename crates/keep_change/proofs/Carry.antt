@@ -19,7 +19,7 @@ use Rattle.keep_change.specs.Change.{Holding, Written, added, dropped, set, clea
 use Rattle.keep_change.specs.Fold.{Numbered, fold_of, first_break}
 use Rattle.keep_change.specs.Form.{HasNoFacetTwice}
 use Rattle.keep_change.proofs.Holdings.{one_written, each_written, fold_holding, break_holding}
-use Rattle.keep_change.specs.Result.{put_files, take_files, put_marks, take_marks, result_of, reverse_of}
+use Rattle.keep_change.specs.Result.{put_files, remove_files, put_marks, remove_marks, result_of, reverse_of}
 use Rattle.keep_change.specs.Touch.{written_facets}
 use Rattle.keep_change.proofs.Records.{WritesOnce, RecordAt, no_record, a_record, record_at, facets_of, once_head, once_tail, take_back}
 
@@ -53,10 +53,10 @@ held-put_files (f ∷ fs) r =
     held-put_files fs (record r { files = finite.insert r.files f.name f.bytes })
     ∙ ap (each_written (map added fs)) (λ i q. held-insert_file r f.name f.bytes q i)
 
-held-take_files : (fs : List NamedBytes) (r : Repository) → held (record r { files = take_files fs r.files }) ≡ each_written (map dropped fs) (held r)
-held-take_files [] r = refl
-held-take_files (f ∷ fs) r =
-    held-take_files fs (record r { files = finite.remove r.files f.name })
+held-remove_files : (fs : List NamedBytes) (r : Repository) → held (record r { files = remove_files fs r.files }) ≡ each_written (map dropped fs) (held r)
+held-remove_files [] r = refl
+held-remove_files (f ∷ fs) r =
+    held-remove_files fs (record r { files = finite.remove r.files f.name })
     ∙ ap (each_written (map dropped fs)) (λ i q. held-remove_file r f.name q i)
 
 held-put_marks : (ms : List PackMark) (r : Repository) → held (record r { marks = put_marks ms r.marks }) ≡ each_written (map set ms) (held r)
@@ -65,20 +65,20 @@ held-put_marks (m ∷ ms) r =
     held-put_marks ms (record r { marks = finite.insert r.marks m.pack m.mark })
     ∙ ap (each_written (map set ms)) (λ i q. held-insert_mark r m.pack m.mark q i)
 
-held-take_marks : (ms : List PackMark) (r : Repository) → held (record r { marks = take_marks ms r.marks }) ≡ each_written (map cleared ms) (held r)
-held-take_marks [] r = refl
-held-take_marks (m ∷ ms) r =
-    held-take_marks ms (record r { marks = finite.remove r.marks m.pack })
+held-remove_marks : (ms : List PackMark) (r : Repository) → held (record r { marks = remove_marks ms r.marks }) ≡ each_written (map cleared ms) (held r)
+held-remove_marks [] r = refl
+held-remove_marks (m ∷ ms) r =
+    held-remove_marks ms (record r { marks = finite.remove r.marks m.pack })
     ∙ ap (each_written (map cleared ms)) (λ i q. held-remove_mark r m.pack q i)
 
 held-each : (c : Change) (r : Repository) → held (result_of c r) ≡ each_written (written c) (held r)
 held-each c r =
     let added_all : Repository = record r { files = put_files c.adds r.files } in
-    let files_done : Repository = record added_all { files = take_files c.drops added_all.files } in
+    let files_done : Repository = record added_all { files = remove_files c.drops added_all.files } in
     let set_all : Repository = record files_done { marks = put_marks c.sets files_done.marks } in
-    held-take_marks c.clears set_all
+    held-remove_marks c.clears set_all
     ∙ ap (each_written (map cleared c.clears)) (held-put_marks c.sets files_done
-    ∙ ap (each_written (map set c.sets)) (held-take_files c.drops added_all
+    ∙ ap (each_written (map set c.sets)) (held-remove_files c.drops added_all
     ∙ ap (each_written (map dropped c.drops)) (held-put_files c.adds r)))
     ∙ sym (each_written-append (map added c.adds) _ (held r)
     ∙ each_written-append (map dropped c.drops) _ _

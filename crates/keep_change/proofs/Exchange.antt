@@ -16,7 +16,7 @@ use Rattle.keep_repo.specs.Repository.{Repository, held}
 use Rattle.keep_repo.specs.declared.facet.Mark as the_mark
 use Rattle.keep_change.specs.Change.{added, set, holds_same, is_as_written}
 use Rattle.keep_change.specs.NamedBytes.{NamedBytes}
-use Rattle.keep_change.specs.Result.{put_files, put_marks, take_files, take_marks}
+use Rattle.keep_change.specs.Result.{put_files, put_marks, remove_files, remove_marks}
 use Rattle.keep_change.specs.declared.change.PackMark.{PackMark}
 
 module _ {I K X : Type 0} {R : K → K → Ordering} (key : I → K) (value : I → X) where
@@ -96,7 +96,7 @@ unfolding put_all
 all_files_put [] m = refl
 all_files_put (f ∷ fs) m = all_files_put fs (insert m f.name f.bytes)
 
-all_files_taken : (fs : List NamedBytes) (m : FinMap name_cmp (List ℕ)) → take_files fs m ≡ take_all (λ f. f.name) (λ f. f.bytes) fs m
+all_files_taken : (fs : List NamedBytes) (m : FinMap name_cmp (List ℕ)) → remove_files fs m ≡ take_all (λ f. f.name) (λ f. f.bytes) fs m
 unfolding take_all
 all_files_taken [] m = refl
 all_files_taken (f ∷ fs) m = all_files_taken fs (remove m f.name)
@@ -106,7 +106,7 @@ unfolding put_all
 all_marks_put [] m = refl
 all_marks_put (s ∷ ms) m = all_marks_put ms (insert m s.pack s.mark)
 
-all_marks_taken : (ms : List PackMark) (m : FinMap id_cmp the_mark.Mark) → take_marks ms m ≡ take_all (λ s. s.pack) (λ s. s.mark) ms m
+all_marks_taken : (ms : List PackMark) (m : FinMap id_cmp the_mark.Mark) → remove_marks ms m ≡ take_all (λ s. s.pack) (λ s. s.mark) ms m
 unfolding take_all
 all_marks_taken [] m = refl
 all_marks_taken (s ∷ ms) m = all_marks_taken ms (remove m s.pack)
@@ -116,13 +116,13 @@ abbrev pub files_put : List NamedBytes → Repository → Repository
 files_put fs r = record r { files = put_files fs r.files }
 
 abbrev pub files_taken : List NamedBytes → Repository → Repository
-files_taken fs r = record r { files = take_files fs r.files }
+files_taken fs r = record r { files = remove_files fs r.files }
 
 abbrev pub marks_put : List PackMark → Repository → Repository
 marks_put ms r = record r { marks = put_marks ms r.marks }
 
 abbrev pub marks_taken : List PackMark → Repository → Repository
-marks_taken ms r = record r { marks = take_marks ms r.marks }
+marks_taken ms r = record r { marks = remove_marks ms r.marks }
 
 -- files that are put where there were none, and taken away again
 pub files_back : (r : Repository) (fs : List NamedBytes) → list_all (is_as_written (held r)) (map added fs) ≡ true → files_taken fs (files_put fs r) ≡ r

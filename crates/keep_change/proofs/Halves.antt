@@ -7,7 +7,7 @@ use Rattle.keep_repo.specs.Repository.{Repository, held}
 use Rattle.keep_change.specs.Change.{added, cleared, dropped, is_as_written, is_ready, set, written}
 use Rattle.keep_change.specs.Form.{HasNoFacetTwice}
 use Rattle.keep_change.specs.Halves.{begun_of, completed_of, turned}
-use Rattle.keep_change.specs.Result.{reverse_of, take_marks}
+use Rattle.keep_change.specs.Result.{reverse_of, remove_marks}
 use Rattle.keep_change.specs.declared.change.Change.{Change}
 use Rattle.keep_change.specs.declared.turn.Turn.{Turn}
 use Rattle.keep_change.specs.declared.turn.Turn.TheVariants.{Make, TakeBack}
@@ -29,7 +29,7 @@ pub abandoned : (c : Change) (r old new : Repository) → is_ready (held r) c �
 abandoned c r old new ready begun taken =
     let nothing = nothing_there c r ready in
     taken ∙ ap (completed_of (reverse_of c)) begun
-    ∙ ap (λ files. record { files = files; marks = take_marks c.sets (begun_of c r).marks }) (ap (λ (s : Repository). s.files) (files_back r c.adds nothing.0))
+    ∙ ap (λ files. record { files = files; marks = remove_marks c.sets (begun_of c r).marks }) (ap (λ (s : Repository). s.files) (files_back r c.adds nothing.0))
     ∙ ap (λ marks. record { files = r.files; marks = marks }) (ap (λ (s : Repository). s.marks) (marks_back r c.sets nothing.1))
 
 pub turned_writes_once : (t : Turn) (c : Change) → HasNoFacetTwice c → WritesOnce (written (turned t c))

@@ -2,7 +2,7 @@
 use Rattle.std.specs.Prelude.{◌≡◌, true}
 use Rattle.keep_repo.specs.Repository.{Repository, held}
 use Rattle.keep_change.specs.Change.{is_ready}
-use Rattle.keep_change.specs.Result.{put_files, put_marks, reverse_of, take_files, take_marks}
+use Rattle.keep_change.specs.Result.{put_files, put_marks, reverse_of, remove_files, remove_marks}
 use Rattle.keep_change.specs.declared.change.Change.{Change}
 use Rattle.keep_change.specs.declared.turn.Turn.{Turn}
 use Rattle.keep_change.specs.declared.turn.Turn.TheVariants.{Make, TakeBack}
@@ -22,8 +22,8 @@ begun_of c repository = record {
 -- the repository without all that the change takes away
 abbrev pub completed_of : Change → Repository → Repository
 completed_of c repository = record {
-  files = take_files c.drops repository.files;
-  marks = take_marks c.clears repository.marks;
+  files = remove_files c.drops repository.files;
+  marks = remove_marks c.clears repository.marks;
 }
 
 -- the repository stands between the halves of the change, which was begun where it is ready

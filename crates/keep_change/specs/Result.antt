@@ -14,9 +14,9 @@ put_files [] files = files
 put_files (f ∷ fs) files = put_files fs (map.insert files f.name f.bytes)
 
 -- the files without these
-abbrev pub take_files : List NamedBytes → map.FinMap name_cmp (List ℕ) → map.FinMap name_cmp (List ℕ)
-take_files [] files = files
-take_files (f ∷ fs) files = take_files fs (map.remove files f.name)
+abbrev pub remove_files : List NamedBytes → map.FinMap name_cmp (List ℕ) → map.FinMap name_cmp (List ℕ)
+remove_files [] files = files
+remove_files (f ∷ fs) files = remove_files fs (map.remove files f.name)
 
 -- the marks, with these put among them
 abbrev pub put_marks : List PackMark → map.FinMap id_cmp the_mark.Mark → map.FinMap id_cmp the_mark.Mark
@@ -24,15 +24,15 @@ put_marks [] marks = marks
 put_marks (m ∷ ms) marks = put_marks ms (map.insert marks m.pack m.mark)
 
 -- the marks without these
-abbrev pub take_marks : List PackMark → map.FinMap id_cmp the_mark.Mark → map.FinMap id_cmp the_mark.Mark
-take_marks [] marks = marks
-take_marks (m ∷ ms) marks = take_marks ms (map.remove marks m.pack)
+abbrev pub remove_marks : List PackMark → map.FinMap id_cmp the_mark.Mark → map.FinMap id_cmp the_mark.Mark
+remove_marks [] marks = marks
+remove_marks (m ∷ ms) marks = remove_marks ms (map.remove marks m.pack)
 
 -- the repository with the written facets replaced, and all others as they were
 abbrev pub result_of : Change → Repository → Repository
 result_of c repository = record {
-  files = take_files c.drops (put_files c.adds repository.files);
-  marks = take_marks c.clears (put_marks c.sets repository.marks);
+  files = remove_files c.drops (put_files c.adds repository.files);
+  marks = remove_marks c.clears (put_marks c.sets repository.marks);
 }
 
 -- the change that takes this one back: it drops what was added and clears what was set, and the other way round

@@ -48,7 +48,7 @@ impl Change {
     pub fn complete(&self, turn: Turn, repo: &mut Repo)
         ensures { repo.new ≡ completed_of (turned turn self.now) repo.old }
     {
-        take(self.going_files(turn), self.going_marks(turn), repo);
+        remove(self.going_files(turn), self.going_marks(turn), repo);
     }
 
     /// Takes the first half back, in place of the second one. It takes no memory.
@@ -63,18 +63,18 @@ impl Change {
     fn withdraw(&self, turn: Turn, repo: &mut Repo)
         ensures { repo.new ≡ completed_of (made.reverse_of (turned turn self.now)) repo.old }
     {
-        take(self.coming_files(turn), self.coming_marks(turn), repo);
+        remove(self.coming_files(turn), self.coming_marks(turn), repo);
     }
 
     /// Takes back what the change made of marks, and nothing else. Where memory runs out some marks are
     /// taken back: it is for a copy that is let go then.
     pub fn unapply_marks(&self, repo: &mut Repo) -> Result<(), AllocError>
-        ensures ok { let marks = made.take_marks self.now.sets (made.put_marks self.now.clears repo.old.marks) in
+        ensures ok { let marks = made.remove_marks self.now.sets (made.put_marks self.now.clears repo.old.marks) in
             OnOk result (repo.new ≡ record repo.old { marks = marks }) }
         ensures err { OnErr result (repo.new.files ≡ repo.old.files) }
     {
         put_marks_there(self.clears.as_slice(), repo)?;
-        take_marks(self.sets.as_slice(), repo);
+        remove_marks(self.sets.as_slice(), repo);
         Ok(())
     }
 }
@@ -91,21 +91,21 @@ fn put(files: &[StoredFile], marks: &[PackMark], repo: &mut Repo) -> Result<(), 
 {
     put_files(files, repo)?;
     if let Err(error) = put_marks(marks, repo) {
-        take_files(files, repo);
+        remove_files(files, repo);
         return Err(error);
     }
     Ok(())
 }
 
 /// Takes the files and marks away. It takes no memory.
-fn take(files: &[StoredFile], marks: &[PackMark], repo: &mut Repo)
+fn remove(files: &[StoredFile], marks: &[PackMark], repo: &mut Repo)
     ensures { repo.new ≡ record {
-      files = made.take_files files.now repo.old.files;
-      marks = made.take_marks marks.now repo.old.marks;
+      files = made.remove_files files.now repo.old.files;
+      marks = made.remove_marks marks.now repo.old.marks;
     } }
 {
-    take_files(files, repo);
-    take_marks(marks, repo);
+    remove_files(files, repo);
+    remove_marks(marks, repo);
 }
 
 fn put_file(file: &StoredFile, repo: &mut Repo) -> Result<(), AllocError>
@@ -126,7 +126,7 @@ fn put_files(files: &[StoredFile], repo: &mut Repo) -> Result<(), AllocError>
 {
     for (place, file) in files.iter().enumerate() {
         if let Err(error) = put_file(file, repo) {
-            take_files(&files[..place], repo);
+            remove_files(&files[..place], repo);
             return Err(error);
         }
     }
@@ -142,7 +142,7 @@ fn put_marks(marks: &[PackMark], repo: &mut Repo) -> Result<(), AllocError>
 {
     for (place, set) in marks.iter().enumerate() {
         if let Err(error) = repo.insert_mark(set.pack, set.mark) {
-            take_marks(&marks[..place], repo);
+            remove_marks(&marks[..place], repo);
             return Err(error);
         }
     }
@@ -161,16 +161,16 @@ fn put_marks_there(marks: &[PackMark], repo: &mut Repo) -> Result<(), AllocError
     Ok(())
 }
 
-fn take_files(files: &[StoredFile], repo: &mut Repo)
-    ensures { repo.new ≡ record repo.old { files = made.take_files files.now repo.old.files } }
+fn remove_files(files: &[StoredFile], repo: &mut Repo)
+    ensures { repo.new ≡ record repo.old { files = made.remove_files files.now repo.old.files } }
 {
     for file in files {
         repo.remove_file(file.name());
     }
 }
 
-fn take_marks(marks: &[PackMark], repo: &mut Repo)
-    ensures { repo.new ≡ record repo.old { marks = made.take_marks marks.now repo.old.marks } }
+fn remove_marks(marks: &[PackMark], repo: &mut Repo)
+    ensures { repo.new ≡ record repo.old { marks = made.remove_marks marks.now repo.old.marks } }
 {
     for set in marks {
         repo.remove_mark(set.pack);

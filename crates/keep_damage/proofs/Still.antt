@@ -15,7 +15,7 @@ use Rattle.keep_repo.specs.declared.facet.Facet.TheVariants.{File}
 use Rattle.keep_change.specs.Change.{asked, file_asked, is_as_asked, is_met, is_ready, mark_asked}
 use Rattle.keep_change.specs.Fold.{Numbered, first_break, fold_of}
 use Rattle.keep_change.specs.NamedBytes.{NamedBytes}
-use Rattle.keep_change.specs.Result.{put_files, result_of, take_files}
+use Rattle.keep_change.specs.Result.{put_files, result_of, remove_files}
 use Rattle.keep_change.specs.declared.change.Change.{Change}
 use Rattle.keep_journal.specs.Journal.{Journal}
 use Rattle.keep_journal.specs.Kept.{kept}
@@ -57,12 +57,12 @@ puts_either : (fs : List NamedBytes) (x : FileName) → Either (put_files fs) x
 puts_either [] x = inr (λ files. refl)
 puts_either (f ∷ fs) x = then_either (λ files. finite.insert files f.name f.bytes) (put_files fs) x (put_either f x) (puts_either fs x)
 
-takes_either : (fs : List NamedBytes) (x : FileName) → Either (take_files fs) x
+takes_either : (fs : List NamedBytes) (x : FileName) → Either (remove_files fs) x
 takes_either [] x = inr (λ files. refl)
-takes_either (f ∷ fs) x = then_either (λ files. finite.remove files f.name) (take_files fs) x (take_either f.name x) (takes_either fs x)
+takes_either (f ∷ fs) x = then_either (λ files. finite.remove files f.name) (remove_files fs) x (take_either f.name x) (takes_either fs x)
 
 step_either : (c : Change) (x : FileName) → Either (stepped Write c) x
-step_either c x = then_either (put_files c.adds) (take_files c.drops) x (puts_either c.adds x) (takes_either c.drops x)
+step_either c x = then_either (put_files c.adds) (remove_files c.drops) x (puts_either c.adds x) (takes_either c.drops x)
 
 -- ---- one file under all changes
 

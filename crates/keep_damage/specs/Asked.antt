@@ -3,7 +3,7 @@ use Rattle.std.specs.Prelude.{◌≡◌, ℕ, List, [], ◌∷◌, is_none, if�
 use Rattle.std.specs.FinMap as map
 use Rattle.keep_names.specs.declared.file_name.FileName.{FileName}
 use Rattle.keep_change.specs.Fold.{Numbered}
-use Rattle.keep_change.specs.Result.{put_files, take_files}
+use Rattle.keep_change.specs.Result.{put_files, remove_files}
 use Rattle.keep_change.specs.declared.change.Change.{Change}
 use Rattle.keep_journal.specs.Journal.{Journal}
 use Rattle.keep_journal.specs.Kept.{kept}
@@ -32,7 +32,7 @@ without (name ∷ names) files = without names (map.remove files name)
 -- what a change makes of files: what it only looks at is there, or isn't, as it asks; or what it writes is written
 abbrev pub stepped : Half → Change → Files → Files
 stepped Look c files = without c.absent (filled c.present files)
-stepped Write c files = take_files c.drops (put_files c.adds files)
+stepped Write c files = remove_files c.drops (put_files c.adds files)
 
 -- and what all of these make of them, in turn
 abbrev pub passed : Half → List Numbered → Files → Files

@@ -32,19 +32,19 @@ fn pass_all(alloc: Global, pass: Half, history: &History, repo: &mut Repo) -> Re
 {
     for n in history.final_number()..history.last_change() {
         if let Some(change) = history.kept_change(n + 1) {
-            take_step(alloc, pass, change, repo)?;
+            fold_step(alloc, pass, change, repo)?;
         }
     }
     Ok(())
 }
 
-fn take_step(alloc: Global, pass: Half, change: &Change, repo: &mut Repo) -> Result<(), AllocError>
+fn fold_step(alloc: Global, pass: Half, change: &Change, repo: &mut Repo) -> Result<(), AllocError>
     ensures { OnOk result (repo.new.files ≡ stepped pass change.now repo.old.files) }
 {
     match pass {
         Half::Look => {
             fill(alloc, change.present.as_slice(), repo)?;
-            take_out(change.absent.as_slice(), repo);
+            remove_named(change.absent.as_slice(), repo);
             Ok(())
         }
         Half::Write => make_files(change, repo),
@@ -71,7 +71,7 @@ fn fill_one(alloc: Global, name: FileName, repo: &mut Repo) -> Result<(), AllocE
     Ok(())
 }
 
-fn take_out(names: &[FileName], repo: &mut Repo)
+fn remove_named(names: &[FileName], repo: &mut Repo)
     ensures { repo.new.files ≡ without names.now repo.old.files }
 {
     for name in names {

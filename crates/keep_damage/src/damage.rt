@@ -13,7 +13,7 @@ use crate::finding::Finding;
 use crate::sign::signs_of;
 use keep_hashing::OneByOne;
 use keep_journal::History;
-use keep_opening::{OpenError, history_of, leaves_of, read, settle, take_in};
+use keep_opening::{OpenError, history_of, leaves_of, read, read_stock, settle};
 use keep_shelf::{Shelf, Stock};
 use std::alloc::{AllocError, Global};
 
@@ -29,7 +29,7 @@ pub fn damage_on<S: Shelf>(alloc: Global, shelf: &mut S) -> Result<Vec<Finding>,
     ensures why { IfErr result (λ why. (k : ℕ) → why ≢ the_error.BadEntry k) }
     ensures same { (S.shelved shelf.new).content ≡ (S.shelved shelf.old).content }
 {
-    let stock = take_in(alloc, shelf)?;
+    let stock = read_stock(alloc, shelf)?;
     let found = damage_in(alloc, &stock)?;
     Ok(found)
 }

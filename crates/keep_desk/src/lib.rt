@@ -5,11 +5,11 @@ mod answers;
 mod crew;
 mod desk;
 mod first_passes;
+mod gathering;
 mod handing;
 mod locked;
 mod press;
 mod taken_back;
-mod taking_in;
 
 pub use answers::NotOpened;
 pub use crew::Operator;

@@ -15,9 +15,9 @@ ghost use Rattle.keep_desk.specs.Closed.{IsClosed};
 ghost use Rattle.keep_desk.specs.Held.{FailuresAfter, IsBehind};
 
 use crate::answers::number_in;
+use crate::gathering::gather;
 use crate::press::{Press, hand_in};
 use crate::taken_back::TakenBack;
-use crate::taking_in::take_in;
 use keep_change::Planned;
 use keep_crew::{DeskError, Plans};
 use keep_ledger::{Refusal, Request, Told};
@@ -281,7 +281,7 @@ impl<B: Naming, R: Wait + Drop, K: Keeper> Locked<B, R, K> {
             press: _press,
             mut rest,
         } = self;
-        take_in(&mut register, passes, &mut rest);
+        gather(&mut register, passes, &mut rest);
         register.close(&mut rest)
     }
 }

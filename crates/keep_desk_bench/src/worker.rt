@@ -57,7 +57,7 @@ impl<B: Naming> Worker<B> {
             shift.left.fetch_sub(1, Ordering::SeqCst);
             made
         } else {
-            take_views(desk, &mut self.pass, &shift.left)
+            read_views(desk, &mut self.pass, &shift.left)
         };
         self.done = match (start, count) {
             (Ok(start), Some(count)) => start.done(rt, count).ok(),
@@ -87,7 +87,7 @@ fn make_changes<B: Naming, R: Wait, S: Wait + Drop, K: Keeper>(
 }
 
 /// Takes views as long as an operator is left, and looks at the length of each. How many that was.
-fn take_views<B: Naming, L>(
+fn read_views<B: Naming, L>(
     desk: &Desk<B, L>,
     pass: &mut Pass<B>,
     left: &AtomicUsize,

@@ -70,7 +70,7 @@ fn read_disk<R: Files<File = File> + Alloc<A = Global> + Clone + Drop>(
     let mut piece = vec![in alloc; 0u8; PIECE]?;
     let _names = names_in(rt, root)?;
     let config = read_config_of(rt, root, piece.as_mut_slice())?;
-    let lock = Lock::take(rt, root)?;
+    let lock = Lock::lock_folder(rt, root)?;
     let mut scan = Scan::new(rt, root, piece, lock);
     scan.read_all()?;
     let (lock, image) = scan.finish(config)?;

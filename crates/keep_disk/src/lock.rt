@@ -28,7 +28,7 @@ pub(crate) struct Lock {
 
 impl Lock {
     /// Locks the folder.
-    pub(crate) fn take<R: Files<File = File> + Alloc<A = Global>>(
+    pub(crate) fn lock_folder<R: Files<File = File> + Alloc<A = Global>>(
         rt: &R,
         root: &str,
     ) -> Result<Lock, FolderError> {
@@ -46,7 +46,7 @@ impl Lock {
                     }
                 }
                 Err(error) if error.kind() == ErrorKind::ReadOnlyFilesystem => {
-                    return Lock::take_unwritable(rt, path);
+                    return Lock::lock_unwritable(rt, path);
                 }
                 Err(error) => return Err(FolderError::from(error)),
             }
@@ -55,7 +55,7 @@ impl Lock {
     }
 
     /// The lock on a folder that can't be changed: it has to be free, where there is one.
-    fn take_unwritable<R: Files<File = File>>(rt: &R, path: String) -> Result<Lock, FolderError> {
+    fn lock_unwritable<R: Files<File = File>>(rt: &R, path: String) -> Result<Lock, FolderError> {
         let file = File::open(rt, path.as_str()).ok();
         if let Some(file) = &file {
             if let Err(TryLockError::WouldBlock) = file.try_lock() {

@@ -76,10 +76,10 @@ impl<'a, R: Files<File = File> + Alloc<A = Global> + Clone + Drop> Scan<'a, R> {
     pub(crate) fn read_all(&mut self) -> io::Result<()>
         ensures { IsClosed (seen_in self.old.image).stands → IsClosed (seen_in self.new.image).stands }
     {
-        self.take_root()?;
+        self.note_root()?;
         for _ in 0..MAX_TURNS {
             match self.folders.pop() {
-                Some(folder) => self.take_folder(folder.as_str())?,
+                Some(folder) => self.note_folder(folder.as_str())?,
                 None => return Ok(()),
             }
         }
@@ -87,35 +87,35 @@ impl<'a, R: Files<File = File> + Alloc<A = Global> + Clone + Drop> Scan<'a, R> {
     }
 
     /// Notes the folders at the root. Each of the five may be a link to a folder elsewhere.
-    fn take_root(&mut self) -> io::Result<()>
+    fn note_root(&mut self) -> io::Result<()>
         ensures { IsClosed (seen_in self.old.image).stands → IsClosed (seen_in self.new.image).stands }
     {
         for name in names_in(self.rt, self.root)? {
             if holds_keys(name.as_str()) {
-                self.take_inner(name)?;
+                self.note_inner(name)?;
             }
         }
         Ok(())
     }
 
-    fn take_folder(&mut self, folder: &str) -> io::Result<()>
+    fn note_folder(&mut self, folder: &str) -> io::Result<()>
         ensures { IsClosed (seen_in self.old.image).stands → IsClosed (seen_in self.new.image).stands }
     {
         let path = self.below_root(folder)?;
         for name in names_in(self.rt, path.as_str())? {
             let path = format!(in self.rt.alloc(); "{folder}/{name}")?;
             if let Some(key) = key_of_path(path.as_str()) {
-                self.take_file(path.as_str(), key)?;
+                self.read_keyed(path.as_str(), key)?;
             } else if holds_keys(path.as_str()) {
                 self.require_folder(path.as_str())?;
-                self.take_inner(path)?;
+                self.note_inner(path)?;
             }
         }
         Ok(())
     }
 
     /// Reads a file that lies where this key does.
-    fn take_file(&mut self, path: &str, key: Key) -> io::Result<()>
+    fn read_keyed(&mut self, path: &str, key: Key) -> io::Result<()>
         ensures { IsClosed (seen_in self.old.image).stands → IsClosed (seen_in self.new.image).stands }
     {
         let place = self.below_root(path)?;
@@ -146,7 +146,7 @@ impl<'a, R: Files<File = File> + Alloc<A = Global> + Clone + Drop> Scan<'a, R> {
     }
 
     /// Notes a folder, to be read. The one that was noted last is read first, but the journal is read last of all.
-    fn take_inner(&mut self, folder: String) -> io::Result<()>
+    fn note_inner(&mut self, folder: String) -> io::Result<()>
         ensures { IsClosed (seen_in self.old.image).stands → IsClosed (seen_in self.new.image).stands }
     {
         self.add_folder(folder.as_str())?;

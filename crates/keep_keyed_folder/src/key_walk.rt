@@ -25,7 +25,7 @@ pub fn read_keys<T: FileTree>(alloc: Global, tree: &mut T) -> Result<Stock, Tree
     let mut paths = tree.list("")?;
     for _ in 0..MAX_TURNS {
         match paths.pop() {
-            Some(path) => take(tree, &mut found, &mut paths, path)?,
+            Some(path) => read_path(tree, &mut found, &mut paths, path)?,
             None => return Ok(found),
         }
     }
@@ -33,7 +33,7 @@ pub fn read_keys<T: FileTree>(alloc: Global, tree: &mut T) -> Result<Stock, Tree
 }
 
 /// Takes what stands at the path: a file's bytes under its key, and of a folder the paths in it.
-fn take<T: FileTree>(
+fn read_path<T: FileTree>(
     tree: &mut T,
     found: &mut Stock,
     paths: &mut Vec<String>,
@@ -46,14 +46,14 @@ fn take<T: FileTree>(
     ensures err { OnErr result ((T.seen tree.new).stands ≡ (T.seen tree.old).stands) }
 {
     match tree.read(path.as_str())? {
-        Some(Node::Folder) => take_folder(tree, paths, path.as_str()),
-        Some(Node::File(bytes)) => take_file(found, path.as_str(), &bytes),
+        Some(Node::Folder) => note_folder(tree, paths, path.as_str()),
+        Some(Node::File(bytes)) => note_file(found, path.as_str(), &bytes),
         None => Ok(()),
     }
 }
 
 /// Notes the paths in a folder of keys, and passes another one over.
-fn take_folder<T: FileTree>(
+fn note_folder<T: FileTree>(
     tree: &mut T,
     paths: &mut Vec<String>,
     path: &str,
@@ -74,7 +74,7 @@ fn take_folder<T: FileTree>(
 }
 
 /// Notes the bytes of a key's file, and passes another file over.
-fn take_file(found: &mut Stock, path: &str, bytes: &Rope) -> Result<(), TreeError>
+fn note_file(found: &mut Stock, path: &str, bytes: &Rope) -> Result<(), TreeError>
     ensures { OnOk result (IsRead path.now bytes.now found.old found.new) }
 {
     if holds_keys(path) {

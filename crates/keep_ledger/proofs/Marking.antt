@@ -3,7 +3,7 @@ use Rattle.std.proofs.Common.{◌≡◌, ℕ, ◌+◌, ◌-◌, ◌≤◌, ◌++
 use Rattle.std.proofs.lemmas.Bool.{cases_lt}
 use Rattle.keep_repo.specs.Repository.{Repository}
 use Rattle.keep_change.specs.Fold.{first_break, fold_of}
-use Rattle.keep_change.specs.Result.{put_marks, take_marks}
+use Rattle.keep_change.specs.Result.{put_marks, remove_marks}
 use Rattle.keep_change.specs.declared.change.Change.{Change}
 use Rattle.keep_journal.specs.History.{last_change, IsNumbered}
 use Rattle.keep_journal.specs.Journal.{Journal}
@@ -24,7 +24,7 @@ unfold_without j n k live numbered next within e = ap (λ ns. unfold_of ns live)
 
 -- and one that is kept is taken back after those that come later
 pub unfold_with : (j : Journal) (n k : ℕ) (c : Change) (live : Repository) → IsNumbered j → k ≡ n + 1 → kept_change j k ≡ Some c
-    → (unfold_of (later j n) live).marks ≡ take_marks c.sets (put_marks c.clears (unfold_of (later j k) live).marks)
+    → (unfold_of (later j n) live).marks ≡ remove_marks c.sets (put_marks c.clears (unfold_of (later j k) live).marks)
 unfold_with j n k c live numbered next e = ap (λ ns. (unfold_of ns live).marks) (later_with j n k c numbered next e)
 
 -- the repository that the later changes are made of

@@ -8,7 +8,7 @@ use crate::noting::notes_of;
 use keep_catalog::{Hashing, LiveRepo};
 use keep_journal::History;
 use keep_moves::Move;
-use keep_opening::{OpenError, Opened, due_moves, read, take_in};
+use keep_opening::{OpenError, Opened, due_moves, read, read_stock};
 use keep_shelf::Shelf;
 use keep_touch::Touch;
 use std::alloc::Global;
@@ -71,7 +71,7 @@ fn find<S: Shelf, H: Hashing>(
     ensures refused { IfErr result (IsNotOpened (S.shelved shelf.old)) }
     ensures given { IfErr result (λ error. IsGivenBack (S.shelved shelf.old) error (S.shelved shelf.new)) }
 {
-    let stock = take_in(alloc, shelf)?;
+    let stock = read_stock(alloc, shelf)?;
     let opened = read(alloc, &stock, hashing)?;
     let moves = due_moves(alloc, &stock, &opened.history)?;
     let touch = notes_of(alloc, &opened.history)?;

@@ -17,7 +17,7 @@ use Rattle.keep_reading.specs.declared.leaf.Leaf.{Leaf}
 use Rattle.keep_reading.proofs.Ascending.{Rises, rises_from_sorted}
 use Rattle.keep_reading.proofs.Bad.{AreAbove, IsOn, above_from, events_above, on_next}
 use Rattle.keep_reading.proofs.Scan.{none_told}
-use Rattle.keep_opening.specs.Telling.{CanCome, WasTaken, journal_after, top_after}
+use Rattle.keep_opening.specs.Telling.{CanCome, WasAppended, journal_after, top_after}
 
 abbrev place_of : Leaf → ℕ
 place_of leaf = leaf.at
@@ -78,7 +78,7 @@ on_right f low at before None on events right = cc right
 on_right f low at before (Some e) on events right = on_next f low at before e on (events e refl) right
 
 pub goes_on : (f : ℕ) (all : List Leaf) (leaf : Leaf) (rest : List Leaf) (j : Journal) (top up : ℕ) (new : Journal)
-    → Goes f all (leaf ∷ rest) j top → WasTaken f top j leaf up new → Goes f all rest new up
+    → Goes f all (leaf ∷ rest) j top → WasAppended f top j leaf up new → Goes f all rest new up
 goes_on f all leaf rest j top up new goes taken =
     let es = entries_of (leaf ∷ []) in
     let right : is_bad f goes.before leaf ≡ false = sym (same_wrong f all leaf rest j top goes) ∙ taken.right in

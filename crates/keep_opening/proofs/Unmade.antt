@@ -1,7 +1,7 @@
 -- Files of changes that are taken back in turn, the last first.
 use Rattle.std.proofs.Common.{◌≡◌, ℕ, ◌+◌, ◌≤◌, Some, None, sym, ap, ◌∙◌}
 use Rattle.keep_repo.specs.Repository.{Repository}
-use Rattle.keep_change.specs.Result.{put_files, take_files}
+use Rattle.keep_change.specs.Result.{put_files, remove_files}
 use Rattle.keep_change.specs.declared.change.Change.{Change}
 use Rattle.keep_journal.specs.History.{last_change, IsNumbered}
 use Rattle.keep_journal.specs.Journal.{Journal}
@@ -28,7 +28,7 @@ unmade_without j n k r numbered next within e = ap (filed r) (sym (ap (λ ns. (u
 
 -- and one that is kept is taken back after those that come later
 pub unmade_with : (j : Journal) (n k : ℕ) (c : Change) (r s t : Repository) → IsNumbered j → k ≡ n + 1 → kept_change j k ≡ Some c
-    → s ≡ filed r (under j k r) → t ≡ filed s (take_files c.adds (put_files c.drops s.files)) → t ≡ filed r (under j n r)
+    → s ≡ filed r (under j k r) → t ≡ filed s (remove_files c.adds (put_files c.drops s.files)) → t ≡ filed r (under j n r)
 unmade_with j n k c r s t numbered next e so_far made =
-    made ∙ ap (λ (x : Repository). filed x (take_files c.adds (put_files c.drops x.files))) so_far
+    made ∙ ap (λ (x : Repository). filed x (remove_files c.adds (put_files c.drops x.files))) so_far
     ∙ ap (filed r) (sym (ap (λ ns. (unfold_of ns r).files) (later_with j n k c numbered next e)))

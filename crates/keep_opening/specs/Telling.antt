@@ -23,7 +23,7 @@ pub record CanCome (f top : ℕ) (j : Journal) (leaf : Leaf) : Type 0 where
   pub above : IfSome leaf.event (λ e. length_of j < leaf.at)
 
 -- nothing was wrong with the leaf, and the journal has what it tells
-pub record WasTaken (f top : ℕ) (old : Journal) (leaf : Leaf) (up : ℕ) (new : Journal) : Type 0 where
+pub record WasAppended (f top : ℕ) (old : Journal) (leaf : Leaf) (up : ℕ) (new : Journal) : Type 0 where
   pub right : is_wrong f top old leaf ≡ false
   pub above : up ≡ top_after top leaf
   pub journal : new ≡ journal_after f old leaf

@@ -9,7 +9,7 @@ use std::alloc::Global;
 
 /// All that stands on the shelf. The keys are listed and what is under each is read; nothing is changed there. Where a
 /// call fails it is the last one.
-pub fn take_in<S: Shelf>(alloc: Global, shelf: &mut S) -> Result<Stock, OpenError>
+pub fn read_stock<S: Shelf>(alloc: Global, shelf: &mut S) -> Result<Stock, OpenError>
     ensures all { IfOk result (λ stock. stock ≡ (S.shelved shelf.old).content) }
     ensures calls { let before = S.shelved shelf.old in
         OnOk result (S.shelved shelf.new ≡ played (looks (1 + length (map.keys before.content))) before) }

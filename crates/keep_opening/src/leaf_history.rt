@@ -1,7 +1,7 @@
 ghost use Rattle.std.specs.Prelude.{◌≡◌, ◌≢◌, ◌<◌, ℕ, Err, IfErr, IfOk, OnOk, None, Some, true};
 ghost use Rattle.keep_journal.specs.History.{IsNumbered, final_after as final_after_of, final_number as final_number_of};
 ghost use Rattle.keep_moves.specs.Move.{Stand};
-ghost use Rattle.keep_opening.specs.Telling.{CanCome, WasTaken, top_after};
+ghost use Rattle.keep_opening.specs.Telling.{CanCome, WasAppended, top_after};
 ghost use Rattle.keep_opening.specs.declared.open_error.OpenError.TheVariants as the_error;
 ghost use Rattle.keep_reading.specs.Bad.{first_bad, fits_by, is_misfit as is_misfit_after, is_wrong};
 ghost use Rattle.keep_reading.specs.Leaves.{AreLeaves, entries_of};
@@ -25,7 +25,7 @@ pub fn history_of(alloc: Global, leaves: Vec<Leaf>) -> Result<History, OpenError
     let mut history = History::new(alloc, final_number);
     let mut top = 0;
     for leaf in leaves {
-        top = take_leaf(alloc, &mut history, final_number, top, leaf)?;
+        top = append_leaf(alloc, &mut history, final_number, top, leaf)?;
     }
     Ok(history)
 }
@@ -60,7 +60,7 @@ fn final_after(before: u64, event: &Event) -> u64
 }
 
 /// Appends what the leaf tells, where nothing is wrong with it. The number is that up to which changes are final then.
-fn take_leaf(
+fn append_leaf(
     alloc: Global,
     history: &mut History,
     final_number: u64,
@@ -68,7 +68,7 @@ fn take_leaf(
     leaf: Leaf,
 ) -> Result<u64, OpenError>
     requires { CanCome final_number top history.old.journal leaf }
-    ensures taken { IfOk result (λ next. WasTaken final_number top history.old.journal leaf next history.new.journal) }
+    ensures taken { IfOk result (λ next. WasAppended final_number top history.old.journal leaf next history.new.journal) }
     ensures number { IfErr result (λ why. (k : ℕ) → why ≡ the_error.BadEntry k → k ≡ leaf.at) }
     ensures wrong { IfErr result (λ why. (k : ℕ) → why ≡ the_error.BadEntry k
         → is_wrong final_number top history.old.journal leaf ≡ true) }

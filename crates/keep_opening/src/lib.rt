@@ -18,7 +18,7 @@ mod trash;
 
 pub use due::due_moves;
 pub use due_law::what_is_due_leads_on;
-pub use intake::take_in;
+pub use intake::read_stock;
 pub use leaf_history::history_of;
 pub use leaves::leaves_of;
 pub use made_files::{make_files, put_live};

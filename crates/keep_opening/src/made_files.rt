@@ -58,21 +58,21 @@ pub(crate) fn unmake(history: &History, repo: &mut Repo) -> Result<(), AllocErro
 }
 
 fn take_back(change: &Change, repo: &mut Repo) -> Result<(), AllocError>
-    ensures { let files = made.take_files change.now.adds (made.put_files change.now.drops repo.old.files) in
+    ensures { let files = made.remove_files change.now.adds (made.put_files change.now.drops repo.old.files) in
         OnOk result (repo.new ≡ record repo.old { files = files }) }
 {
     put_files(change.drops.as_slice(), repo)?;
-    take_files(change.adds.as_slice(), repo);
+    remove_files(change.adds.as_slice(), repo);
     Ok(())
 }
 
 /// Does to files what the change does to them, be it met or not. Where memory runs out some are put.
 pub fn make_files(change: &Change, repo: &mut Repo) -> Result<(), AllocError>
-    ensures { let files = made.take_files change.now.drops (made.put_files change.now.adds repo.old.files) in
+    ensures { let files = made.remove_files change.now.drops (made.put_files change.now.adds repo.old.files) in
         OnOk result (repo.new ≡ record repo.old { files = files }) }
 {
     put_files(change.adds.as_slice(), repo)?;
-    take_files(change.drops.as_slice(), repo);
+    remove_files(change.drops.as_slice(), repo);
     Ok(())
 }
 
@@ -86,8 +86,8 @@ fn put_files(files: &[StoredFile], repo: &mut Repo) -> Result<(), AllocError>
     Ok(())
 }
 
-fn take_files(files: &[StoredFile], repo: &mut Repo)
-    ensures { repo.new ≡ record repo.old { files = made.take_files files.now repo.old.files } }
+fn remove_files(files: &[StoredFile], repo: &mut Repo)
+    ensures { repo.new ≡ record repo.old { files = made.remove_files files.now repo.old.files } }
 {
     for file in files {
         repo.remove_file(file.name());

@@ -3,7 +3,7 @@ ghost use Rattle.std.specs.FinMap as map;
 ghost use Rattle.keep_opening.specs.Intake.{taken_into};
 ghost use Rattle.keep_shelf.specs.Shelved.{stocked};
 
-use keep_opening::{OpenError, take_in};
+use keep_opening::{OpenError, read_stock};
 use keep_shelf::{Fault, Key, MemoryShelf, Shelf, Stock};
 use std::alloc::Global;
 
@@ -12,7 +12,7 @@ pub fn copied<S: Shelf>(alloc: Global, shelf: &mut S) -> Result<MemoryShelf, Ope
     ensures all { IfOk result (λ copy. copy ≡ stocked (S.shelved shelf.old).content) }
     ensures same { (S.shelved shelf.new).content ≡ (S.shelved shelf.old).content }
 {
-    let stock = take_in(alloc, shelf)?;
+    let stock = read_stock(alloc, shelf)?;
     let keys = stock.keys()?;
     let copy = shelf_of(alloc, &stock, keys.as_slice())?;
     Ok(copy.afresh())

@@ -1,6 +1,6 @@
 -- How a fit goes on at the end of both: one piece more, and one element more.
 use Rattle.std.proofs.Common.{◌≡◌, ℕ, Bool, true, false, not, ◌&&◌, ◌||◌, cond, List, [], ◌∷◌, ◌++◌, refl, sym, ap, ap₂, ◌∙◌}
-use Rattle.keep_patterns.specs.Matching.{any_tail, fits, is_deep, is_nil, matches, takes_name}
+use Rattle.keep_patterns.specs.Matching.{any_tail, fits, is_deep, is_nil, matches, matches_name}
 use Rattle.keep_patterns.specs.declared.pattern.Component.{Component}
 use Rattle.keep_patterns.specs.declared.pattern.Component.TheVariants.{AnyDepth, Name}
 use Rattle.keep_patterns.proofs.Tails.{fits_many, fits_one}
@@ -139,12 +139,12 @@ module _ {P A : Type 0} (many : P → Bool) (one : P → A → Bool) where
 
 -- one component more, of a path that is one name longer
 pub matches_more : (anchored : Bool) (cs : List Component) (c : Component) (path : List (List ℕ)) (name : List ℕ)
-    → cond (is_deep c) (matches anchored cs (path ++ name ∷ []) || matches anchored (cs ++ c ∷ []) path) (matches anchored cs path && takes_name c name)
+    → cond (is_deep c) (matches anchored cs (path ++ name ∷ []) || matches anchored (cs ++ c ∷ []) path) (matches anchored cs path && matches_name c name)
     ≡ matches anchored (cs ++ c ∷ []) (path ++ name ∷ [])
-matches_more true cs AnyDepth path name = sym (fits_end_many is_deep takes_name cs AnyDepth path name refl)
-matches_more true cs (Name letters) path name = sym (fits_end_one is_deep takes_name cs (Name letters) path name refl)
-matches_more false cs AnyDepth path name = sym (fits_end_many is_deep takes_name (AnyDepth ∷ cs) AnyDepth path name refl)
-matches_more false cs (Name letters) path name = sym (fits_end_one is_deep takes_name (AnyDepth ∷ cs) (Name letters) path name refl)
+matches_more true cs AnyDepth path name = sym (fits_end_many is_deep matches_name cs AnyDepth path name refl)
+matches_more true cs (Name letters) path name = sym (fits_end_one is_deep matches_name cs (Name letters) path name refl)
+matches_more false cs AnyDepth path name = sym (fits_end_many is_deep matches_name (AnyDepth ∷ cs) AnyDepth path name refl)
+matches_more false cs (Name letters) path name = sym (fits_end_one is_deep matches_name (AnyDepth ∷ cs) (Name letters) path name refl)
 
 -- no component, of a path that is one name longer
 pub matches_none : (anchored : Bool) (path : List (List ℕ)) (name : List ℕ)
@@ -155,10 +155,10 @@ matches_none false path name = and_true (any_tail is_nil path) ∙ has_end path 
 -- at the root
 pub matches_root : (anchored : Bool) (cs : List Component) (c : Component)
     → cond (is_deep c) (matches anchored cs []) false ≡ matches anchored (cs ++ c ∷ []) []
-matches_root true cs AnyDepth = sym (nothing_for_many is_deep takes_name cs AnyDepth refl)
-matches_root true cs (Name letters) = sym (nothing_for_one is_deep takes_name cs (Name letters) refl)
-matches_root false cs AnyDepth = sym (nothing_for_many is_deep takes_name (AnyDepth ∷ cs) AnyDepth refl)
-matches_root false cs (Name letters) = sym (nothing_for_one is_deep takes_name (AnyDepth ∷ cs) (Name letters) refl)
+matches_root true cs AnyDepth = sym (nothing_for_many is_deep matches_name cs AnyDepth refl)
+matches_root true cs (Name letters) = sym (nothing_for_one is_deep matches_name cs (Name letters) refl)
+matches_root false cs AnyDepth = sym (nothing_for_many is_deep matches_name (AnyDepth ∷ cs) AnyDepth refl)
+matches_root false cs (Name letters) = sym (nothing_for_one is_deep matches_name (AnyDepth ∷ cs) (Name letters) refl)
 
 pub nothing_at_root : (anchored : Bool) → matches anchored [] [] ≡ true
 nothing_at_root true = refl

@@ -3,7 +3,7 @@ use Rattle.std.proofs.Common.{◌≡◌, ◌≢◌, ◌<◌, ◌≤◌, ℕ, suc
 use Rattle.std.proofs.Math.Seq.{take-append_seam}
 use Rattle.std.specs.Prelude.{filter}
 use Rattle.std.specs.List.{enumerate_from, flat_map, range_with_len}
-use Rattle.keep_patterns.specs.Matching.{is_deep, matches, takes_name}
+use Rattle.keep_patterns.specs.Matching.{is_deep, matches, matches_name}
 use Rattle.keep_patterns.specs.Parsing.{PatternData}
 use Rattle.keep_patterns.specs.Rests.{left_at, left_of, used_at}
 use Rattle.keep_patterns.specs.Steps.{Stand, begins, begun, behind, found, found_from, opened, opened_from, stepped, takes_from, walked}
@@ -147,8 +147,8 @@ module _ (index : ℕ) (anchored : Bool) (path : List (List ℕ)) (name : List �
   stepped_at before c cs =
       let next = read_next index (λ cs. matches anchored cs path) later none before c cs in
       let len = sym (longer index (λ cs. matches anchored cs path) before c) in
-      let is_eq : cond (is_deep c) (matches anchored before (path ++ name ∷ []) || begins (rest_of index (length before + 1)) (passing index (λ cs. matches anchored cs path) later before (c ∷ cs))) (matches anchored before path && takes_name c name) ≡ matches anchored (before ++ c ∷ []) (path ++ name ∷ []) =
-      ap (λ b. cond (is_deep c) (matches anchored before (path ++ name ∷ []) || b) (matches anchored before path && takes_name c name)) next.first ∙ matches_more anchored before c path name in
+      let is_eq : cond (is_deep c) (matches anchored before (path ++ name ∷ []) || begins (rest_of index (length before + 1)) (passing index (λ cs. matches anchored cs path) later before (c ∷ cs))) (matches anchored before path && matches_name c name) ≡ matches anchored (before ++ c ∷ []) (path ++ name ∷ []) =
+      ap (λ b. cond (is_deep c) (matches anchored before (path ++ name ∷ []) || b) (matches anchored before path && matches_name c name)) next.first ∙ matches_more anchored before c path name in
       λ i. record { rest = rest_of index (len i); was = next.first i; is = is_eq i; ahead = next.left i }
 
   walked_at : (all before cs : List Component) → before ++ cs ≡ all → walked name (stand_at index anchored path name later before cs) cs ≡ stand_at index anchored path name later all []

@@ -42,13 +42,13 @@ is_deep AnyDepth = true
 is_deep (Name letters) = false
 
 -- whether a component takes a name
-abbrev pub takes_name : Component → List ℕ → Bool
-takes_name AnyDepth name = false
-takes_name (Name letters) name = name_fits letters name
+abbrev pub matches_name : Component → List ℕ → Bool
+matches_name AnyDepth name = false
+matches_name (Name letters) name = name_fits letters name
 
 -- whether a path fits components
 abbrev pub path_fits : List Component → List (List ℕ) → Bool
-path_fits = fits is_deep takes_name
+path_fits = fits is_deep matches_name
 
 -- whether a pattern matches a path: from its root where it is anchored, else from anywhere
 abbrev pub matches : Bool → List Component → List (List ℕ) → Bool

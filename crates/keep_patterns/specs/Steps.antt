@@ -1,6 +1,6 @@
 -- How a walk through the components of patterns goes from what a path has left open to what a name below it leaves.
 use Rattle.std.specs.Prelude.{ℕ, ◌+◌, ◌==◌, Bool, false, not, ◌||◌, ◌&&◌, cond, List, [], ◌∷◌, ◌++◌, if◌then◌else◌}
-use Rattle.keep_patterns.specs.Matching.{is_deep, takes_name}
+use Rattle.keep_patterns.specs.Matching.{is_deep, matches_name}
 use Rattle.keep_patterns.specs.Parsing.{PatternData}
 use Rattle.keep_patterns.specs.declared.pattern.Component.{Component}
 use Rattle.keep_patterns.specs.declared.rest.Rest.{Rest}
@@ -40,7 +40,7 @@ stepped name stand component =
     record {
       rest = rest;
       was = begins rest stand.ahead;
-      is = cond (is_deep component) (stand.is || begins rest stand.ahead) (stand.was && takes_name component name);
+      is = cond (is_deep component) (stand.is || begins rest stand.ahead) (stand.was && matches_name component name);
       ahead = behind rest stand.ahead;
     }
 

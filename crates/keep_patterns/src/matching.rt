@@ -91,7 +91,7 @@ fn walk<'a>(components: &'a [Component], path: &'a [Letters]) -> Halt<'a>
         let Some((name, after)) = rest.split_first() else {
             return Halt::Missed;
         };
-        if !takes_name(piece, name) {
+        if !matches_name(piece, name) {
             return Halt::Missed;
         }
         left = behind;
@@ -111,8 +111,8 @@ pub(crate) fn is_deep(component: &Component) -> bool
 }
 
 /// Whether a component takes a name.
-pub(crate) fn takes_name(component: &Component, name: &Letters) -> bool
-    ensures { result ≡ spec.takes_name component.now name.now }
+pub(crate) fn matches_name(component: &Component, name: &Letters) -> bool
+    ensures { result ≡ spec.matches_name component.now name.now }
 {
     match component {
         Component::AnyDepth => false,

@@ -59,7 +59,7 @@ impl Rests {
         ensures { (path : List (List ℕ)) → self.now ≡ left_at (map pattern_view patterns.now) path
             → result ≡ is_matched (map pattern_view patterns.now) (path ++ name.now ∷ []) }
     {
-        is_taken(patterns, self.left.as_slice(), name)
+        is_used_up(patterns, self.left.as_slice(), name)
     }
 
     /// Whether nothing is left open: no pattern matches anything below the path.
@@ -199,7 +199,7 @@ fn push_found<'a>(
 }
 
 /// Whether a name uses up one of the patterns.
-fn is_taken(patterns: &[Pattern], rests: &[Rest], name: &Letters) -> bool
+fn is_used_up(patterns: &[Pattern], rests: &[Rest], name: &Letters) -> bool
     ensures { result ≡ takes_from name.now 0 (map pattern_view patterns.now) rests.now }
 {
     let mut ahead = rests;

@@ -3,7 +3,7 @@ ghost use Rattle.keep_patterns.specs.Steps.{begins, begun, step_view, stepped};
 ghost use Rattle.keep_patterns.specs.Steps as spec;
 
 use crate::letters::Letters;
-use crate::matching::{is_deep, takes_name};
+use crate::matching::{is_deep, matches_name};
 use crate::pattern::Component;
 use crate::rest::Rest;
 
@@ -49,7 +49,7 @@ pub(crate) fn advance<'a>(stand: Step<'a>, component: &Component, name: &Letters
     let is = if is_deep(component) {
         stand.is || was
     } else {
-        stand.was && takes_name(component, name)
+        stand.was && matches_name(component, name)
     };
     Step {
         rest,

@@ -5,7 +5,7 @@ use Rattle.keep_repo.specs.Repository.{Repository, held}
 use Rattle.keep_change.specs.Change.{asked, is_as_asked, is_met, is_ready}
 use Rattle.keep_change.specs.Fold.{Numbered, first_break, fold_of}
 use Rattle.keep_change.specs.Law.{HaveNoFacetTwice}
-use Rattle.keep_change.specs.Result.{put_files, result_of, reverse_of, take_files}
+use Rattle.keep_change.specs.Result.{put_files, result_of, reverse_of, remove_files}
 use Rattle.keep_change.proofs.History.{taking_back_restores_lem}
 use Rattle.keep_change.proofs.Law.{no_break}
 use Rattle.keep_change.proofs.Records.{and_first}
@@ -33,4 +33,4 @@ opening_told opening j live is =
 -- the files that are left then are told by the live files, whatever the marks
 pub files_under : (ns : List Numbered) (r s : Repository) → r.files ≡ s.files → (unfold_of ns r).files ≡ (unfold_of ns s).files
 files_under [] r s same = same
-files_under (n ∷ ns) r s same = ap (λ (files : Files). take_files n.change.adds (put_files n.change.drops files)) (files_under ns r s same)
+files_under (n ∷ ns) r s same = ap (λ (files : Files). remove_files n.change.adds (put_files n.change.drops files)) (files_under ns r s same)

@@ -95,9 +95,9 @@ impl Files {
         ensures { self.new ≡ map.remove self.old name }
     {
         match name.kind {
-            Kind::Pack => take(&mut self.packs, name.id),
-            Kind::Index => take(&mut self.indexes, name.id),
-            Kind::Snapshot => take(&mut self.snapshots, name.id),
+            Kind::Pack => remove_id(&mut self.packs, name.id),
+            Kind::Index => remove_id(&mut self.indexes, name.id),
+            Kind::Snapshot => remove_id(&mut self.snapshots, name.id),
         }
     }
 
@@ -177,7 +177,7 @@ fn put(files: &mut IndexMap<Id, Bytes>, id: Id, bytes: Bytes) -> Result<(), Allo
 
 /// Takes away what is under the id. Where fewer than a quarter of the places are in use then, it gives back memory: at
 /// least twice as many as are in use stay, so that taking one by one takes the same time for each on average.
-fn take(files: &mut IndexMap<Id, Bytes>, id: Id)
+fn remove_id(files: &mut IndexMap<Id, Bytes>, id: Id)
     ensures { by_id files.new.entries ≡ map.remove (by_id files.old.entries) id }
 {
     files.swap_remove(&id);

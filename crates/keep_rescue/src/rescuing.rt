@@ -45,7 +45,7 @@ fn walked<S: Source, T: Target>(
 {
     let job = wanted(alloc)?;
     let mut taking = Taking::new(alloc, source, Salvage::new(alloc, target))?;
-    let taken = take(alloc, &mut taking, &job);
+    let taken = walk_source(alloc, &mut taking, &job);
     let (_source, salvage) = taking.into_parts();
     match taken {
         Ok(skipped) => Ok((salvage, skipped)),
@@ -54,7 +54,7 @@ fn walked<S: Source, T: Target>(
 }
 
 /// Goes the walk. It gives what isn't taken, or not as it was seen.
-fn take<S: Source, T: Target>(
+fn walk_source<S: Source, T: Target>(
     alloc: Global,
     taking: &mut Taking<S, Salvage<T>>,
     job: &Scope,

@@ -87,7 +87,7 @@ impl Input {
             if !self.look_ahead(reader, writer)? {
                 return Ok(Piece::Last(line));
             }
-            if self.take(&mut line)? {
+            if self.move_line(&mut line)? {
                 return Ok(Piece::Line(line));
             }
         }
@@ -128,7 +128,7 @@ impl Input {
     }
 
     /// Moves the unread bytes of a line over, and says whether its end was met.
-    fn take(&mut self, line: &mut Vec<u8>) -> Result<bool, Stop>
+    fn move_line(&mut self, line: &mut Vec<u8>) -> Result<bool, Stop>
         ensures met { IfOk result (λ met. IsTrue met ↔ HasLineEnd (unread_of self.old)) }
         ensures moved { OnOk result
             (line.new.items ≡ line.old.items ++ before_first is_line_end (unread_of self.old)) }

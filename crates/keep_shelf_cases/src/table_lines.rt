@@ -9,7 +9,7 @@ use keep_rope::Rope;
 use keep_shelf::Shelf;
 
 /// Takes a row of the table. One that begins a case first has the case before it answered.
-pub(crate) fn take(case: &mut Case, row: &str, out: &mut String) -> Result<(), Stop> {
+pub(crate) fn read_row(case: &mut Case, row: &str, out: &mut String) -> Result<(), Stop> {
     if row.is_empty() || row.starts_with('#') {
         return Ok(());
     }

@@ -16,7 +16,7 @@ use keep_names::Id;
 
 impl<S: Source, A: Receives> Taking<S, A> {
     /// Takes a file that was seen: what an earlier backup has of it, or what it holds.
-    pub(crate) fn take_file(
+    pub(crate) fn give_file(
         &mut self,
         job: &Scope,
         path: String,

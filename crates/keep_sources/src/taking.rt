@@ -47,7 +47,7 @@ impl<S: Source, A: Receives> Taking<S, A> {
             (skipped_of self.old) (skipped_of self.new)) }
     {
         match self.list_root() {
-            Ok(listing) => self.take_listed(job, "", &listing, MOST_LEVELS),
+            Ok(listing) => self.walk_listed(job, "", &listing, MOST_LEVELS),
             Err(why) => self.skip(String::new(self.alloc), why),
         }
     }

@@ -16,7 +16,7 @@ use crate::taking::Taking;
 impl<S: Source, A: Receives> Taking<S, A> {
     /// Takes what lies in a folder, and names how many names can't be said.
     #[cycle(walking)]
-    pub(crate) fn take_listed(
+    pub(crate) fn walk_listed(
         &mut self,
         job: &Scope,
         folder: &str,
@@ -27,12 +27,12 @@ impl<S: Source, A: Receives> Taking<S, A> {
             (A.seen self.old.archive) (A.seen self.new.archive) self.old.skipped.items self.new.skipped.items) }
     {
         self.name_unsaid(folder, listing.unsayable)?;
-        self.take_names(job, folder, listing.names.as_slice(), levels)
+        self.walk_names(job, folder, listing.names.as_slice(), levels)
     }
 
     /// Takes what these names of a folder lead to.
     #[cycle(walking)]
-    fn take_names(
+    fn walk_names(
         &mut self,
         job: &Scope,
         folder: &str,
@@ -43,14 +43,14 @@ impl<S: Source, A: Receives> Taking<S, A> {
             (A.seen self.old.archive) (A.seen self.new.archive) self.old.skipped.items self.new.skipped.items) }
     {
         for name in names {
-            self.take_name(job, folder, name.as_str(), levels)?;
+            self.walk_name(job, folder, name.as_str(), levels)?;
         }
         Ok(())
     }
 
     /// Takes what a name of a folder leads to.
     #[cycle(walking)]
-    fn take_name(&mut self, job: &Scope, folder: &str, name: &str, levels: u16) -> Result<(), Stop>
+    fn walk_name(&mut self, job: &Scope, folder: &str, name: &str, levels: u16) -> Result<(), Stop>
         ensures { OnOk result (Took S.told A.gives job.now levels folder.now (name.now ∷ [])
             (A.seen self.old.archive) (A.seen self.new.archive) self.old.skipped.items self.new.skipped.items) }
     {
@@ -63,8 +63,8 @@ impl<S: Source, A: Receives> Taking<S, A> {
             Err(why) => return self.skip(path, why),
         };
         match sight.kind {
-            StatKind::File => self.take_file(job, path, name, sight, levels),
-            StatKind::Folder => self.take_folder(job, folder, path, name, &sight, levels),
+            StatKind::File => self.give_file(job, path, name, sight, levels),
+            StatKind::Folder => self.walk_folder(job, folder, path, name, &sight, levels),
             StatKind::Link(_)
             | StatKind::Fifo
             | StatKind::Socket
@@ -75,7 +75,7 @@ impl<S: Source, A: Receives> Taking<S, A> {
 
     /// Takes a folder that was seen, with all below it.
     #[cycle(walking)]
-    fn take_folder(
+    fn walk_folder(
         &mut self,
         job: &Scope,
         folder: &str,
@@ -99,7 +99,7 @@ impl<S: Source, A: Receives> Taking<S, A> {
             Err(why) => return self.skip(path, why),
         };
         self.archive.open_folder(name)?;
-        self.take_listed(job, path.as_str(), &listing, levels - 1)?;
+        self.walk_listed(job, path.as_str(), &listing, levels - 1)?;
         self.make_room()?;
         self.archive.close_folder(sight)
     }

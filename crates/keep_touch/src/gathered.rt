@@ -39,7 +39,7 @@ impl Gathered {
     }
 
     /// The first of those that are to be looked at.
-    pub(crate) fn take_first(&mut self) -> Option<u64>
+    pub(crate) fn pop_least(&mut self) -> Option<u64>
         ensures first { IfSome result (λ m. Takes m self.old self.new) }
         ensures none { IfNone result (NothingPends self.old) }
     {

@@ -28,7 +28,7 @@ pub fn taken_with(
     let last = history.last_change();
     let mut found = Gathered::new(alloc, n)?;
     let mut numbers = Vec::new(alloc);
-    while let Some(number) = found.take_first() {
+    while let Some(number) = found.pop_least() {
         numbers.push(number)?;
         if number < last {
             found.look_at(history, touch, number)?;

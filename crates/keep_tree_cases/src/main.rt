@@ -26,7 +26,7 @@ fn answers(rt: &HostRuntime) -> Result<Answers, Stop> {
     let mut case = Case::new(alloc);
     for row in rt.lines(alloc) {
         let row = row?;
-        if let Err(stop) = tree_lines::take(&mut case, row.as_str(), &mut out) {
+        if let Err(stop) = tree_lines::read_row(&mut case, row.as_str(), &mut out) {
             return Ok((out, Err(format!(in alloc; "{stop}: {row}")?)));
         }
     }

@@ -10,7 +10,7 @@ use std::alloc::{AllocError, Global};
 use std::fmt::Write;
 
 /// Takes a row of the table. One that is an act has the case answered.
-pub(crate) fn take(case: &mut Case, row: &str, out: &mut String) -> Result<(), Stop> {
+pub(crate) fn read_row(case: &mut Case, row: &str, out: &mut String) -> Result<(), Stop> {
     if row.is_empty() || row.starts_with('#') {
         return Ok(());
     }

@@ -18,7 +18,7 @@ finish-requires g c =
     let At : Repository → Type 0 = λ x. Keeps x [] [] c.new-storing.result in
     let new = subst At c.in_ok-catalog.ensures.catalog c.new-storing.ensures in
     let claimed = c.in_ok-missing.ensures.kept (none_of c.in_ok-missing.missing c.in_default.not-Some) r new in
-    let taken = c.in_ok-take_all.ensures r c.deref.result.now [] claimed in
+    let taken = c.in_ok-store_all.ensures r c.deref.result.now [] claimed in
     rw c.repo.ensures (c.deref.result.now, map held_view c.deref-2.result.now ++ (Tree, c.in_ok-text.text.items) ∷ [], c.in_ok-tree.ensures.kept r c.deref.result.now (map held_view c.deref-2.result.now) taken)
 
 pub returns : goal.returns
@@ -28,7 +28,7 @@ returns g c =
     let new = subst At c.in_ok-catalog.ensures.catalog c.new-storing.ensures in
     let none = none_of c.in_ok-missing.missing c.in_default.not-Some in
     let claimed = c.in_ok-missing.ensures.kept none r new in
-    let taken = c.in_ok-take_all.ensures r c.deref.result.now [] claimed in
+    let taken = c.in_ok-store_all.ensures r c.deref.result.now [] claimed in
     let kept = c.in_ok-tree.ensures.kept r c.deref.result.now (map held_view c.deref-2.result.now) taken in
     let stored = (rw c.repo.ensures at c.in_ok-stored.ensures) c.deref.result.now (map held_view c.deref-2.result.now ++ (Tree, c.in_ok-text.text.items) ∷ []) kept in
     let short : is_full (Tree, c.in_ok-text.text.items) ≡ false = search (rules, tests) in

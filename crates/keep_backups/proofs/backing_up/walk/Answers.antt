@@ -8,5 +8,5 @@ use Rattle.keep_backups.proofs.backing_up.walk.Goals as goal
 
 pub returns : goal.returns
 returns g c =
-    walked g.R.Source.told c.args.job.now (taken_of (archive_view (archive_of c.args.taking).archive)) (archive_of c.take-done.new.taking).archive c.into_parts-source.result.1.archive
-    (skipped_of c.args.taking) c.take-done.result c.filled.result c.take-done.ensures (ap (λ x. x.archive) c.into_parts-source.ensures.archive) c.filled.ensures.archive c.filled.ensures.skipped
+    walked g.R.Source.told c.args.job.now (taken_of (archive_view (archive_of c.args.taking).archive)) (archive_of c.walk_source-done.new.taking).archive c.into_parts-source.result.1.archive
+    (skipped_of c.args.taking) c.walk_source-done.result c.filled.result c.walk_source-done.ensures (ap (λ x. x.archive) c.into_parts-source.ensures.archive) c.filled.ensures.archive c.filled.ensures.skipped

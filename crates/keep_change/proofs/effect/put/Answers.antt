@@ -13,5 +13,5 @@ put_marks-requires c =
 
 pub returns-in-Err-clause-err : goal.returns-in-Err-clause-err
 returns-in-Err-clause-err c =
-    c.take_files.ensures ∙ ap (files_taken c.args.files.now) (c.in-Err.ensures.err ∙ c.in_ok-put_files.ensures.ok)
+    c.remove_files.ensures ∙ ap (files_taken c.args.files.now) (c.in-Err.ensures.err ∙ c.in_ok-put_files.ensures.ok)
     ∙ files_back c.args.repo.now c.args.files.now c.requires.files

@@ -8,7 +8,7 @@ use Rattle.keep_change.proofs.effect.put_files.Goals as goal
 pub returns-in-Err-clause-err : goal.returns-in-Err-clause-err
 returns-in-Err-clause-err c =
     let before = take c.loop-place.place c.args.files.now in
-    c.take_files.ensures ∙ ap (files_taken before) (c.in-Err.ensures.err ∙ c.loop-place.invariant)
+    c.remove_files.ensures ∙ ap (files_taken before) (c.in-Err.ensures.err ∙ c.loop-place.invariant)
     ∙ files_back c.args.repo.now before (first_pass (is_as_written (held c.args.repo.now)) added c.loop-place.place c.args.files.now c.requires)
 
 pub loop-place-preserved : goal.loop-place-preserved

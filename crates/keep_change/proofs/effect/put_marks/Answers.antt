@@ -8,7 +8,7 @@ use Rattle.keep_change.proofs.effect.put_marks.Goals as goal
 pub returns-in-Err-clause-err : goal.returns-in-Err-clause-err
 returns-in-Err-clause-err c =
     let before = take c.loop-place.place c.args.marks.now in
-    c.take_marks.ensures ∙ ap (marks_taken before) (c.in-Err.ensures.err ∙ c.loop-place.invariant)
+    c.remove_marks.ensures ∙ ap (marks_taken before) (c.in-Err.ensures.err ∙ c.loop-place.invariant)
     ∙ marks_back c.args.repo.now before (first_pass (is_as_written (held c.args.repo.now)) set c.loop-place.place c.args.marks.now c.requires)
 
 pub loop-place-preserved : goal.loop-place-preserved

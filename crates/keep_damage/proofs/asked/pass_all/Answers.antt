@@ -6,7 +6,7 @@ use Rattle.keep_repo.specs.Repository.{Repository}
 use Rattle.keep_damage.specs.Asked.{passed}
 use Rattle.keep_damage.proofs.Passing.{Passes, passes_end, passes_with, passes_without}
 use Rattle.keep_damage.proofs.asked.pass_all.Goals as goal
-use Rattle.keep_damage.proofs.asked.pass_all.Goals.{in-Some+in_ok-take_step, in_default}
+use Rattle.keep_damage.proofs.asked.pass_all.Goals.{in-Some+in_ok-fold_step, in_default}
 
 pub loop-n-init : goal.loop-n-init
 loop-n-init c = ap (λ ns. passed c.args.pass ns c.args.repo.now.files) (ap (later c.args.history.now.journal) c.final_number-n.ensures ∙ kept_later c.args.history.now.journal)
@@ -15,9 +15,9 @@ pub loop-n-preserved : goal.loop-n-preserved
 loop-n-preserved c =
     let j = c.args.history.now.journal in
     elim c.match-kept_change.branch [
-      | in-Some+in_ok-take_step w ↦
+      | in-Some+in_ok-fold_step w ↦
           passes_with c.args.pass j c.loop-n.n (c.loop-n.n + 1) w.in-Some.change.now c.args.repo.now.files c.loop-n.repo.files c.match-kept_change.repo.files c.last_change-n-end.ensures.numbered refl
-          (sym w.in-Some.ensures.exact) (ap (λ (r : Repository). r.files) w.repo-is ∙ w.in_ok-take_step.ensures) c.loop-n.invariant
+          (sym w.in-Some.ensures.exact) (ap (λ (r : Repository). r.files) w.repo-is ∙ w.in_ok-fold_step.ensures) c.loop-n.invariant
       | in_default w ↦
           let same : Passes c.args.pass j (c.loop-n.n + 1) c.args.repo.now.files c.loop-n.repo.files =
           passes_without c.args.pass j c.loop-n.n (c.loop-n.n + 1) c.args.repo.now.files c.loop-n.repo.files c.last_change-n-end.ensures.numbered refl

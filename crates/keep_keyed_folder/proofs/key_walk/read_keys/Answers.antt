@@ -21,22 +21,22 @@ loop-init g c =
 
 pub loop-preserved : goal.loop-preserved
 loop-preserved g c = record {
-  same = c.in_ok-take-in-Some.ensures.ok ∙ c.loop.invariant.same;
-  way = subst (λ (s : Seen). IsOnTheWay s.stands c.take.new.found c.take.new.paths.items) c.loop.invariant.same c.in_ok-take-in-Some.ensures.way;
+  same = c.in_ok-read_path-in-Some.ensures.ok ∙ c.loop.invariant.same;
+  way = subst (λ (s : Seen). IsOnTheWay s.stands c.read_path.new.found c.read_path.new.paths.items) c.loop.invariant.same c.in_ok-read_path-in-Some.ensures.way;
 }
 
-pub take-requires-clause-closed : goal.take-requires-clause-closed
-take-requires-clause-closed g c = subst (λ (s : Seen). IsClosed s.stands) (sym (c.loop.invariant.same ∙ c.in_ok-paths.ensures.ok)) c.requires
+pub read_path-requires-clause-closed : goal.read_path-requires-clause-closed
+read_path-requires-clause-closed g c = subst (λ (s : Seen). IsClosed s.stands) (sym (c.loop.invariant.same ∙ c.in_ok-paths.ensures.ok)) c.requires
 
-pub take-requires-clause-way : goal.take-requires-clause-way
-take-requires-clause-way g c =
+pub read_path-requires-clause-way : goal.read_path-requires-clause-way
+read_path-requires-clause-way g c =
     let way = subst (λ (s : Seen). IsOnTheWay s.stands c.loop.found c.loop.paths.items) (sym c.loop.invariant.same) c.loop.invariant.way in
     subst (λ (l : List (String Global)). IsOnTheWay (g.T.FileTree.seen c.loop.tree).stands c.loop.found l) c.in-Some.ensures.items way
 
-pub returns-in_err-take-in-Some-clause-err : goal.returns-in_err-take-in-Some-clause-err
-returns-in_err-take-in-Some-clause-err g c =
-    of_err _ c.from_residual-in_err-take-in-Some.result
-    (c.in_err-take-in-Some.ensures.err ∙ ap (λ (s : Seen). s.stands) (c.loop.invariant.same ∙ c.in_ok-paths.ensures.ok))
+pub returns-in_err-read_path-in-Some-clause-err : goal.returns-in_err-read_path-in-Some-clause-err
+returns-in_err-read_path-in-Some-clause-err g c =
+    of_err _ c.from_residual-in_err-read_path-in-Some.result
+    (c.in_err-read_path-in-Some.ensures.err ∙ ap (λ (s : Seen). s.stands) (c.loop.invariant.same ∙ c.in_ok-paths.ensures.ok))
 
 pub returns-in-None-clause-read : goal.returns-in-None-clause-read
 returns-in-None-clause-read g c =

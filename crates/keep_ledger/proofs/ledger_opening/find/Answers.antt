@@ -25,8 +25,8 @@ returns-clause-kept g c =
     let opened = c.in_ok-opened.opened in
     let j = opened.history.journal in
     let reads = subst (λ (d : Content). Reads (finite.get d) opened.opening j) c.in_ok-stock.ensures.all c.in_ok-opened.ensures.read in
-    subst (λ (r : Repository). IsKept j r c.in_ok-touch.touch c.in_ok-moves.moves.items 0 (g.S.Shelf.shelved c.take_in.new.shelf)) (sym c.new.ensures)
-    (kept_of content opened.opening j opened.live reads c.in_ok-opened.ensures.open c.in_ok-touch.touch c.in_ok-moves.moves.items (g.S.Shelf.shelved c.take_in.new.shelf)
+    subst (λ (r : Repository). IsKept j r c.in_ok-touch.touch c.in_ok-moves.moves.items 0 (g.S.Shelf.shelved c.read_stock.new.shelf)) (sym c.new.ensures)
+    (kept_of content opened.opening j opened.live reads c.in_ok-opened.ensures.open c.in_ok-touch.touch c.in_ok-moves.moves.items (g.S.Shelf.shelved c.read_stock.new.shelf)
     c.in_ok-touch.ensures (c.in_ok-moves.ensures ∙ ap (due_in j) c.in_ok-stock.ensures.all) c.in_ok-stock.ensures.same)
 
 pub returns-clause-read : goal.returns-clause-read
@@ -34,7 +34,7 @@ returns-clause-read g c =
     let opened = c.in_ok-opened.opened in
     let j = opened.history.journal in
     let reads = subst (λ (d : Content). Reads (finite.get d) opened.opening j) c.in_ok-stock.ensures.all c.in_ok-opened.ensures.read in
-    read_of (g.S.Shelf.shelved c.args.shelf.now) (g.S.Shelf.shelved c.take_in.new.shelf) opened.opening j opened.live c.new.result c.in_ok-moves.moves.items reads c.in_ok-opened.ensures.open
+    read_of (g.S.Shelf.shelved c.args.shelf.now) (g.S.Shelf.shelved c.read_stock.new.shelf) opened.opening j opened.live c.new.result c.in_ok-moves.moves.items reads c.in_ok-opened.ensures.open
     c.new.ensures (c.in_ok-moves.ensures ∙ ap (due_in j) c.in_ok-stock.ensures.all) c.in_ok-stock.ensures.calls
 
 -- where nothing is found
@@ -42,7 +42,7 @@ pub returns-in_err-stock-clause-given : goal.returns-in_err-stock-clause-given
 returns-in_err-stock-clause-given g c =
     let due = err_from_is_err_and c.from_residual.result c.from_residual.ensures.1 in
     let before = g.S.Shelf.shelved c.args.shelf.now in
-    let left = g.S.Shelf.shelved c.take_in.new.shelf in
+    let left = g.S.Shelf.shelved c.read_stock.new.shelf in
     subst (λ r. IfErr r (λ error. IsGivenBack before error left)) (sym (due.1 ∙ ap Err due.2))
     (short_given before c.in_err-stock.field-0.0 left c.in_err-stock.ensures.short)
 
@@ -50,7 +50,7 @@ pub returns-in_err-opened-clause-given : goal.returns-in_err-opened-clause-given
 returns-in_err-opened-clause-given g c =
     let due = err_from_is_err_and c.from_residual-in_err-opened.result c.from_residual-in_err-opened.ensures.1 in
     let before = g.S.Shelf.shelved c.args.shelf.now in
-    let left = g.S.Shelf.shelved c.take_in.new.shelf in
+    let left = g.S.Shelf.shelved c.read_stock.new.shelf in
     subst (λ r. IfErr r (λ error. IsGivenBack before error left)) (sym (due.1 ∙ ap Err due.2))
     (read_given before c.in_err-opened.field-0.0 left c.in_err-opened.ensures.why c.in_ok-stock.ensures.calls)
 
@@ -58,7 +58,7 @@ pub returns-in_err-moves-clause-given : goal.returns-in_err-moves-clause-given
 returns-in_err-moves-clause-given g c =
     let due = err_from_is_err_and c.from_residual-in_err-moves.result c.from_residual-in_err-moves.ensures.1 in
     let before = g.S.Shelf.shelved c.args.shelf.now in
-    let left = g.S.Shelf.shelved c.take_in.new.shelf in
+    let left = g.S.Shelf.shelved c.read_stock.new.shelf in
     subst (λ r. IfErr r (λ error. IsGivenBack before error left)) (sym due.1)
     (memory_given before due.0 left due.2 c.in_ok-stock.ensures.calls)
 
@@ -66,6 +66,6 @@ pub returns-in_err-touch-clause-given : goal.returns-in_err-touch-clause-given
 returns-in_err-touch-clause-given g c =
     let due = err_from_is_err_and c.from_residual-in_err-touch.result c.from_residual-in_err-touch.ensures.1 in
     let before = g.S.Shelf.shelved c.args.shelf.now in
-    let left = g.S.Shelf.shelved c.take_in.new.shelf in
+    let left = g.S.Shelf.shelved c.read_stock.new.shelf in
     subst (λ r. IfErr r (λ error. IsGivenBack before error left)) (sym due.1)
     (memory_given before due.0 left due.2 c.in_ok-stock.ensures.calls)

@@ -3,7 +3,7 @@ use Rattle.std.proofs.Common.{◌-◌, ◌+◌, ap, sym, ◌∙◌, arith}
 use Rattle.std.specs.FinMap as finite
 use Rattle.std.specs.Prelude.{map}
 use Rattle.keep_change.specs.Marks.{pack_mark}
-use Rattle.keep_change.specs.Result.{put_marks, take_marks}
+use Rattle.keep_change.specs.Result.{put_marks, remove_marks}
 use Rattle.keep_repo.specs.Repository.{Repository}
 use Rattle.keep_ledger.proofs.Marking.{same_end, unfold_none, unfold_with, unfold_without}
 use Rattle.keep_ledger.proofs.opening_marks.marks_under.Goals as goal
@@ -19,7 +19,7 @@ pub loop-done-preserved : goal.loop-done-preserved
 loop-done-preserved c = elim c.match-kept_change.branch [
   | in-Some+in_ok-unapply_marks w ↦
       ap (λ (r : Repository). r.marks) (w.marks-is ∙ w.in_ok-unapply_marks.ensures.ok)
-      ∙ ap (λ m. take_marks w.in-Some.change.now.sets (put_marks w.in-Some.change.now.clears m)) c.loop-done.invariant
+      ∙ ap (λ m. remove_marks w.in-Some.change.now.sets (put_marks w.in-Some.change.now.clears m)) c.loop-done.invariant
       ∙ sym (unfold_with c.args.history.now.journal (c.last_change-last.result - (c.loop-done.done + 1)) (c.last_change-last.result - c.loop-done.done)
       w.in-Some.change.now c.args.live.now c.last_change-last.ensures.numbered (omega (arith, c.saturating_sub-done-end.ensures)) (sym w.in-Some.ensures.exact))
   | in_default w ↦

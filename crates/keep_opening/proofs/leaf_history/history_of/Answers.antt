@@ -18,8 +18,8 @@ loop-leaf-init c =
       goes = subst (λ (j : Journal). Goes f c.args.leaves.items (into_iter_items c.into_iter-leaf-iterator.result) j 0) (sym c.new-history.ensures) all;
     }
 
-pub take_leaf-requires : goal.take_leaf-requires
-take_leaf-requires c =
+pub append_leaf-requires : goal.append_leaf-requires
+append_leaf-requires c =
     let f = c.final_in-final_number.result in
     let goes : Goes f c.args.leaves.items (c.in-Some.leaf ∷ into_iter_items c.next.new.self) c.loop-leaf.history.journal c.loop-leaf.top =
     subst (λ (ls : List Leaf). Goes f c.args.leaves.items ls c.loop-leaf.history.journal c.loop-leaf.top) c.in-Some.ensures.steps.0 c.loop-leaf.invariant.goes in
@@ -33,5 +33,5 @@ loop-leaf-preserved c =
     subst (λ (ls : List Leaf). Goes f c.args.leaves.items ls c.loop-leaf.history.journal c.loop-leaf.top) steps.0 c.loop-leaf.invariant.goes in
     record {
       counted = omega (arith, steps.1, c.loop-leaf.invariant.counted, ap length steps.0);
-      goes = goes_on f c.args.leaves.items c.in-Some.leaf (into_iter_items c.next.new.self) c.loop-leaf.history.journal c.loop-leaf.top c.in_ok-top.top c.take_leaf.new.history.journal goes c.in_ok-top.ensures.taken;
+      goes = goes_on f c.args.leaves.items c.in-Some.leaf (into_iter_items c.next.new.self) c.loop-leaf.history.journal c.loop-leaf.top c.in_ok-top.top c.append_leaf.new.history.journal goes c.in_ok-top.ensures.taken;
     }

@@ -8,29 +8,29 @@ loop-number-init c = begins c.args.history.now.journal c.args.n c.new-numbers.re
 
 pub look_at-requires-clause-kept : goal.look_at-requires-clause-kept
 look_at-requires-clause-kept c =
-    first_kept c.args.history.now.journal c.args.n c.loop-number.numbers.items c.in-Some.number c.loop-number.found c.take_first.new.self
+    first_kept c.args.history.now.journal c.args.n c.loop-number.numbers.items c.in-Some.number c.loop-number.found c.pop_least.new.self
     c.last_change-last.ensures.numbered c.requires.change c.requires.kept c.loop-number.invariant c.in-Some.ensures.first
 
 pub loop-number-preserved-in-Continue-branch-3 : goal.loop-number-preserved-in-Continue-branch-3
 loop-number-preserved-in-Continue-branch-3 c =
-    goes_on c.args.history.now.journal c.args.n c.loop-number.numbers.items c.in-Some.number c.loop-number.found c.take_first.new.self
+    goes_on c.args.history.now.journal c.args.n c.loop-number.numbers.items c.in-Some.number c.loop-number.found c.pop_least.new.self
     c.push.new.self.items c.in_ok-push.ensures.items c.look_at.new.self
     c.last_change-last.ensures.numbered c.requires.change c.requires.kept c.loop-number.invariant c.in-Some.ensures.first c.in_ok-look_at.ensures
 
 pub loop-number-preserved : goal.loop-number-preserved
 loop-number-preserved c =
-    passes_last c.args.history.now.journal c.args.n c.loop-number.numbers.items c.in-Some.number c.loop-number.found c.take_first.new.self
+    passes_last c.args.history.now.journal c.args.n c.loop-number.numbers.items c.in-Some.number c.loop-number.found c.pop_least.new.self
     c.push.new.self.items c.in_ok-push.ensures.items
     c.last_change-last.ensures.numbered c.requires.change c.requires.kept (omega arith) c.loop-number.invariant c.in-Some.ensures.first
 
 pub loop-number-smaller : goal.loop-number-smaller
 loop-number-smaller c =
-    comes_nearer c.args.history.now.journal c.args.n c.loop-number.numbers.items c.in-Some.number c.loop-number.found c.take_first.new.self
+    comes_nearer c.args.history.now.journal c.args.n c.loop-number.numbers.items c.in-Some.number c.loop-number.found c.pop_least.new.self
     c.push.new.self.items c.in_ok-push.ensures.items
     c.last_change-last.ensures.numbered c.requires.change c.requires.kept c.loop-number.invariant c.in-Some.ensures.first
 
 pub loop-number-smaller-in-Continue-branch-3 : goal.loop-number-smaller-in-Continue-branch-3
 loop-number-smaller-in-Continue-branch-3 c =
-    comes_nearer c.args.history.now.journal c.args.n c.loop-number.numbers.items c.in-Some.number c.loop-number.found c.take_first.new.self
+    comes_nearer c.args.history.now.journal c.args.n c.loop-number.numbers.items c.in-Some.number c.loop-number.found c.pop_least.new.self
     c.push.new.self.items c.in_ok-push.ensures.items
     c.last_change-last.ensures.numbered c.requires.change c.requires.kept c.loop-number.invariant c.in-Some.ensures.first

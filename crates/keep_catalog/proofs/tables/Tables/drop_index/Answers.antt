@@ -7,7 +7,7 @@ use Rattle.keep_catalog.proofs.tables.Tables.drop_index.Goals as goal
 pub returns : goal.returns
 returns c r kept =
     let old = c.args.self.now in
-    index_goes r old _ kept c.args.index c.in_ok-take_index.ensures.listed c.in_ok-take_index.ensures.taken
-    (c.in_ok-take_index.ensures.ordered kept.indexes_ordered)
+    index_goes r old _ kept c.args.index c.in_ok-remove_index.ensures.listed c.in_ok-remove_index.ensures.taken
+    (c.in_ok-remove_index.ensures.ordered kept.indexes_ordered)
     (λ q. c.forget.ensures.forgotten q ∙ ap (λ (n : FileName). cond (same_name n q) None (noted_at old q)) c.index.ensures)
     refl refl

@@ -8,8 +8,8 @@ use Rattle.keep_desk.proofs.locked.Locked.close.Goals as goal
 
 pub returns-clause-closed : goal.returns-clause-closed
 returns-clause-closed g c =
-    closed g.B.Naming.allows g.B.Naming.hooks.vetoes g.B.Naming.opening g.B.Ledger.parts c.args.passes.items c.take_in.new.register.events
-    (g.K.Keeper.ledger c.close.result) c.take_in.new.rest.parts c.take_in.new.rest.amount c.close.ensures.ledger c.close.ensures.history
+    closed g.B.Naming.allows g.B.Naming.hooks.vetoes g.B.Naming.opening g.B.Ledger.parts c.args.passes.items c.gather.new.register.events
+    (g.K.Keeper.ledger c.close.result) c.gather.new.rest.parts c.gather.new.rest.amount c.close.ensures.ledger c.close.ensures.history
     c.close.ensures.allowed
-    (subst (λ (r : Registered). All (λ (p : Known). IsPrefix p.seen r.events) c.args.passes.items) (sym c.take_in.ensures.same) c.take_in.ensures.begins)
-    c.take_in.ensures.amount c.take_in.ensures.parts c.close.ensures.least c.close.ensures.whole
+    (subst (λ (r : Registered). All (λ (p : Known). IsPrefix p.seen r.events) c.args.passes.items) (sym c.gather.ensures.same) c.gather.ensures.begins)
+    c.gather.ensures.amount c.gather.ensures.parts c.close.ensures.least c.close.ensures.whole

@@ -8,4 +8,4 @@ pub returns : goal.returns
 returns c = λ path left.
     let patterns = map pattern_view c.args.patterns.now in
     let shown : c.as_slice.result.now ≡ c.args.self.now = cc in
-    c.is_taken.ensures ∙ ap (takes_from c.args.name.now 0 patterns) (shown ∙ left) ∙ takes-left_at patterns path c.args.name.now
+    c.is_used_up.ensures ∙ ap (takes_from c.args.name.now 0 patterns) (shown ∙ left) ∙ takes-left_at patterns path c.args.name.now

@@ -6,8 +6,8 @@ use Rattle.keep_sources.specs.Job.{is_asked}
 use Rattle.keep_sources.specs.Took.{Took, is_other}
 use Rattle.keep_sources.proofs.taking.Taking.+walking.Goals as goal
 
-pub take_folder-returns-then-levels-eq0 : goal.take_folder-returns-then-levels-eq0
-take_folder-returns-then-levels-eq0 g t c =
+pub walk_folder-returns-then-levels-eq0 : goal.walk_folder-returns-then-levels-eq0
+walk_folder-returns-then-levels-eq0 g t c =
     let needs = c.requires.1.1.1.1 in
     let told = g.S.Source.told in
     let gives = g.A.Receives.gives in
@@ -23,8 +23,8 @@ take_folder-returns-then-levels-eq0 g t c =
     (ap seen c.skip.ensures.archive) says))
     c.skip.ensures.named
 
-pub take_folder-returns-in-Err : goal.take_folder-returns-in-Err
-take_folder-returns-in-Err g t c =
+pub walk_folder-returns-in-Err : goal.walk_folder-returns-in-Err
+walk_folder-returns-in-Err g t c =
     let needs = c.requires.1.1.1.1 in
     let told = g.S.Source.told in
     let gives = g.A.Receives.gives in
@@ -40,26 +40,26 @@ take_folder-returns-in-Err g t c =
     (missed gives told c.args.job.now c.args.levels path c.args.name.now g0 g1 s s' c.in-Err.why needs.1.0 lost (ap seen c.skip-in-Err.ensures.archive) says))
     c.skip-in-Err.ensures.named
 
-pub take_folder-returns : goal.take_folder-returns
-take_folder-returns g t c =
+pub walk_folder-returns : goal.walk_folder-returns
+walk_folder-returns g t c =
     let needs = c.requires.1.1.1.1 in
     let told = g.S.Source.told in
     let seen = g.A.Receives.seen in
     let path = string_bytes c.args.path in
     let text = c.as_str.result.now in
     let same : c.as_str-2.result.now ≡ text = c.as_str-2.ensures.value ∙ sym c.as_str.ensures.value in
-    let took = c.in_ok-take_listed.ensures in
+    let took = c.in_ok-walk_listed.ensures in
     let reached : 1 ≤ c.args.levels = omega (arith, c.if-levels-eq0.false) in
     on_ok c.close_folder.result
     (λ closed. folder_ends g.A.Receives.gives told c.args.job.now c.args.levels c.args.folder.now c.args.name.now path c.as_str-2.result.now c.args.sight.now c.in-Ok.listing
-    (seen c.args.self.now.archive) (seen c.open_folder.new.self) (seen c.take_listed.new.self.archive) (seen c.make_room.new.self.archive) (seen c.close_folder.new.self)
-    c.args.self.now.skipped.items c.take_listed.new.self.skipped.items c.make_room.new.self.skipped.items
+    (seen c.args.self.now.archive) (seen c.open_folder.new.self) (seen c.walk_listed.new.self.archive) (seen c.make_room.new.self.archive) (seen c.close_folder.new.self)
+    c.args.self.now.skipped.items c.walk_listed.new.self.skipped.items c.make_room.new.self.skipped.items
     needs.0 c.as_str-2.ensures.value needs.1.0 needs.1.1.0 needs.1.1.1 reached (subst (λ p. told.listed p c.in-Ok.listing) (sym same) c.in-Ok.ensures.listed)
     c.in_ok-open_folder.ensures took c.in_ok-make_room.ensures.same (ap (λ v. v.items) c.in_ok-make_room.ensures.skipped) closed)
     c.close_folder.ensures
 
-pub take_name-returns-then-not-branch : goal.take_name-returns-then-not-branch
-take_name-returns-then-not-branch g t c =
+pub walk_name-returns-then-not-branch : goal.walk_name-returns-then-not-branch
+walk_name-returns-then-not-branch g t c =
     let path = string_bytes c.in_ok-path.path in
     let out : is_asked c.args.job.now path ≡ false = subst (λ p. is_asked c.args.job.now p ≡ false) c.as_str.ensures.value (sym c.in_ok-is_asked.ensures ∙ c.if-not-branch.true) in
     let g0 = g.A.Receives.seen c.args.self.now.archive in
@@ -67,8 +67,8 @@ take_name-returns-then-not-branch g t c =
     took_leaf g.A.Receives.gives g.S.Source.told c.args.job.now c.args.levels c.args.folder.now c.args.name.now path g0 g0 s s c.in_ok-path.ensures
     (left_out g.A.Receives.gives g.S.Source.told c.args.job.now c.args.levels path c.args.name.now g0 s out)
 
-pub take_name-returns-in-Err : goal.take_name-returns-in-Err
-take_name-returns-in-Err g t c =
+pub walk_name-returns-in-Err : goal.walk_name-returns-in-Err
+walk_name-returns-in-Err g t c =
     let told = g.S.Source.told in
     let gives = g.A.Receives.gives in
     let seen = g.A.Receives.seen in
@@ -84,17 +84,17 @@ take_name-returns-in-Err g t c =
     (missed gives told c.args.job.now c.args.levels path c.args.name.now g0 g1 s s' c.in-Err.why asked lost (ap seen c.skip.ensures.archive) says))
     c.skip.ensures.named
 
-pub take_name-returns-in-File : goal.take_name-returns-in-File
-take_name-returns-in-File g t c =
+pub walk_name-returns-in-File : goal.walk_name-returns-in-File
+walk_name-returns-in-File g t c =
     let seen = g.A.Receives.seen in
     let path = string_bytes c.in_ok-path.path in
-    on_ok c.take_file.result
-    (took_leaf g.A.Receives.gives g.S.Source.told c.args.job.now c.args.levels c.args.folder.now c.args.name.now path (seen c.args.self.now.archive) (seen c.take_file.new.self.archive)
-    c.args.self.now.skipped.items c.take_file.new.self.skipped.items c.in_ok-path.ensures)
-    c.take_file.ensures
+    on_ok c.give_file.result
+    (took_leaf g.A.Receives.gives g.S.Source.told c.args.job.now c.args.levels c.args.folder.now c.args.name.now path (seen c.args.self.now.archive) (seen c.give_file.new.self.archive)
+    c.args.self.now.skipped.items c.give_file.new.self.skipped.items c.in_ok-path.ensures)
+    c.give_file.ensures
 
-pub take_name-returns-in-Link : goal.take_name-returns-in-Link
-take_name-returns-in-Link g t c =
+pub walk_name-returns-in-Link : goal.walk_name-returns-in-Link
+walk_name-returns-in-Link g t c =
     let told = g.S.Source.told in
     let gives = g.A.Receives.gives in
     let seen = g.A.Receives.seen in
@@ -110,8 +110,8 @@ take_name-returns-in-Link g t c =
     (other gives told c.args.job.now c.args.levels path c.args.name.now g0 g1 s c.in-Ok.sight asked saw is gave))
     c.add_other.ensures
 
-pub take_names-loop-name-preserved : goal.take_names-loop-name-preserved
-take_names-loop-name-preserved g t c =
+pub walk_names-loop-name-preserved : goal.walk_names-loop-name-preserved
+walk_names-loop-name-preserved g t c =
     let gives = g.A.Receives.gives in
     let seen = g.A.Receives.seen in
     let told = g.S.Source.told in
@@ -121,8 +121,8 @@ take_names-loop-name-preserved g t c =
     let before = map string_bytes (take i names) in
     let more : map string_bytes (take (i + 1) names) ≡ before ++ name ∷ [] = grind (arith, common_steps, c.name-item.is, c.as_str.ensures.value, c.loop-name-test.true) in
     subst
-    (λ ns. Took told gives c.args.job.now c.args.levels c.args.folder.now ns (seen c.args.self.now.archive) (seen c.take_name.new.self.archive) c.args.self.now.skipped.items
-    c.take_name.new.self.skipped.items)
+    (λ ns. Took told gives c.args.job.now c.args.levels c.args.folder.now ns (seen c.args.self.now.archive) (seen c.walk_name.new.self.archive) c.args.self.now.skipped.items
+    c.walk_name.new.self.skipped.items)
     (sym more)
-    (took_more gives told c.args.job.now c.args.levels c.args.folder.now before (name ∷ []) (seen c.args.self.now.archive) (seen c.loop-name.self.archive) (seen c.take_name.new.self.archive)
-    c.args.self.now.skipped.items c.loop-name.self.skipped.items c.take_name.new.self.skipped.items c.loop-name.invariant c.in_ok-take_name.ensures)
+    (took_more gives told c.args.job.now c.args.levels c.args.folder.now before (name ∷ []) (seen c.args.self.now.archive) (seen c.loop-name.self.archive) (seen c.walk_name.new.self.archive)
+    c.args.self.now.skipped.items c.loop-name.self.skipped.items c.walk_name.new.self.skipped.items c.loop-name.invariant c.in_ok-walk_name.ensures)
