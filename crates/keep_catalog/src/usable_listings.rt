@@ -33,11 +33,11 @@ pub(crate) fn first_usable(
         Listings::One(Listing { spot, index }) => {
             is_usable(repo, stored, PackedBlob { blob, spot: *spot }).then_some((*spot, *index))
         }
-        Listings::More(listings) => first_open_among(repo, stored, blob, listings),
+        Listings::More(listings) => first_unmarked_among(repo, stored, blob, listings),
     }
 }
 
-fn first_open_among(
+fn first_unmarked_among(
     repo: &Repo,
     stored: &Stored,
     blob: BlobId,

@@ -96,13 +96,13 @@ fn put_name(out: &mut RopeWriter, name: FileName) -> Result<(), AllocError>
     ensures text { OnOk result (out.new ≡ out.old ++ compact_text (name_data name)) }
     ensures fit { OnOk result (FitsName name) }
 {
-    out.put(opening_of(name.kind))?;
+    out.put(beginning_of(name.kind))?;
     put_digits(out, name.id)?;
     out.put(b"\"")
 }
 
 /// What stands before the digits of a name: the quote, the word for the kind, and the slash.
-fn opening_of(kind: Kind) -> &'static [u8]
+fn beginning_of(kind: Kind) -> &'static [u8]
     ensures { result.now ≡ codes "\"" ++ (kind_text kind ++ codes "/") }
 {
     match kind {

@@ -11,7 +11,7 @@ use Rattle.keep_names.specs.declared.id.Id.{Id}
 use Rattle.keep_snap.specs.Facts.{FactsData}
 use Rattle.keep_labels.specs.Counts.{is_among_last, is_first_of, is_newest, later_periods}
 use Rattle.keep_labels.specs.Keeping.{by_count, has_passing, is_counted}
-use Rattle.keep_labels.specs.Orders.{age_cmp, group_cmp, period_cmp, sorting_cmp, turn_cmp}
+use Rattle.keep_labels.specs.Orders.{age_cmp, group_cmp, period_cmp, sorting_cmp, later_first_cmp}
 use Rattle.keep_labels.specs.Walk.{Rises, names_counted}
 use Rattle.keep_labels.specs.declared.order.Counted.{Counted}
 use Rattle.keep_labels.specs.declared.order.Counted.TheVariants.{Snapshots, Days, Weeks, Months, Years}
@@ -36,7 +36,7 @@ period_total Months =
     then_total (on_total (λ s. s.month.year) (back_total int_cmp_total)) (on_total (λ s. s.month.month) (back_total nat_cmp_total))
 period_total Years = on_total (λ s. s.year) (back_total int_cmp_total)
 
-turn_total : (counted : Counted) → IsTotalOrder (turn_cmp counted)
+turn_total : (counted : Counted) → IsTotalOrder (later_first_cmp counted)
 turn_total counted = then_total group_total (period_total counted)
 
 pub sorting_total : (counted : Counted) → IsTotalOrder (sorting_cmp counted)
@@ -76,7 +76,7 @@ module _ {X : Type 0} (G N : X → X → Ordering) where
       (λ i. count_by (λ t. alone_by (G t x) (N t x) (is_newest (then_cmp G N) N all t) (newest_alone all t) i) all)
 
 first_is_counted : (counted : Counted) (most : ℕ) (all : List FactsData) (s : FactsData)
-    → is_first_of group_cmp (turn_cmp counted) age_cmp most all s ≡ is_counted counted most all s
+    → is_first_of group_cmp (later_first_cmp counted) age_cmp most all s ≡ is_counted counted most all s
 first_is_counted Snapshots most all s = last_is group_cmp age_cmp most all s
 first_is_counted Days most all s = refl
 first_is_counted Weeks most all s = refl
@@ -85,9 +85,9 @@ first_is_counted Years most all s = refl
 
 -- whom the walk keeps are those whom the count keeps
 pub names_chosen : (counted : Counted) (most : ℕ) (all : List FactsData) → Rises (sorting_cmp counted) all
-    → map name_of (chosen group_cmp (turn_cmp counted) most None 0 all) ≡ names_counted counted most all
+    → map name_of (chosen group_cmp (later_first_cmp counted) most None 0 all) ≡ names_counted counted most all
 names_chosen counted most all rises =
-    ap (map name_of) (walk_keeps group_cmp (turn_cmp counted) age_cmp group_total (turn_total counted) age_total (λ t x h. first_upto (group_cmp t x) (period_cmp counted t x) h) most all rises)
+    ap (map name_of) (walk_keeps group_cmp (later_first_cmp counted) age_cmp group_total (turn_total counted) age_total (λ t x h. first_upto (group_cmp t x) (period_cmp counted t x) h) most all rises)
     ∙ (λ i. map name_of (filter (λ s. first_is_counted counted most all s i) all))
 
 -- ---- whom a count keeps doesn't hang on the order of the list
@@ -106,7 +106,7 @@ module _ {X : Type 0} (G D N : X → X → Ordering) (xs ys : List X) (same : Is
 
 counted_permuted : (counted : Counted) (most : ℕ) (xs ys : List FactsData) → IsPermutation xs ys → (s : FactsData) → is_counted counted most xs s ≡ is_counted counted most ys s
 counted_permuted counted most xs ys same s =
-    sym (first_is_counted counted most xs s) ∙ first_permuted group_cmp (turn_cmp counted) age_cmp xs ys same most s ∙ first_is_counted counted most ys s
+    sym (first_is_counted counted most xs s) ∙ first_permuted group_cmp (later_first_cmp counted) age_cmp xs ys same most s ∙ first_is_counted counted most ys s
 
 -- a name is told of the sorted snapshots if a count keeps one of this name
 pub named_counted : (counted : Counted) (most : ℕ) (all sorted : List FactsData) (name : Id) → IsPermutation all sorted

@@ -9,7 +9,7 @@ use Rattle.std.specs.Ordering.{int_cmp, ordering_reverse, ordering_then}
 use Rattle.keep_names.specs.Orders.{id_cmp}
 use Rattle.keep_snap.specs.Facts.{FactsData}
 use Rattle.keep_labels.specs.Keeping.{EachOnce}
-use Rattle.keep_labels.specs.Orders.{sorting_cmp, turn_cmp}
+use Rattle.keep_labels.specs.Orders.{sorting_cmp, later_first_cmp}
 use Rattle.keep_labels.specs.Walk.{Rises}
 use Rattle.keep_labels.specs.declared.order.Counted.{Counted}
 use Rattle.keep_labels.proofs.Counting.{sorting_total}
@@ -95,7 +95,7 @@ module _ (counted : Counted) where
   comes_after : (x t : FactsData) → is_lt (sorting_cmp counted t x) ≡ false → is_eq (id_cmp t.name x.name) ≡ false → sorting_cmp counted x t ≡ Less
   comes_after x t after apart =
       (sorting_total counted).antisymm x t
-      ∙ behind_by (turn_cmp counted t x) (int_cmp x.instant t.instant) (id_cmp t.name x.name) after apart
+      ∙ behind_by (later_first_cmp counted t x) (int_cmp x.instant t.instant) (id_cmp t.name x.name) after apart
 
   pub rises_once : (all : List FactsData) → ((s : FactsData) → is_eq (id_cmp s.name s.name) ≡ true) → Climbs (sorting_cmp counted) all → EachOnce all
       → Rises (sorting_cmp counted) all

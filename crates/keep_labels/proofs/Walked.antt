@@ -10,7 +10,7 @@ use Rattle.keep_names.specs.Orders.{id_cmp}
 use Rattle.keep_names.specs.declared.id.Id.{Id}
 use Rattle.keep_snap.specs.Facts.{FactsData}
 use Rattle.keep_labels.specs.Keeping.{EachOnce}
-use Rattle.keep_labels.specs.Orders.{age_cmp, group_cmp, period_cmp, sorting_cmp, turn_cmp}
+use Rattle.keep_labels.specs.Orders.{age_cmp, group_cmp, period_cmp, sorting_cmp, later_first_cmp}
 use Rattle.keep_labels.specs.Walk.{Rises, names_counted}
 use Rattle.keep_labels.specs.declared.order.Counted.{Counted}
 use Rattle.keep_labels.specs.declared.group_row.Row.{Row}
@@ -37,7 +37,7 @@ pub row_total : (counted : Counted) → IsTotalOrder (row_cmp counted)
 row_total counted =
     then_total (then_total (on_total (λ (r : Row). r.group) nat_cmp_total) (on_total row_view (period_total counted))) (on_total row_view age_total)
 
-turn_same : (counted : Counted) (a b : Row) → Agree (row_pair a) (row_pair b) → row_turn counted a b ≡ turn_cmp counted (row_view a) (row_view b)
+turn_same : (counted : Counted) (a b : Row) → Agree (row_pair a) (row_pair b) → row_turn counted a b ≡ later_first_cmp counted (row_view a) (row_view b)
 turn_same counted a b agree = ap (λ o. ordering_then o (period_cmp counted (row_view a) (row_view b))) agree
 
 -- ---- the sort
@@ -59,20 +59,20 @@ map_put false x xs = refl
 
 module _ (counted : Counted) (most : ℕ) where
   chosen_behind : (l : Row) (count : ℕ) (xs : List Row) → AllByRecursion (λ a. AllByRecursion (λ b. Agree (row_pair a) (row_pair b)) (l ∷ xs)) (l ∷ xs)
-      → map row_view (chosen row_group (row_turn counted) most (Some l) count xs) ≡ chosen group_cmp (turn_cmp counted) most (Some (row_view l)) count (map row_view xs)
+      → map row_view (chosen row_group (row_turn counted) most (Some l) count xs) ≡ chosen group_cmp (later_first_cmp counted) most (Some (row_view l)) count (map row_view xs)
   chosen_behind l count [] agree = refl
   chosen_behind l count (x ∷ xs) agree =
       let group : row_group l x ≡ group_cmp (row_view l) (row_view x) = agree.0.1.0 in
-      let turn : row_turn counted l x ≡ turn_cmp counted (row_view l) (row_view x) = turn_same counted l x agree.0.1.0 in
+      let turn : row_turn counted l x ≡ later_first_cmp counted (row_view l) (row_view x) = turn_same counted l x agree.0.1.0 in
       let rest = all_with (λ a. AllByRecursion (λ b. Agree (row_pair a) (row_pair b)) (l ∷ x ∷ xs)) (λ a. AllByRecursion (λ b. Agree (row_pair a) (row_pair b)) (x ∷ xs)) (λ a h. h.1) (x ∷ xs) agree.1 in
       map_put (not (is_eq (row_turn counted l x)) && nat_lt (cond (is_eq (row_group l x)) count 0) most) x (chosen row_group (row_turn counted) most (Some x) (seen_with row_group (row_turn counted) (Some l) count x) xs)
       ∙ ap (put (not (is_eq (row_turn counted l x)) && nat_lt (cond (is_eq (row_group l x)) count 0) most) (row_view x))
       (chosen_behind x (seen_with row_group (row_turn counted) (Some l) count x) xs rest)
       ∙ (λ i. put (not (is_eq (turn i)) && nat_lt (cond (is_eq (group i)) count 0) most) (row_view x)
-      (chosen group_cmp (turn_cmp counted) most (Some (row_view x)) (cond (is_eq (turn i)) (cond (is_eq (group i)) count 0) (cond (is_eq (group i)) count 0 + 1)) (map row_view xs)))
+      (chosen group_cmp (later_first_cmp counted) most (Some (row_view x)) (cond (is_eq (turn i)) (cond (is_eq (group i)) count 0) (cond (is_eq (group i)) count 0 + 1)) (map row_view xs)))
 
   chosen_views : (rows : List Row) → AllByRecursion (λ a. AllByRecursion (λ b. Agree (row_pair a) (row_pair b)) rows) rows
-      → map row_view (chosen row_group (row_turn counted) most None 0 rows) ≡ chosen group_cmp (turn_cmp counted) most None 0 (map row_view rows)
+      → map row_view (chosen row_group (row_turn counted) most None 0 rows) ≡ chosen group_cmp (later_first_cmp counted) most None 0 (map row_view rows)
   chosen_views [] agree = refl
   chosen_views (x ∷ xs) agree =
       map_put (nat_lt 0 most) x (chosen row_group (row_turn counted) most (Some x) (0 + 1) xs)

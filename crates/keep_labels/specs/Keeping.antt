@@ -7,7 +7,7 @@ use Rattle.keep_names.specs.declared.id.Id.{Id}
 use Rattle.keep_snap.specs.Facts.{FactsData}
 use Rattle.keep_labels.specs.Counts.{is_among_last, is_first_of}
 use Rattle.keep_labels.specs.Edits.{Tags, has_tag}
-use Rattle.keep_labels.specs.Orders.{age_cmp, group_cmp, turn_cmp}
+use Rattle.keep_labels.specs.Orders.{age_cmp, group_cmp, later_first_cmp}
 use Rattle.keep_labels.specs.declared.order.Counted.{Counted}
 use Rattle.keep_labels.specs.declared.order.Counted.TheVariants.{Snapshots, Days, Weeks, Months, Years}
 use Rattle.keep_labels.specs.declared.policy.Policy.{Policy}
@@ -35,10 +35,10 @@ policy_view policy = record {
 -- newest of each of the last that have one
 abbrev pub is_counted : Counted → ℕ → List FactsData → FactsData → Bool
 is_counted Snapshots most all s = is_among_last group_cmp age_cmp most all s
-is_counted Days most all s = is_first_of group_cmp (turn_cmp Days) age_cmp most all s
-is_counted Weeks most all s = is_first_of group_cmp (turn_cmp Weeks) age_cmp most all s
-is_counted Months most all s = is_first_of group_cmp (turn_cmp Months) age_cmp most all s
-is_counted Years most all s = is_first_of group_cmp (turn_cmp Years) age_cmp most all s
+is_counted Days most all s = is_first_of group_cmp (later_first_cmp Days) age_cmp most all s
+is_counted Weeks most all s = is_first_of group_cmp (later_first_cmp Weeks) age_cmp most all s
+is_counted Months most all s = is_first_of group_cmp (later_first_cmp Months) age_cmp most all s
+is_counted Years most all s = is_first_of group_cmp (later_first_cmp Years) age_cmp most all s
 
 -- whether one of so many is kept, if the policy counts these
 abbrev pub by_count : Counted → Option ℕ → List FactsData → FactsData → Bool

@@ -32,9 +32,9 @@ period_cmp Months = later_month_cmp
 period_cmp Years = on (λ s. s.year) (flip_args int_cmp)
 
 -- by group, and in a group the later period first; those that tie are of one group and period
-abbrev pub turn_cmp : Counted → FactsData → FactsData → Ordering
-turn_cmp counted = then_cmp group_cmp (period_cmp counted)
+abbrev pub later_first_cmp : Counted → FactsData → FactsData → Ordering
+later_first_cmp counted = then_cmp group_cmp (period_cmp counted)
 
 -- by group and period, and in a period the newer first
 abbrev pub sorting_cmp : Counted → FactsData → FactsData → Ordering
-sorting_cmp counted = then_cmp (turn_cmp counted) age_cmp
+sorting_cmp counted = then_cmp (later_first_cmp counted) age_cmp

@@ -7,7 +7,7 @@ ghost use Rattle.keep_labels.specs.declared.group_row.Row as the_row;
 use crate::count::Count;
 use crate::group_row::Row;
 use crate::groups::Rows;
-use crate::order::{Counted, compare_turns};
+use crate::order::{Counted, compare_later_first};
 use keep_names::Id;
 use std::alloc::{AllocError, Global};
 
@@ -28,7 +28,7 @@ pub(crate) fn first_names(
     let mut count = 0usize;
     for row in &sorted.items {
         let is_later = !is_of_group(last, row);
-        let is_first = !is_of_turn(counted, last, row);
+        let is_first = !is_of_period(counted, last, row);
         let before = if is_later { 0 } else { count };
         if is_first && before < most.get() as usize {
             names.push(row.facts.name)?;
@@ -50,12 +50,12 @@ fn is_of_group(last: Option<Row>, row: &Row) -> bool
 }
 
 /// Whether the last one is of the same group and period.
-fn is_of_turn(counted: Counted, last: Option<Row>, row: &Row) -> bool
+fn is_of_period(counted: Counted, last: Option<Row>, row: &Row) -> bool
     ensures { result ≡ follows (then_cmp (on (λ (r : the_row.Row). r.group) nat_cmp)
         (on (λ (r : the_row.Row). seen_view r.facts) (period_cmp counted))) last.entry row.now }
 {
     match last {
-        Some(last) => compare_turns(counted, &last, row).is_eq(),
+        Some(last) => compare_later_first(counted, &last, row).is_eq(),
         None => false,
     }
 }

@@ -43,7 +43,7 @@ pub(crate) fn is_of_group(last: Option<&SnapFacts>, facts: &SnapFacts) -> bool
 }
 
 /// By the number of the group, and in a group the later period first.
-pub(crate) fn compare_turns(counted: Counted, left: &Row, right: &Row) -> Ordering
+pub(crate) fn compare_later_first(counted: Counted, left: &Row, right: &Row) -> Ordering
     ensures { result ≡ ordering_then (nat_cmp left.now.group right.now.group)
         (period_cmp counted (seen_view left.now.facts) (seen_view right.now.facts)) }
 {
@@ -58,7 +58,7 @@ pub(crate) fn compare_all(counted: Counted, left: &Row, right: &Row) -> Ordering
         (period_cmp counted (seen_view left.now.facts) (seen_view right.now.facts)))
         (age_cmp (seen_view left.now.facts) (seen_view right.now.facts)) }
 {
-    compare_turns(counted, left, right).then(compare_ages(left, right))
+    compare_later_first(counted, left, right).then(compare_ages(left, right))
 }
 
 /// The later period first, by the written date.

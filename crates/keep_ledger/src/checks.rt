@@ -65,7 +65,7 @@ pub(crate) fn check_undo(history: &History, touch: &Touch, n: u64) -> Result<(),
     ensures room { OnOk result (length_of history.now.journal < event_limit) }
     ensures plain { IfErr result (λ refusal. is_plain refusal ≡ true) }
 {
-    check_open(history, n)?;
+    check_unfinal(history, n)?;
     if history.status(n) != Status::InForce {
         return Err(Refusal::NotInForce);
     }
@@ -82,7 +82,7 @@ pub(crate) fn check_redo(history: &History, n: u64) -> Result<(), Refusal>
     ensures room { OnOk result (length_of history.now.journal < event_limit) }
     ensures plain { IfErr result (λ refusal. is_plain refusal ≡ true) }
 {
-    check_open(history, n)?;
+    check_unfinal(history, n)?;
     if history.status(n) == Status::InForce {
         return Err(Refusal::InForce);
     }
@@ -114,12 +114,12 @@ pub(crate) fn check_empty(history: &History, n: u64) -> Result<(), Refusal>
     ensures room { OnOk result (length_of history.now.journal < event_limit) }
     ensures plain { IfErr result (λ refusal. is_plain refusal ≡ true) }
 {
-    check_open(history, n)?;
+    check_unfinal(history, n)?;
     check_room(history)
 }
 
 /// Change n is there and isn't final.
-fn check_open(history: &History, n: u64) -> Result<(), Refusal>
+fn check_unfinal(history: &History, n: u64) -> Result<(), Refusal>
     ensures passes { Passes
         (first_of ((not (is_change history.now.journal n), Refusal.Unknown)
         ∷ (nat_le n (final_number history.now.journal), Refusal.Final) ∷ []))

@@ -36,7 +36,7 @@ impl Rests {
     pub fn opening(alloc: Global, patterns: &[Pattern]) -> Result<Rests, AllocError>
         ensures { IfOk result (λ rests. rests ≡ left_at (map pattern_view patterns.now) []) }
     {
-        let left = opening_of(alloc, patterns)?;
+        let left = rests_at_root(alloc, patterns)?;
         Ok(Rests { left })
     }
 
@@ -118,17 +118,17 @@ impl Ord for Rests {
     }
 }
 
-fn opening_of(alloc: Global, patterns: &[Pattern]) -> Result<Vec<Rest>, AllocError>
+fn rests_at_root(alloc: Global, patterns: &[Pattern]) -> Result<Vec<Rest>, AllocError>
     ensures { IfOk result (λ left. left.items ≡ opened_from 0 (map pattern_view patterns.now)) }
 {
     let mut left = Vec::new(alloc);
     for (index, pattern) in patterns.iter().enumerate() {
-        push_opening(&mut left, index, &pattern.components)?;
+        push_at_root(&mut left, index, &pattern.components)?;
     }
     Ok(left)
 }
 
-fn push_opening(
+fn push_at_root(
     left: &mut Vec<Rest>,
     index: usize,
     components: &[Component],

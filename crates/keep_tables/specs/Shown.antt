@@ -8,8 +8,8 @@ use Rattle.std.specs.Str.{chars}
 use Rattle.keep_tables.specs.Digits.{last_digits}
 
 -- whether the character ends a line or a paragraph, or turns the direction of writing (Unicode Standard Annex 9)
-abbrev pub is_turning : ℕ → Bool
-is_turning c =
+abbrev pub is_directing : ℕ → Bool
+is_directing c =
     is_in_range 0x61C 0x61C c || is_in_range 0x200E 0x200F c || is_in_range 0x2028 0x202E c || is_in_range 0x2066 0x2069 c
 
 -- a control character: `\a` to `\r` by a letter, others below 128 as `\x..`, the rest as `\u....`
@@ -21,7 +21,7 @@ escape c =
 
 -- a character as it is shown: all others stand as they are
 abbrev pub shown_char : ℕ → List ℕ
-shown_char c = if is_control c || is_turning c then escape c else encode_utf8 c
+shown_char c = if is_control c || is_directing c then escape c else encode_utf8 c
 
 -- characters as they are shown, and a text
 abbrev pub shown_chars : List ℕ → List ℕ

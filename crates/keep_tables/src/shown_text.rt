@@ -28,7 +28,7 @@ fn shown_letters(alloc: Global, letters: &[char]) -> Result<String, AllocError>
 fn push_shown(text: &mut String, letter: char) -> Result<(), AllocError>
     ensures { OnOk result (string_bytes text.new ≡ string_bytes text.old ++ shown_char letter) }
 {
-    if letter.is_control() || is_turning(letter) {
+    if letter.is_control() || is_directing(letter) {
         push_escape(text, letter as u32)
     } else {
         text.push(letter)
@@ -36,8 +36,8 @@ fn push_shown(text: &mut String, letter: char) -> Result<(), AllocError>
 }
 
 /// Whether the character ends a line or a paragraph, or turns the direction of writing.
-fn is_turning(letter: char) -> bool
-    ensures { result ≡ spec.is_turning letter }
+fn is_directing(letter: char) -> bool
+    ensures { result ≡ spec.is_directing letter }
 {
     matches!(
         letter,

@@ -11,6 +11,6 @@ returns-clause-text c =
     on_ok c.put-2.result
     (λ last. piece_last _ (codes "\"") last
     ∙ piece_more _ (escape (id_text name.id)) _ c.in_ok-put_digits.ensures
-    ∙ piece_more old c.opening_of.result.now _ c.in_ok-put.ensures
-    ∙ ap (λ s. old ++ s) (name_quoted name.kind (id_text name.id) c.opening_of.ensures))
+    ∙ piece_more old c.beginning_of.result.now _ c.in_ok-put.ensures
+    ∙ ap (λ s. old ++ s) (name_quoted name.kind (id_text name.id) c.beginning_of.ensures))
     c.put-2.ensures

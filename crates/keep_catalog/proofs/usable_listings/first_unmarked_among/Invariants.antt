@@ -2,7 +2,7 @@ use Rattle.std.proofs.Common.{◌≡◌, ◌&&◌}
 use Rattle.std.specs.List.{find}
 use Rattle.keep_catalog.specs.Places as spec
 use Rattle.keep_catalog.specs.Places.{at}
-use Rattle.keep_catalog.proofs.usable_listings.first_open_among.Given as goal
+use Rattle.keep_catalog.proofs.usable_listings.first_unmarked_among.Given as goal
 
 abbrev pub invariant-loop-listing : goal.invariant-loop-listing
 invariant-loop-listing l =
