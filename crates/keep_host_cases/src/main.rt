@@ -1,34 +1,55 @@
-//! Gives what lies in a folder beside the program to a printer, and says what the machine says of itself. The stored
-//! answers are written by hand, of what `data/` has.
+//! Answers tables on real files, and on what people type and see. A line `== TABLE` names the table whose lines follow,
+//! and answers with itself.
 #![tactic(auto)]
 
-mod host_events;
+mod case_words;
+mod host;
+mod no_case;
+mod prints;
+mod sources;
+mod targets;
+mod trees;
+mod words;
 
-use crate::host_events::Events;
-use keep_host_source::{HostSource, host_name, user_id, user_name};
-use keep_sources::{Scope, Taking};
-use std::collections::HashMap;
-use std::io;
+use anyhow::{Result, anyhow};
+use std::alloc::AllocError;
 
-fn main(rt: HostRuntime) -> io::Result<()> {
-    let alloc = rt.alloc();
-    let source = HostSource::new(rt.clone()?, "tree")?;
-    let mut taking = Taking::new(alloc, source, Events::new(alloc))?;
-    let job = Scope {
-        paths: vec![in alloc; String::new(alloc)]?,
-        excludes: Vec::new(alloc),
-        known: HashMap::new(alloc),
-    };
-    if taking.take(&job).is_err() {
-        println!(rt; "stopped")?;
+/// Answers the lines of the table that this head names. Before the first head there are none.
+fn answer_part(rt: &HostRuntime, head: &str, lines: &[String]) -> Result<()> {
+    if head.is_empty() && lines.is_empty() {
+        return Ok(());
     }
-    let named = taking.skipped().len();
-    let (_, events) = taking.into_parts();
-    println!(rt; "{}named {named}", events.as_text())?;
-    let host = host_name(&rt)?;
-    let user = user_name(&rt)?;
-    let has_names = !host.is_empty() && !user.is_empty();
-    let number = user_id(&rt)?;
-    let is_known = number < u32::MAX;
-    println!(rt; "{has_names} {is_known}")
+    println!(rt; "{head}")?;
+    match head {
+        "== trees" => trees::answer(rt, lines)?,
+        "== sources" => sources::answer(rt, lines)?,
+        "== host" => host::answer(rt)?,
+        "== targets" => targets::answer(rt, lines)?,
+        "== prints" => prints::answer(rt, lines)?,
+        "== words" => words::answer(rt, lines)?,
+        _ => return Err(anyhow!("no such table")),
+    }
+    Ok(())
+}
+
+fn add(lines: &mut Vec<String>, line: String) -> Result<(), AllocError> {
+    lines.push(line)?;
+    Ok(())
+}
+
+fn main(rt: HostRuntime) -> Result<()> {
+    let alloc = rt.alloc();
+    let mut head = String::new(alloc);
+    let mut lines = Vec::new(alloc);
+    for line in rt.lines(alloc) {
+        let line = line?;
+        if line.starts_with("== ") {
+            answer_part(&rt, head.as_str(), &lines)?;
+            lines.clear();
+            head = line;
+        } else {
+            add(&mut lines, line)?;
+        }
+    }
+    answer_part(&rt, head.as_str(), &lines)
 }
