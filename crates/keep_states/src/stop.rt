@@ -1,10 +1,9 @@
 use keep_ledger::OpenError;
 use keep_shelf::Fault;
 use std::alloc::{AllocError, AllocFailed};
-use std::io;
 use thiserror::Error;
 
-/// Why the table ends before all of its lines are answered.
+/// Why a table ends before all of its lines are answered.
 #[derive(Debug, Drop, Error)]
 pub(crate) enum Stop {
     /// The line is none that there is.
@@ -13,9 +12,6 @@ pub(crate) enum Stop {
     /// Memory ran out.
     #[error("no memory")]
     Memory,
-    /// Standard input can't be read.
-    #[error("cannot read the table")]
-    ReadFailed,
 }
 
 impl From<AllocError> for Stop {
@@ -39,11 +35,5 @@ impl From<Fault> for Stop {
 impl From<OpenError> for Stop {
     fn from(_error: OpenError) -> Stop {
         Stop::Memory
-    }
-}
-
-impl From<io::Error> for Stop {
-    fn from(_error: io::Error) -> Stop {
-        Stop::ReadFailed
     }
 }

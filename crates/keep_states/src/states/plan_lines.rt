@@ -1,7 +1,7 @@
-use crate::changing::ask;
-use crate::shown_lists::show_change;
-use crate::state::{State, no_change};
-use crate::state_words;
+use crate::case_words;
+use crate::states::changing::ask;
+use crate::states::shown_lists::show_change;
+use crate::states::state::{State, no_change};
 use crate::stop::Stop;
 use keep_backup::{BackupFacts, plan_backup};
 use keep_build::{Cut, store};
@@ -28,7 +28,7 @@ pub(crate) fn answer(
 ) -> Result<bool, Stop> {
     let alloc = state.alloc;
     match verb {
-        "now" => state.now = state_words::moment(rest)?,
+        "now" => state.now = case_words::moment(rest)?,
         "plan" => {
             let planned = planned(state, rest)?;
             hold(state, planned, out)?;
@@ -116,7 +116,7 @@ fn blobs(alloc: Global, text: &str) -> Result<Vec<(BlobType, Vec<u8>)>, Stop> {
     for word in text.split(' ') {
         let (blob_type, text) = word.split_once('=').ok_or(Stop::NoLine)?;
         let bytes = Vec::from_slice(alloc, text.as_bytes())?;
-        blobs.push((state_words::blob_type(blob_type)?, bytes))?;
+        blobs.push((case_words::blob_type(blob_type)?, bytes))?;
     }
     Ok(blobs)
 }
@@ -133,10 +133,10 @@ fn as_planned(alloc: Global, stored: Stored) -> Planned {
 
 /// Adds a file that has a byte so many times to those that a backup is to have.
 fn add_file(state: &mut State, rest: &str) -> Result<(), Stop> {
-    let (path, rest) = state_words::pair(rest)?;
-    let (count, byte) = state_words::pair(rest)?;
-    let count = state_words::short_number(count)?;
-    let byte = state_words::byte(byte)?;
+    let (path, rest) = case_words::pair(rest)?;
+    let (count, byte) = case_words::pair(rest)?;
+    let count = case_words::short_number(count)?;
+    let byte = case_words::byte(byte)?;
     let bytes = vec![in state.alloc; byte; count as usize]?;
     state
         .files
@@ -147,12 +147,12 @@ fn add_file(state: &mut State, rest: &str) -> Result<(), Stop> {
 /// Plans a backup of these files by its host, user, path, time and cut.
 fn back_up(state: &State, rest: &str) -> Result<Result<Planned, PlanError>, Stop> {
     let alloc = state.alloc;
-    let (host, rest) = state_words::pair(rest)?;
-    let (user, rest) = state_words::pair(rest)?;
-    let (path, rest) = state_words::pair(rest)?;
-    let (time, cut) = state_words::pair(rest)?;
+    let (host, rest) = case_words::pair(rest)?;
+    let (user, rest) = case_words::pair(rest)?;
+    let (path, rest) = case_words::pair(rest)?;
+    let (time, cut) = case_words::pair(rest)?;
     let facts = facts_of(alloc, host, user, path, time)?;
-    let cut = state_words::short_number(cut)?;
+    let cut = case_words::short_number(cut)?;
     if cut == 0 || cut > 8_388_608 {
         return Err(Stop::NoLine);
     }

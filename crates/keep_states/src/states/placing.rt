@@ -1,5 +1,5 @@
-use crate::state::State;
-use crate::state_words;
+use crate::case_words;
+use crate::states::state::State;
 use crate::stop::Stop;
 use keep_catalog::{Catalog, CatalogError, ReachError, Spot, Unread};
 use keep_lines::print_hex;
@@ -17,13 +17,13 @@ pub(crate) fn answer(
     out: &mut String,
 ) -> Result<bool, Stop> {
     match verb {
-        "place" => place(catalog, state_words::blob(rest)?, out)?,
-        "reuse" => reuse(catalog, state_words::blob(rest)?, out)?,
+        "place" => place(catalog, case_words::blob(rest)?, out)?,
+        "reuse" => reuse(catalog, case_words::blob(rest)?, out)?,
         "bytes" => bytes(alloc, catalog, spot(rest)?, out)?,
         "headers" => headers(alloc, catalog, out)?,
         "indexes" => indexes(catalog, out)?,
         "wrong" => wrong(alloc, catalog, out)?,
-        "nodes" => nodes(alloc, catalog, state_words::id(rest)?, out)?,
+        "nodes" => nodes(alloc, catalog, case_words::id(rest)?, out)?,
         "snaps" => writeln!(out, "snaps {}", catalog.snaps().len())?,
         _ => return Ok(false),
     }
@@ -76,11 +76,11 @@ fn reuse(catalog: &Catalog, blob: BlobId, out: &mut String) -> Result<(), AllocE
 
 /// A spot by its pack, its offset and its length.
 fn spot(text: &str) -> Result<Spot, Stop> {
-    let (pack, rest) = state_words::pair(text)?;
-    let (offset, length) = state_words::pair(rest)?;
-    let pack = state_words::id(pack)?;
-    let offset = state_words::number(offset)?;
-    let length = state_words::short_number(length)?;
+    let (pack, rest) = case_words::pair(text)?;
+    let (offset, length) = case_words::pair(rest)?;
+    let pack = case_words::id(pack)?;
+    let offset = case_words::number(offset)?;
+    let length = case_words::short_number(length)?;
     Ok(Spot {
         pack,
         offset,

@@ -1,5 +1,5 @@
-use crate::placing::type_word;
-use crate::state_words;
+use crate::case_words;
+use crate::states::placing::type_word;
 use crate::stop::Stop;
 use keep_catalog::{Catalog, ReachError};
 use keep_names::Id;
@@ -18,7 +18,7 @@ pub(crate) fn answer(
 ) -> Result<bool, Stop> {
     match verb {
         "reach" => count(
-            keep_reach::reach(alloc, catalog, state_words::id(rest)?),
+            keep_reach::reach(alloc, catalog, case_words::id(rest)?),
             out,
         )?,
         "reach-all" => count(
@@ -35,7 +35,7 @@ pub(crate) fn answer(
 fn ids(alloc: Global, text: &str) -> Result<Vec<Id>, Stop> {
     let mut ids = Vec::new(alloc);
     for word in text.split(' ') {
-        ids.push(state_words::id(word)?)?;
+        ids.push(case_words::id(word)?)?;
     }
     Ok(ids)
 }

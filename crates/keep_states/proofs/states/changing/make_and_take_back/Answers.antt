@@ -4,7 +4,7 @@ use Rattle.keep_repo.specs.Repository.{Repository, held}
 use Rattle.keep_change.specs.Change.{is_ready}
 use Rattle.keep_change.specs.Result.{reverse_of}
 use Rattle.keep_change.proofs.History.{ready_to_take_back}
-use Rattle.keep_states.proofs.changing.make_and_take_back.Goals as goal
+use Rattle.keep_states.proofs.states.changing.make_and_take_back.Goals as goal
 
 pub apply-requires : goal.apply-requires
 apply-requires c =

@@ -1,7 +1,7 @@
-use crate::changing::{ask, show_repo, yes};
-use crate::shown_lists::show_ids;
-use crate::state::State;
-use crate::state_words;
+use crate::case_words;
+use crate::states::changing::{ask, show_repo, yes};
+use crate::states::shown_lists::show_ids;
+use crate::states::state::State;
 use crate::stop::Stop;
 use keep_ledger::Request;
 use keep_replies::Counts;
@@ -29,7 +29,7 @@ pub(crate) fn answer(
 
 /// Asks for an event of the change of this number.
 fn ask_event(state: &mut State, verb: &str, number: &str, out: &mut String) -> Result<(), Stop> {
-    let number = state_words::number(number)?;
+    let number = case_words::number(number)?;
     let request = match verb {
         "undo" => Request::Undo(number),
         "redo" => Request::Redo(number),
@@ -40,7 +40,7 @@ fn ask_event(state: &mut State, verb: &str, number: &str, out: &mut String) -> R
 
 /// Writes whether the facet is filled.
 fn filled(state: &State, facet: &str, out: &mut String) -> Result<(), Stop> {
-    let facet = state_words::facet(facet)?;
+    let facet = case_words::facet(facet)?;
     let filled = state.ground.live().facet_filled(facet);
     writeln!(out, "{facet} {}", yes(filled))?;
     Ok(())

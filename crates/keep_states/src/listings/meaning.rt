@@ -1,5 +1,5 @@
-use crate::listing_stop::Stop;
-use crate::state::State;
+use crate::listings::state::State;
+use crate::stop::Stop;
 use keep_named::{NamedError, named, snapshots_of};
 use std::fmt::Write;
 

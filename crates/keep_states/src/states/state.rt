@@ -1,4 +1,4 @@
-use crate::ground::Ground;
+use crate::states::ground::Ground;
 use keep_change::{Change, Planned};
 use keep_jobs::Kit;
 use keep_names::{FileName, Id};

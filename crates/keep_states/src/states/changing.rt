@@ -1,6 +1,6 @@
-use crate::shown_lists::{show_ids, show_names};
-use crate::state::{State, no_change};
-use crate::state_words;
+use crate::case_words;
+use crate::states::shown_lists::{show_ids, show_names};
+use crate::states::state::{State, no_change};
 use crate::stop::Stop;
 use keep_change::{Change, Outline, Turn, What};
 use keep_ledger::{Refusal, Request, Told};
@@ -79,7 +79,7 @@ fn show_outline(
     number: &str,
     out: &mut String,
 ) -> Result<(), Stop> {
-    let outline = Outline::of(alloc, What::Undo, state_words::number(number)?, change)?;
+    let outline = Outline::of(alloc, What::Undo, case_words::number(number)?, change)?;
     write_outline(&outline, out)?;
     Ok(())
 }

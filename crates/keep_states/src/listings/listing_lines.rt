@@ -1,6 +1,6 @@
-use crate::listing_stop::Stop;
-use crate::pair_words;
-use crate::state::State;
+use crate::case_words;
+use crate::listings::state::State;
+use crate::stop::Stop;
 use keep_names::Id;
 use keep_nodes::{
     Difference, Lengths, PathNode, differences, matched, node_at, nodes_below, nodes_of, piece,
@@ -16,14 +16,14 @@ use std::fmt::Write;
 pub(crate) fn answer(state: &State, verb: &str, rest: &str, out: &mut String) -> Result<(), Stop> {
     match verb {
         "nodes" => show_all(
-            nodes_of(state.alloc, &state.view(), pair_words::id(rest)?),
+            nodes_of(state.alloc, &state.view(), case_words::id(rest)?),
             out,
         )?,
         "whole" => show_all(
-            whole_nodes_of(state.alloc, &state.view(), pair_words::id(rest)?),
+            whole_nodes_of(state.alloc, &state.view(), case_words::id(rest)?),
             out,
         )?,
-        "piece" => show_piece(state, pair_words::id(rest)?, out)?,
+        "piece" => show_piece(state, case_words::id(rest)?, out)?,
         "at" => at(state, rest, out)?,
         "below" => below(state, rest, out)?,
         "find" => find(state, rest, out)?,
@@ -76,11 +76,11 @@ fn show_piece(state: &State, id: Id, out: &mut String) -> Result<(), AllocError>
 
 /// The nodes of the snapshot of this id.
 fn listed(state: &State, id: &str) -> Result<Vec<PathNode>, Stop> {
-    nodes_of(state.alloc, &state.view(), pair_words::id(id)?).map_err(|_| Stop::NoLine)
+    nodes_of(state.alloc, &state.view(), case_words::id(id)?).map_err(|_| Stop::NoLine)
 }
 
 fn at(state: &State, rest: &str, out: &mut String) -> Result<(), Stop> {
-    let (id, path) = pair_words::pair(rest)?;
+    let (id, path) = case_words::pair(rest)?;
     let entries = listed(state, id)?;
     match node_at(&entries, path) {
         Some(entry) => show("at", entry, out)?,
@@ -90,7 +90,7 @@ fn at(state: &State, rest: &str, out: &mut String) -> Result<(), Stop> {
 }
 
 fn below(state: &State, rest: &str, out: &mut String) -> Result<(), Stop> {
-    let (id, path) = pair_words::pair(rest)?;
+    let (id, path) = case_words::pair(rest)?;
     let entries = listed(state, id)?;
     let found = nodes_below(state.alloc, &entries, path)?;
     for entry in &found {
@@ -101,7 +101,7 @@ fn below(state: &State, rest: &str, out: &mut String) -> Result<(), Stop> {
 }
 
 fn find(state: &State, rest: &str, out: &mut String) -> Result<(), Stop> {
-    let (id, text) = pair_words::pair(rest)?;
+    let (id, text) = case_words::pair(rest)?;
     let entries = listed(state, id)?;
     let mut patterns = Vec::new(state.alloc);
     for word in text.split(' ') {
@@ -129,7 +129,7 @@ fn tally(state: &State, rest: &str, out: &mut String) -> Result<(), Stop> {
 }
 
 fn diff(state: &State, rest: &str, out: &mut String) -> Result<(), Stop> {
-    let (first, second) = pair_words::pair(rest)?;
+    let (first, second) = case_words::pair(rest)?;
     let old = listed(state, first)?;
     let new = listed(state, second)?;
     let found = differences(state.alloc, &old, &new)?;

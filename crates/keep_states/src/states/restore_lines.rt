@@ -1,6 +1,6 @@
-use crate::placing::type_word;
-use crate::state::State;
-use crate::state_words;
+use crate::case_words;
+use crate::states::placing::type_word;
+use crate::states::state::State;
 use crate::stop::Stop;
 use keep_lines::print_hex;
 use keep_names::Id;
@@ -17,7 +17,7 @@ pub(crate) fn answer(
     out: &mut String,
 ) -> Result<bool, Stop> {
     match verb {
-        "restore" => restored(state, state_words::id(rest)?, out)?,
+        "restore" => restored(state, case_words::id(rest)?, out)?,
         "audit" => audited(state, out)?,
         _ => return Ok(false),
     }

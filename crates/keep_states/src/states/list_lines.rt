@@ -1,5 +1,5 @@
-use crate::state::{State, no_change};
-use crate::state_words;
+use crate::case_words;
+use crate::states::state::{State, no_change};
 use crate::stop::Stop;
 use keep_change::{Change, Listed, StoredFile};
 use keep_names::{FileName, Id};
@@ -12,7 +12,7 @@ pub(crate) fn answer(state: &mut State, verb: &str, rest: &str) -> Result<bool, 
     let alloc = state.alloc;
     match verb {
         "change" => state.held = no_change(alloc),
-        "seen" => state.held.seen = state_words::number(rest)?,
+        "seen" => state.held.seen = case_words::number(rest)?,
         _ => return list(alloc, &mut state.held.change, verb, rest),
     }
     Ok(true)
@@ -23,8 +23,8 @@ fn list(alloc: Global, change: &mut Change, verb: &str, rest: &str) -> Result<bo
     match verb {
         "adds" => push(alloc, &mut change.adds, file(alloc, rest)?)?,
         "drops" => push(alloc, &mut change.drops, file(alloc, rest)?)?,
-        "sets" => push(alloc, &mut change.sets, state_words::pack_mark(rest)?)?,
-        "clears" => push(alloc, &mut change.clears, state_words::pack_mark(rest)?)?,
+        "sets" => push(alloc, &mut change.sets, case_words::pack_mark(rest)?)?,
+        "clears" => push(alloc, &mut change.clears, case_words::pack_mark(rest)?)?,
         _ => return ask_for(alloc, change, verb, rest),
     }
     Ok(true)
@@ -33,11 +33,11 @@ fn list(alloc: Global, change: &mut Change, verb: &str, rest: &str) -> Result<bo
 /// Lists a condition of the change, if the line asks for it.
 fn ask_for(alloc: Global, change: &mut Change, verb: &str, rest: &str) -> Result<bool, Stop> {
     match verb {
-        "present" => push(alloc, &mut change.present, state_words::name(rest)?)?,
-        "absent" => push(alloc, &mut change.absent, state_words::name(rest)?)?,
-        "marked" => push(alloc, &mut change.marked, state_words::id(rest)?)?,
-        "unmarked" => push(alloc, &mut change.unmarked, state_words::id(rest)?)?,
-        "absents" => change.absent = absents(alloc, state_words::short_number(rest)?)?,
+        "present" => push(alloc, &mut change.present, case_words::name(rest)?)?,
+        "absent" => push(alloc, &mut change.absent, case_words::name(rest)?)?,
+        "marked" => push(alloc, &mut change.marked, case_words::id(rest)?)?,
+        "unmarked" => push(alloc, &mut change.unmarked, case_words::id(rest)?)?,
+        "absents" => change.absent = absents(alloc, case_words::short_number(rest)?)?,
         "strict" => change.strict = true,
         _ => return Ok(false),
     }
@@ -53,7 +53,7 @@ fn push<T: Drop>(alloc: Global, list: &mut Listed<T>, item: T) -> Result<(), All
 }
 
 fn file(alloc: Global, rest: &str) -> Result<StoredFile, Stop> {
-    let (name, bytes) = state_words::file(alloc, rest)?;
+    let (name, bytes) = case_words::file(alloc, rest)?;
     let bytes = Bytes::new(alloc, bytes)?;
     Ok(StoredFile::under(name, bytes))
 }
