@@ -1,10 +1,7 @@
-"""The cases of crates/keep_cases: scripts of the program and what they are answered, which was never taken from it."""
-import os
+"""The runs of crates/keep_cases: scripts of the program and what they are answered, which was never taken from it."""
 from typing import NamedTuple
 
-from session import TOP
-
-TABLE = os.path.join(TOP, "crates", "keep_cases")
+from parts import part_of
 
 
 class Case(NamedTuple):
@@ -15,8 +12,8 @@ class Case(NamedTuple):
     errors: bytes = b""
 
 
-def part_of(row):
-    """What a row adds to the words, and what to the script."""
+def added_by(row):
+    """What a row adds to the words, and what to the script. One of a folder or a file adds nothing."""
     sign, _, text = row.partition(b" ")
     match sign:
         case b"-":
@@ -28,18 +25,19 @@ def part_of(row):
             return (), repeated * int(count)
         case b"x":
             return (), bytes.fromhex(text.decode())
+        case b"&" | b"f":
+            return (), b""
     raise ValueError(row)
 
 
 def blocks(name):
     """The rows below each `= NAME` of a file of the table."""
     found, rows = {}, []
-    with open(os.path.join(TABLE, name), "rb") as file:
-        for row in file.read().split(b"\n")[:-1]:
-            if row.startswith(b"= "):
-                rows = found.setdefault(row[2:].decode(errors="replace"), [])
-            else:
-                rows.append(row)
+    for row in part_of("keep_cases", name, "runs"):
+        if row.startswith("= "):
+            rows = found.setdefault(row[2:], [])
+        else:
+            rows.append(row.encode())
     return found
 
 
@@ -50,7 +48,7 @@ def cases():
         words, script = (), b""
         for row in rows:
             if row and not row.startswith(b"#"):
-                more_words, more = part_of(row)
+                more_words, more = added_by(row)
                 words, script = words + more_words, script + more
         *answers, ending = answered[name]
         status, _, said = ending.removeprefix(b"-> ").partition(b" ")

@@ -1,31 +1,48 @@
-//! Runs each case of the table on its standard input through the program `keepd`, and prints what it answers, its exit
-//! status and what it says on standard error.
-//!
-//! A line of the table is `= NAME`, which begins a case, `- WORD`, a word behind the program's name, `& DIR`, a folder that
-//! another run has meanwhile, `f PATH HEX`, a file that is put there first, or a part of the script: `| TEXT` a line of it,
-//! `* N TEXT` a text N times, `x HEX` bytes. Empty lines and `#` are passed over. The folders that cases name lie in
-//! `data/`; what a case does there stays for the next one.
+//! Answers tables of what the program's lines cost, of scripts over shelves, and of the program's runs. A line
+//! `== TABLE` names the table whose lines follow, and answers with itself.
 #![tactic(auto)]
 
-mod case;
+mod answering;
+mod costs;
+mod runs;
+mod shelves;
 
-use case::Case;
-use std::io::{self, BufRead, BufReader, BufWriter, Write};
+use anyhow::{Result, anyhow};
+use std::alloc::AllocError;
 
-fn main(rt: HostRuntime) -> io::Result<()> {
+/// Answers the lines of the table that this head names. Before the first head there are none.
+fn answer_part(rt: &HostRuntime, head: &str, lines: &[String]) -> Result<()> {
+    if head.is_empty() && lines.is_empty() {
+        return Ok(());
+    }
+    println!(rt; "{head}")?;
+    match head {
+        "== costs" => costs::answer(rt, lines)?,
+        "== shelves" => shelves::answer(rt, lines)?,
+        "== runs" => runs::answer(rt, lines)?,
+        _ => return Err(anyhow!("no such table")),
+    }
+    Ok(())
+}
+
+fn add(lines: &mut Vec<String>, line: String) -> Result<(), AllocError> {
+    lines.push(line)?;
+    Ok(())
+}
+
+fn main(rt: HostRuntime) -> Result<()> {
     let alloc = rt.alloc();
-    let reader = BufReader::new(alloc, rt.stdin())?;
-    let mut writer = BufWriter::new(alloc, rt.stdout())?;
-    let mut case = Case::new(alloc);
-    for row in reader.lines(alloc) {
-        let row = row?;
-        if let Some(name) = row.strip_prefix("= ") {
-            case.run(&rt, &mut writer)?;
-            case.begin(alloc, name)?;
+    let mut head = String::new(alloc);
+    let mut lines = Vec::new(alloc);
+    for line in rt.lines(alloc) {
+        let line = line?;
+        if line.starts_with("== ") {
+            answer_part(&rt, head.as_str(), &lines)?;
+            lines.clear();
+            head = line;
         } else {
-            case.add(&rt, row.as_str())?;
+            add(&mut lines, line)?;
         }
     }
-    case.run(&rt, &mut writer)?;
-    writer.flush()
+    answer_part(&rt, head.as_str(), &lines)
 }
