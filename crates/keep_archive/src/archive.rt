@@ -125,9 +125,14 @@ impl Archive {
         Ok(())
     }
 
-    /// Ends the file that is being read: it is a node of the folder that is open. `BadPath` and `SamePathTwice` as of
-    /// a folder; then the file isn't ended.
-    pub fn end_file(&mut self, name: String, others: Carried) -> Result<(), PlanError>
+    /// Ends the file that is being read: it is a node of the folder that is open. A last piece that wasn't hashed is, by
+    /// this. `BadPath` and `SamePathTwice` as of a folder; then the file isn't ended.
+    pub fn end_file<H: Hashing>(
+        &mut self,
+        name: String,
+        others: Carried,
+        hashing: &mut H,
+    ) -> Result<(), PlanError>
         ensures { Leaves (node_refusal (string_bytes name))
             (EndsFile (string_bytes name) (carried_view others))
             (archive_view self.old) (archive_view self.new) result }
@@ -145,7 +150,7 @@ impl Archive {
             begun,
             blobs,
         } = going;
-        let (content, begun, blobs) = begun.end(alloc, blobs)?;
+        let (content, begun, blobs) = begun.end(alloc, blobs, hashing)?;
         let kind = kind_of_file(alloc, &content)?;
         let place = place.add(node_of(name, kind, others))?;
         self.going = Some(Going {

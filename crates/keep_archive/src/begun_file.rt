@@ -6,7 +6,7 @@ ghost use Rattle.keep_names.specs.declared.id.Id as the_id;
 use crate::blobs::Blobs;
 use crate::cut_bytes::CutBytes;
 use crate::held::HeldBlob;
-use crate::pieces::{HashedPieces, hashed_pieces, hold_pieces};
+use crate::pieces::{HashedPieces, hashed_pieces, hold_pieces, last_id};
 use keep_build::Cut;
 use keep_catalog::Hashing;
 use keep_names::Id;
@@ -75,10 +75,11 @@ impl Begun {
     }
 
     /// The pieces of the file that was read, and what is there afterwards.
-    pub(crate) fn end(
+    pub(crate) fn end<H: Hashing>(
         self,
         alloc: Global,
         blobs: Blobs,
+        hashing: &mut H,
     ) -> Result<(Vec<Id>, Begun, Blobs), AllocError>
         ensures content { IfOk result (λ made. made.0.items ≡ content_of (begun_view self)) }
         ensures ended { IfOk result (λ made. begun_view made.1 ≡ ended (begun_view self)) }
@@ -95,7 +96,8 @@ impl Begun {
         if rest.is_empty() {
             return Ok((content, begun, blobs));
         }
-        let held = HeldBlob::last_piece(rest, hash);
+        let id = last_id(alloc, &rest, hash, hashing)?;
+        let held = HeldBlob::piece(id, rest);
         content.push(held.blob.id)?;
         let blobs = blobs.hold(held)?;
         Ok((content, begun, blobs))

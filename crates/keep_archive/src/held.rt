@@ -1,6 +1,5 @@
-ghost use Rattle.std.specs.Prelude.{◌≡◌, Some, false};
+ghost use Rattle.std.specs.Prelude.{◌≡◌, false};
 ghost use Rattle.keep_names.specs.Sha256.{sha256};
-ghost use Rattle.keep_names.specs.declared.id.Id as the_id;
 ghost use Rattle.keep_build.specs.Blobs.{is_full};
 
 use keep_catalog::Hashing;
@@ -47,19 +46,6 @@ impl HeldBlob {
                 blob_type: BlobType::Content,
             },
             bytes,
-        }
-    }
-
-    /// The piece of a file that has this id, which is made where it isn't known.
-    pub(crate) fn last_piece(bytes: Vec<u8>, id: Option<Id>) -> HeldBlob
-        requires own { (known : the_id.Id) → id ≡ Some known → known.0 ≡ sha256 bytes.items }
-        requires fits { is_full (piece_data bytes.items) ≡ false }
-        ensures value { held_view result ≡ piece_data bytes.items }
-        ensures name { result.blob ≡ blob_id_of (piece_data bytes.items) }
-    {
-        match id {
-            Some(id) => HeldBlob::piece(id, bytes),
-            None => HeldBlob::of(BlobType::Content, bytes),
         }
     }
 

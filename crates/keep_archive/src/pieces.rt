@@ -9,7 +9,7 @@ ghost use Rattle.keep_archive.specs.Steps.{holding, piece};
 use crate::blobs::Blobs;
 use crate::held::HeldBlob;
 use keep_catalog::Hashing;
-use keep_names::Id;
+use keep_names::{Id, id_of};
 use std::alloc::{AllocError, Global};
 
 /// The ids of pieces of a file that are whole.
@@ -65,6 +65,26 @@ pub(crate) fn hashed_pieces<H: Hashing>(
     let mut ids = hashing.ids(alloc, &texts)?;
     let rest = ids.pop();
     Ok(HashedPieces { ids, rest })
+}
+
+/// The id of the last piece of a file, which is hashed where it wasn't.
+pub(crate) fn last_id<H: Hashing>(
+    alloc: Global,
+    bytes: &[u8],
+    known: Option<Id>,
+    hashing: &mut H,
+) -> Result<Id, AllocError>
+    requires { (id : the_id.Id) → known ≡ Some id → id.0 ≡ sha256 bytes.now }
+    ensures { IfOk result (λ id. id.0 ≡ sha256 bytes.now) }
+{
+    if let Some(id) = known {
+        return Ok(id);
+    }
+    let mut ids = hashing.ids(alloc, &[bytes])?;
+    match ids.pop() {
+        Some(id) => Ok(id),
+        None => Ok(id_of(bytes)),
+    }
 }
 
 /// The bytes of each piece.

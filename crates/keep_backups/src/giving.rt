@@ -42,7 +42,8 @@ impl<B: Begun, K: Keeps, H: Hashing + Copy> Receives for Intake<'_, '_, B, K, H>
     fn end_file(&mut self, name: &str, sight: &Stat) -> Result<(), Stop> {
         let name = name_of(self.alloc, name)?;
         let others = others_of(self.alloc, sight)?;
-        let done = self.archive.end_file(name, others);
+        let mut hashing = self.lent.hashing;
+        let done = self.archive.end_file(name, others, &mut hashing);
         self.heed(done)
     }
 

@@ -10,8 +10,8 @@ use std::alloc::{AllocError, Global};
 /// How many folders lead to a node at most.
 const MOST_LEVELS: u16 = 256;
 
-/// How many bytes are read at once.
-const PIECE: usize = 524_288;
+/// How many bytes are read at once. They are hashed together.
+const PIECE: usize = 1_048_576;
 
 /// A walk over a source, which gives an archive what it meets.
 #[derive(Drop)]
