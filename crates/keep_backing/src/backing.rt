@@ -7,60 +7,101 @@ use keep_backup::BackupFacts;
 use keep_backups::{BackedUp, NotBackedUp, Wish, back_up};
 use keep_book::Book;
 use keep_catalog::Hashing;
-use keep_host_source::{HostSource, host_name, user_name};
+use keep_host_source::{host_name, user_name};
 use keep_ledger::Refusal;
 use keep_plan::PlanError;
 use keep_progress::{CountedSource, Meter};
 use keep_run::{Failure, Left, Run, left_value, name_left, patterns_of, refused, require_sure};
 use keep_shelf::Shelf;
-use keep_sources::{Known, Scope, Why};
+use keep_sources::{Known, Scope, Source, Why};
 use keep_tables::utc_time;
 use keep_words::Backup;
 use serde_json::json;
+use std::alloc::Global;
 use std::collections::HashMap;
 use std::io;
+use std::sync::Arc;
 
-/// `keep backup`. Where it is tried alone, the book is one over a copy in memory. This hashes what can be hashed together.
-pub fn backup<S: Shelf, H: Hashing + Copy>(
-    run: &Run<'_>,
-    hashing: H,
-    book: &mut Book<S>,
-    words: &Backup<'_>,
-) -> Result<(), Failure>
-    requires { HasSums book.old }
-{
-    let facts = facts_of(run, words)?;
-    let known = unchanged(run, book, &facts)?;
-    match walked(run, hashing, book, words, &facts, known)? {
-        // A file that was known lacks a piece by now: all are read.
-        Err(NotBackedUp::Unplanned(PlanError::Reach(_))) => {
-            let none = HashMap::new(run.alloc);
-            let came = walked(run, hashing, book, words, &facts, none)?;
-            print_end(run, came, words.dry_run)
-        }
-        came => print_end(run, came, words.dry_run),
+/// What a backup takes of the machine's files, and what its snapshot says of itself.
+#[derive(Drop)]
+pub struct Asked {
+    facts: BackupFacts,
+    job: Arc<Scope, Global>,
+}
+
+impl Asked {
+    /// What is taken, from the root of the machine's files on.
+    pub fn job(&self) -> &Arc<Scope, Global> {
+        &self.job
+    }
+
+    fn of(
+        run: &Run<'_>,
+        words: &Backup<'_>,
+        facts: BackupFacts,
+        known: HashMap<String, Known>,
+    ) -> Result<Asked, Failure> {
+        let job = job_of(run, words, facts.paths.as_slice(), known)?;
+        let job = Arc::new(run.alloc, job)?;
+        Ok(Asked { facts, job })
     }
 }
 
-/// Takes in what the words name. Files that are known and unchanged aren't read.
-fn walked<S: Shelf, H: Hashing + Copy>(
+/// What the words ask for. Files that the last snapshot of this host and these paths has unchanged are known.
+pub fn asked_for<S: Shelf>(
     run: &Run<'_>,
+    book: &Book<S>,
+    words: &Backup<'_>,
+) -> Result<Asked, Failure> {
+    let facts = facts_of(run, words)?;
+    let known = unchanged(run, book, &facts)?;
+    Asked::of(run, words, facts, known)
+}
+
+/// `keep backup` of what is asked for of this source. Where it is tried alone, the book is one over a copy in memory. This
+/// hashes what can be hashed together.
+///
+/// Where a file that was known lacks a piece by now there is no snapshot, and what is handed back is to be asked for: of
+/// it no file is known.
+pub fn backup<S: Shelf, R: Source, H: Hashing + Copy>(
+    run: &Run<'_>,
+    source: R,
     hashing: H,
     book: &mut Book<S>,
     words: &Backup<'_>,
-    facts: &BackupFacts,
-    known: HashMap<String, Known>,
+    asked: Asked,
+) -> Result<Option<Asked>, Failure>
+    requires { HasSums book.old }
+    ensures { HasSums book.new }
+{
+    let came = walked(run, source, hashing, book, words, &asked)?;
+    let is_gone = matches!(&came, Err(NotBackedUp::Unplanned(PlanError::Reach(_))));
+    let Asked { facts, job } = asked;
+    if is_gone && !job.known.is_empty() {
+        let anew = Asked::of(run, words, facts, HashMap::new(run.alloc))?;
+        return Ok(Some(anew));
+    }
+    print_end(run, came, words.dry_run)?;
+    Ok(None)
+}
+
+/// Takes in what is asked for. Files that are known and unchanged aren't read.
+fn walked<S: Shelf, R: Source, H: Hashing + Copy>(
+    run: &Run<'_>,
+    source: R,
+    hashing: H,
+    book: &mut Book<S>,
+    words: &Backup<'_>,
+    asked: &Asked,
 ) -> Result<Result<BackedUp, NotBackedUp>, Failure>
     requires { HasSums book.old }
     ensures { HasSums book.new }
 {
     let tags = texts_of(run, words.tags.as_slice())?;
-    let job = job_of(run, words, facts.paths.as_slice(), known)?;
-    let source = HostSource::new(run.rt, "/")?;
     let source = CountedSource::new(source, Meter::new(run.rt, "backup", "files"));
     let wish = Wish {
-        job: &job,
-        facts,
+        job: &asked.job,
+        facts: &asked.facts,
         tags: tags.as_slice(),
         cut: run.settings().cut,
     };

@@ -5,4 +5,4 @@ mod backing;
 mod places;
 mod unchanged;
 
-pub use backing::backup;
+pub use backing::{Asked, asked_for, backup};

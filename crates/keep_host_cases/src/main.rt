@@ -13,16 +13,21 @@ mod words;
 
 use anyhow::{Result, anyhow};
 use std::alloc::AllocError;
+use std::sync::Wait;
+use std::thread::Threads;
 
 /// Answers the lines of the table that this head names. Before the first head there are none.
-fn answer_part(rt: &HostRuntime, head: &str, lines: &[String]) -> Result<()> {
+fn answer_part<T>(rt: &HostRuntime, threads: &T, head: &str, lines: &[String]) -> Result<()>
+where
+    T: Wait + Threads + Clone + Drop + Send + 'static,
+{
     if head.is_empty() && lines.is_empty() {
         return Ok(());
     }
     println!(rt; "{head}")?;
     match head {
         "== trees" => trees::answer(rt, lines)?,
-        "== sources" => sources::answer(rt, lines)?,
+        "== sources" => sources::answer(rt, threads, lines)?,
         "== host" => host::answer(rt)?,
         "== targets" => targets::answer(rt, lines)?,
         "== prints" => prints::answer(rt, lines)?,
@@ -44,12 +49,12 @@ fn main(rt: HostRuntime) -> Result<()> {
     for line in rt.lines(alloc) {
         let line = line?;
         if line.starts_with("== ") {
-            answer_part(&rt, head.as_str(), &lines)?;
+            answer_part(&rt, &rt, head.as_str(), &lines)?;
             lines.clear();
             head = line;
         } else {
             add(&mut lines, line)?;
         }
     }
-    answer_part(&rt, head.as_str(), &lines)
+    answer_part(&rt, &rt, head.as_str(), &lines)
 }

@@ -7,6 +7,8 @@ use std::fmt;
 /// Why a case has no other answer.
 #[derive(Clone, Copy)]
 pub(crate) enum No {
+    /// Where another thread goes ahead it is another.
+    Ahead,
     /// The line is no case.
     Case,
     Memory,
@@ -45,6 +47,7 @@ impl From<Stop> for No {
 impl fmt::Display for No {
     fn fmt<W: fmt::Write>(&self, f: &mut fmt::Formatter<W>) -> fmt::Result {
         f.write_str(match self {
+            No::Ahead => "ahead",
             No::Case => "case",
             No::Memory => "memory",
         })

@@ -1,4 +1,5 @@
-//! Answers a table of sources, one a line, with what an archive is given of each, and what is named.
+//! Answers a table of sources, one a line, with what an archive is given of each, and what is named. A source that another
+//! thread goes through ahead has to answer the same.
 
 mod copy;
 mod memory_source;
@@ -14,12 +15,19 @@ use crate::sources::said_entry::{bare, entry_of};
 use crate::sources::source_entry::Entry;
 use crate::sources::source_events::Events;
 use crate::sources::source_words::{text_of, words_in};
+use keep_ahead::{Ahead, AheadSource, HashedAhead};
+use keep_hashing::OneByOne;
 use keep_names::parse_id;
 use keep_patterns::parse_pattern;
-use keep_sources::{Known, Moment, Scope, StatKind, Taking};
+use keep_sources::{Known, Moment, Scope, Source, StatKind, Taking};
 use std::alloc::Global;
 use std::collections::{BTreeMap, HashMap};
 use std::io;
+use std::sync::{Arc, Wait};
+use std::thread::Threads;
+
+/// How many bytes are hashed together ahead.
+const CUT: usize = 65_536;
 
 /// What a line asks for: a source, and what is to be taken of it.
 #[derive(Drop)]
@@ -30,9 +38,12 @@ struct Case {
 }
 
 /// Answers the lines of the table.
-pub(crate) fn answer(rt: &HostRuntime, lines: &[String]) -> io::Result<()> {
+pub(crate) fn answer<T>(rt: &HostRuntime, threads: &T, lines: &[String]) -> io::Result<()>
+where
+    T: Wait + Threads + Clone + Drop + Send + 'static,
+{
     for line in lines {
-        match answer_line(rt.alloc(), line.as_str()) {
+        match answer_line(rt.alloc(), threads, line.as_str()) {
             Ok(text) => println!(rt; "{text}")?,
             Err(no) => println!(rt; "no {no}")?,
         }
@@ -41,19 +52,27 @@ pub(crate) fn answer(rt: &HostRuntime, lines: &[String]) -> io::Result<()> {
 }
 
 /// The answer to a line. An empty line and a comment are their own.
-fn answer_line(alloc: Global, line: &str) -> Result<String, No> {
+fn answer_line<T>(alloc: Global, threads: &T, line: &str) -> Result<String, No>
+where
+    T: Wait + Threads + Clone + Drop + Send + 'static,
+{
     if line.is_empty() || line.starts_with('#') {
         return Ok(String::from_str(alloc, line)?);
     }
-    let case = read_case(alloc, line)?;
-    walked(alloc, case)
+    let Case { entries, job, held } = read_case(alloc, line)?;
+    let source = MemorySource::new(alloc, entries);
+    let text = walked(alloc, source, &job, held)?;
+    if walked_ahead(alloc, threads, line)?.as_str() == text.as_str() {
+        Ok(text)
+    } else {
+        Err(No::Ahead)
+    }
 }
 
-fn walked(alloc: Global, case: Case) -> Result<String, No> {
-    let Case { entries, job, held } = case;
-    let source = MemorySource::new(alloc, entries);
+/// What is given of the source, and what is named.
+fn walked<S: Source>(alloc: Global, source: S, job: &Scope, held: u64) -> Result<String, No> {
     let mut taking = Taking::new(alloc, source, Events::new(alloc, held))?;
-    taking.take(&job)?;
+    taking.take(job)?;
     let mut skips = Events::new(alloc, 0);
     for skipped in taking.skipped() {
         skips.add_skip(skipped.path.as_str(), skipped.why)?;
@@ -64,6 +83,25 @@ fn walked(alloc: Global, case: Case) -> Result<String, No> {
         events.add(skips.as_str())?;
     }
     Ok(events.into_text())
+}
+
+/// The same, where another thread goes ahead.
+fn walked_ahead<T>(alloc: Global, threads: &T, line: &str) -> Result<String, No>
+where
+    T: Wait + Threads + Clone + Drop + Send + 'static,
+{
+    let Case { entries, job, held } = read_case(alloc, line)?;
+    let hashed = HashedAhead::new(alloc);
+    let job = Arc::new(alloc, job)?;
+    let ahead = Ahead {
+        source: MemorySource::new(alloc, entries),
+        job: Arc::try_clone(&job)?,
+        hashing: OneByOne,
+        cut: CUT,
+    };
+    let source = MemorySource::new(alloc, read_case(alloc, line)?.entries);
+    let source = AheadSource::new(alloc, threads.clone()?, source, ahead, &hashed)?;
+    walked(alloc, source, &job, held)
 }
 
 fn read_case(alloc: Global, line: &str) -> Result<Case, No> {

@@ -6,11 +6,13 @@ use keep_names::{Id, id_of};
 use rayon::prelude::*;
 use std::alloc::{AllocError, Global};
 use std::marker::PhantomData;
+use std::sync::Wait;
 use std::thread::Threads;
 
 /// Hashes in as many threads as there are processors.
 ///
-/// It is the leave to start threads that a handle gives, without the handle: it has no bytes, and each thread may have it.
+/// It is the leave to start threads, and to wait for them, that a handle gives, without the handle: it has no bytes, and each
+/// thread may have it.
 pub struct Processors<R> {
     of: PhantomData<R>,
 }
@@ -31,6 +33,8 @@ impl<R> Clone for Processors<R> {
 impl<R> Copy for Processors<R> {}
 
 impl<R: Threads> Threads for Processors<R> {}
+
+impl<R: Wait> Wait for Processors<R> {}
 
 impl<R: Threads + Send + Sync> Hashing for Processors<R> {
     fn begin(&mut self, _bytes: u64) {}

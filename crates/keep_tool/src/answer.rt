@@ -12,9 +12,11 @@ use keep_outcomes::{Way, print_effects, print_outcome, print_pruned, print_taken
 use keep_run::{Failure, Run, meant, numbers_text, refused, require_sure};
 use keep_shelf::Shelf;
 use keep_words::{Chosen, Command};
+use std::sync::Wait;
+use std::thread::Threads;
 
 /// Does what the command asks of the book, and prints what came of it; or prints what is asked for.
-pub(crate) fn answer<S: Shelf, H: Hashing + Copy>(
+pub(crate) fn answer<S: Shelf, H: Hashing + Wait + Threads + Copy + Send + 'static>(
     run: &Run<'_>,
     hashing: H,
     book: &mut Book<S>,

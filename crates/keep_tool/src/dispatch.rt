@@ -12,10 +12,15 @@ use keep_words::{Command, Words};
 use std::alloc::Global;
 use std::env::{self, VarError};
 use std::io::ErrorKind;
+use std::sync::Wait;
+use std::thread::Threads;
 use std::time::Clock;
 
 /// Does what the words of the process say. Blobs are hashed by this where many are.
-pub(crate) fn keep<H: Hashing + Copy>(rt: &HostRuntime, hashing: H) -> Result<(), Failure> {
+pub(crate) fn keep<H: Hashing + Wait + Threads + Copy + Send + 'static>(
+    rt: &HostRuntime,
+    hashing: H,
+) -> Result<(), Failure> {
     let alloc = rt.alloc();
     let words: Vec<String> = match env::args(rt) {
         Ok(words) => words.collect(alloc)?,
@@ -39,7 +44,7 @@ pub(crate) fn keep<H: Hashing + Copy>(rt: &HostRuntime, hashing: H) -> Result<()
 }
 
 /// Does what these words say.
-fn run_words<H: Hashing + Copy>(
+fn run_words<H: Hashing + Wait + Threads + Copy + Send + 'static>(
     rt: &HostRuntime,
     hashing: H,
     words: Words<'_>,
@@ -58,7 +63,7 @@ fn run_words<H: Hashing + Copy>(
 
 /// Does what the command says, over the repository that the words name, or the variable `KEEP_REPOSITORY`. A rescue names
 /// its own.
-fn run_command<H: Hashing + Copy>(
+fn run_command<H: Hashing + Wait + Threads + Copy + Send + 'static>(
     rt: &HostRuntime,
     hashing: H,
     repo: Option<&str>,

@@ -9,7 +9,8 @@ use keep_progress::CountedFiles;
 use keep_run::{Failure, Run};
 use keep_shelf::Shelf;
 use keep_words::Command;
-use std::thread;
+use std::sync::Wait;
+use std::thread::{self, Threads};
 use std::time::Duration;
 
 /// How often a second the lock of a folder is asked for.
@@ -17,7 +18,7 @@ const TRIES: u64 = 10;
 
 /// Does what the command says over the repository's folder. One that only looks works on what stands there, taken into
 /// memory, and lets the folder go first. How far the opening is is said until there is a book.
-pub(crate) fn over_folder<H: Hashing + Copy>(
+pub(crate) fn over_folder<H: Hashing + Wait + Threads + Copy + Send + 'static>(
     run: &Run<'_>,
     hashing: H,
     command: &Command<'_>,
@@ -50,7 +51,7 @@ fn only_looks(command: &Command<'_>) -> bool {
 }
 
 /// Does what the command says over the book of what stands on the shelf. No file is counted once it is there.
-fn over_shelf<S: Shelf, H: Hashing + Copy>(
+fn over_shelf<S: Shelf, H: Hashing + Wait + Threads + Copy + Send + 'static>(
     run: &Run<'_>,
     mut hashing: H,
     files: &CountedFiles<'_>,

@@ -1,7 +1,7 @@
 ghost use Rattle.keep_book.specs.Armed.{HasSums};
 
+use crate::files_ahead::back_up;
 use crate::hashing::CountedHashing;
-use keep_backing::backup;
 use keep_book::Book;
 use keep_catalog::Hashing;
 use keep_outcomes::show;
@@ -10,9 +10,11 @@ use keep_run::{Failure, Run};
 use keep_shelf::Shelf;
 use keep_showing::{check, compare, find, graph, history, list_nodes, list_snapshots};
 use keep_words::Command;
+use std::sync::Wait;
+use std::thread::Threads;
 
 /// Prints what the command asks for.
-pub(crate) fn look<S: Shelf, H: Hashing + Copy>(
+pub(crate) fn look<S: Shelf, H: Hashing + Wait + Threads + Copy + Send + 'static>(
     run: &Run<'_>,
     hashing: H,
     book: &mut Book<S>,
@@ -28,7 +30,7 @@ pub(crate) fn look<S: Shelf, H: Hashing + Copy>(
         Command::History { last } => history(run, book, *last),
         Command::Show { change } => show(run, book, *change),
         Command::Graph { change, dot } => graph(run, book, *change, *dot),
-        Command::Backup(words) => backup(run, hashing, book, words),
+        Command::Backup(words) => back_up(run, hashing, book, words),
         Command::Restore(words) => restore_snapshot(run, book, words),
         Command::Dump { snapshot, path } => dump_file(run, book, snapshot, path),
         Command::Snapshots { chosen, latest } => list_snapshots(run, book, chosen, *latest),

@@ -3,6 +3,7 @@
 
 mod answer;
 mod dispatch;
+mod files_ahead;
 mod folder_opening;
 mod hashing;
 mod looking;

@@ -1,0 +1,13 @@
+//! A source that is gone through ahead, in a thread of its own: what its calls answer is there before it is asked for, and
+//! long files are hashed by then.
+#![tactic(auto)]
+
+mod ahead_source;
+mod answer;
+mod brief;
+mod going;
+mod hashed;
+mod quiet;
+
+pub use ahead_source::{Ahead, AheadSource};
+pub use hashed::{AheadHashing, HashedAhead};
