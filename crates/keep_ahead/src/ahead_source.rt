@@ -3,12 +3,12 @@ ghost use Rattle.keep_ahead.specs.Answer.{IsTold, merely};
 
 use crate::answer::{Answer, ReadBytes, Told};
 use crate::brief::brief;
-use crate::going::{Going, LONG_READ};
+use crate::going::LEAVE;
 use crate::hashed::HashedAhead;
-use crate::quiet::Quiet;
-use crossbeam_channel::{Receiver, Sender, bounded};
+use crate::telling::{Telling, go};
+use crossbeam_channel::{Receiver, Sender, bounded, unbounded};
 use keep_hashing::Hashing;
-use keep_sources::{FolderListing, Scope, Source, Stat, Taking, Why};
+use keep_sources::{FolderListing, Scope, Source, Stat, Why};
 use std::alloc::{AllocError, Global};
 use std::sync::{Arc, Wait};
 use std::thread::{self, JoinHandle, Threads};
@@ -16,13 +16,13 @@ use std::thread::{self, JoinHandle, Threads};
 /// How many answers are held ahead at most.
 const MOST_ANSWERS: usize = 256;
 
-/// How many long reads are held ahead at most.
-const MOST_LONG_READS: usize = 4;
+/// How many leaves there are: as many bytes may be held ahead as a part of a backup has, and a read more.
+const MOST_LEAVES: usize = 80;
 
 /// How a source is gone through ahead.
 #[derive(Drop)]
 pub struct Ahead<S, H> {
-    /// The same files as the source that is asked, by itself.
+    /// A source of its own, of the files that will be asked for.
     pub source: S,
     /// What will be asked for.
     pub job: Arc<Scope, Global>,
@@ -57,14 +57,14 @@ impl<'a, S: Source + Send + 'static, R: Wait + Threads + Clone + Drop + Send + '
     R,
 > {
     /// This source, while another thread goes ahead of it. Where no thread can be started it is asked itself.
-    pub fn new<H: Hashing + Send + Drop + 'static>(
+    pub fn new<H: Hashing + Copy + Send + Drop + 'static>(
         alloc: Global,
         rt: R,
         source: S,
         ahead: Ahead<S, H>,
         hashed: &'a HashedAhead,
     ) -> Result<AheadSource<'a, S, R>, AllocError> {
-        let coming = begun(alloc, &rt, ahead)?;
+        let coming = begun(alloc, &rt, ahead, hashed)?;
         Ok(AheadSource {
             rt,
             source,
@@ -80,51 +80,34 @@ fn begun<S, R, H>(
     alloc: Global,
     rt: &R,
     ahead: Ahead<S, H>,
+    hashed: &HashedAhead,
 ) -> Result<Option<Coming<S>>, AllocError>
 where
     S: Source + Send + 'static,
     R: Wait + Threads + Clone + Drop + Send + 'static,
-    H: Hashing + Send + Drop + 'static,
+    H: Hashing + Copy + Send + Drop + 'static,
 {
-    let Ahead {
-        source,
-        job,
-        hashing,
-        cut,
-    } = ahead;
-    let (sender, answers) = bounded(alloc, MOST_ANSWERS)?;
-    let (leaves, receiver) = bounded(alloc, MOST_LONG_READS)?;
-    for _ in 0..MOST_LONG_READS {
+    let (answers, told) = bounded(alloc, MOST_ANSWERS)?;
+    let (leaves, given) = bounded(alloc, MOST_LEAVES)?;
+    let (packs, coming) = unbounded(alloc)?;
+    for _ in 0..MOST_LEAVES {
         let _given = leaves.send(rt, ());
     }
-    let going = Going {
-        alloc,
-        rt: rt.clone()?,
-        source,
-        hashing,
-        cut,
-        answers: Some(sender),
-        leaves: receiver,
+    let telling = Telling {
+        answers,
+        leaves: given,
+        packs,
     };
-    match thread::spawn(rt, move || go(alloc, going, &job)) {
-        Ok(thread) => Ok(Some(Coming {
-            answers,
-            leaves,
-            thread,
-        })),
-        Err(_) => Ok(None),
-    }
-}
-
-/// Goes through all that will be asked for.
-fn go<S: Source, R: Wait + Drop, H: Hashing + Drop>(
-    alloc: Global,
-    going: Going<S, R, H>,
-    job: &Scope,
-) {
-    if let Ok(mut taking) = Taking::new(alloc, going, Quiet) {
-        let _gone = taking.take(job);
-    }
+    let own = rt.clone()?;
+    let Ok(thread) = thread::spawn(rt, move || go(alloc, own, ahead, telling)) else {
+        return Ok(None);
+    };
+    hashed.expect_packs(coming);
+    Ok(Some(Coming {
+        answers: told,
+        leaves,
+        thread,
+    }))
 }
 
 impl<S: Source, R: Wait + Threads + Drop> AheadSource<'_, S, R> {
@@ -149,10 +132,12 @@ impl<S: Source, R: Wait + Threads + Drop> AheadSource<'_, S, R> {
         }
     }
 
-    /// Has one more long read come.
-    fn give_leave(&self) {
+    /// Has as many bytes more come.
+    fn give_leave(&self, count: usize) {
         if let Some(coming) = &self.coming {
-            let _given = coming.leaves.send(&self.rt, ());
+            for _ in 0..count / LEAVE {
+                let _given = coming.leaves.send(&self.rt, ());
+            }
         }
     }
 
@@ -181,9 +166,7 @@ impl<S: Source, R: Wait + Threads + Drop> AheadSource<'_, S, R> {
         if count > 0 {
             self.hashed.put(hashed);
         }
-        if count >= LONG_READ {
-            self.give_leave();
-        }
+        self.give_leave(count);
         count
     }
 }

@@ -25,7 +25,7 @@ pub(crate) fn brief(seen: &Stat) -> Stat {
     }
 }
 
-/// The same names, to be gone through.
+/// A copy of the names, to be gone through.
 pub(crate) fn names_of(
     alloc: Global,
     listing: &Result<FolderListing, Why>,

@@ -3,16 +3,21 @@ ghost use Rattle.keep_ahead.specs.Answer.{IsTold};
 
 use crate::answer::{Answer, ReadBytes, Told};
 use crate::brief::{brief, names_of};
-use crate::hashed::hashed_pieces;
+use crate::hashed::{HashedPiece, hashed_pieces};
 use crossbeam_channel::{Receiver, Sender};
 use keep_hashing::{Hashing, OneByOne};
 use keep_sources::{FolderListing, Source, Stat, Why};
 use std::alloc::{AllocError, Global};
+use std::cell::Cell;
 use std::marker::PhantomData;
+use std::rc::Rc;
 use std::sync::Wait;
 
-/// A read of so many bytes is long: only a few of them are held ahead.
-pub(crate) const LONG_READ: usize = 1_048_576;
+/// Of so many bytes of a read each is held ahead by a leave of its own.
+pub(crate) const LEAVE: usize = 1_048_576;
+
+/// The pieces of what was read last.
+pub(crate) type LastRead = Rc<Cell<Vec<HashedPiece>>, Global>;
 
 /// The calls of a source, made ahead of who asks for them: what each answers is sent there. Where that can't be, each call
 /// fails from then on, so that the walk ends.
@@ -26,8 +31,9 @@ pub(crate) struct Going<S: Source, R, H> {
     pub(crate) cut: usize,
     /// None where nothing is sent any more.
     pub(crate) answers: Option<Sender<Told<S>, Global>>,
-    /// Who asks gives leave for each long read.
+    /// Who asks gives leave for what is held ahead.
     pub(crate) leaves: Receiver<(), Global>,
+    pub(crate) last: LastRead,
     pub ghost some: { 0 < cut },
 }
 
@@ -73,8 +79,10 @@ impl<S: Source, R: Wait + Drop, H: Hashing + Drop> Source for Going<S, R, H> {
                 return Err(why);
             }
         };
-        if count >= LONG_READ && self.leaves.recv(&self.rt).is_err() {
-            return Err(self.end());
+        for _ in 0..count / LEAVE {
+            if self.leaves.recv(&self.rt).is_err() {
+                return Err(self.end());
+            }
         }
         let Ok(read) = self.read_bytes(offset, &piece[..count]) else {
             return Err(self.end());
@@ -121,11 +129,12 @@ impl<S: Source, R: Wait + Drop, H: Hashing + Drop> Going<S, R, H> {
         if !bytes.is_empty() && offset.is_multiple_of(self.cut as u64) {
             pieces = pieces_of(self.alloc, &bytes, self.cut)?;
         }
-        let hashed = if bytes.len() <= LONG_READ {
+        let hashed = if bytes.len() <= LEAVE {
             hashed_pieces(self.alloc, pieces, &mut OneByOne)?
         } else {
             hashed_pieces(self.alloc, pieces, &mut self.hashing)?
         };
+        self.last.set(copies(self.alloc, &hashed)?);
         Ok(ReadBytes { bytes, hashed })
     }
 }
@@ -153,4 +162,13 @@ fn pieces_of(alloc: Global, bytes: &[u8], cut: usize) -> Result<Vec<Vec<u8>>, Al
         pieces.push(Vec::new(alloc))?;
     }
     Ok(pieces)
+}
+
+/// The pieces once more. Their bytes are shared.
+fn copies(alloc: Global, pieces: &[HashedPiece]) -> Result<Vec<HashedPiece>, AllocError> {
+    let mut copies = Vec::with_capacity(alloc, pieces.len())?;
+    for piece in pieces {
+        copies.push(piece.copy()?)?;
+    }
+    Ok(copies)
 }

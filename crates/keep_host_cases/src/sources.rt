@@ -85,7 +85,7 @@ fn walked<S: Source>(alloc: Global, source: S, job: &Scope, held: u64) -> Result
     Ok(events.into_text())
 }
 
-/// The same, where another thread goes ahead.
+/// What is given of the source, and what is named, where another thread goes ahead.
 fn walked_ahead<T>(alloc: Global, threads: &T, line: &str) -> Result<String, No>
 where
     T: Wait + Threads + Clone + Drop + Send + 'static,
