@@ -29,6 +29,10 @@ pub(crate) struct PacksAhead<R, H> {
     pub(crate) rt: R,
     pub(crate) hashing: H,
     pub(crate) last: LastRead,
+    /// How many bytes a whole piece of a file has.
+    pub(crate) cut: usize,
+    /// The shorter piece behind those of the file that is being read: it is held once the file ends.
+    pub(crate) rest: Option<HashedPiece>,
     pub(crate) seen: BTreeSet<Id>,
     /// The pack that isn't full yet.
     pub(crate) open: OpenPack,
@@ -41,9 +45,10 @@ pub(crate) struct PacksAhead<R, H> {
 }
 
 impl<R: Wait + Drop, H: Hashing + Drop> PacksAhead<R, H> {
-    /// Adds a piece of what was read, unless it came before.
+    /// Adds a piece of a file. One that came before is in no pack once more.
     fn add(&mut self, piece: HashedPiece) -> Result<(), AllocError> {
-        if piece.bytes.is_empty() || !self.seen.insert(piece.id)? {
+        self.held = self.held.saturating_add(piece.bytes.len() as u64);
+        if self.told.is_none() || !self.seen.insert(piece.id)? {
             return Ok(());
         }
         self.open.add(piece)?;
@@ -64,18 +69,18 @@ impl<R: Wait + Drop, H: Hashing + Drop> PacksAhead<R, H> {
         Ok(())
     }
 
-    /// Hashes the packs of a part together. Who asks for them is told before that, and waits for them.
+    /// Hashes the packs of a part together. Who asks for them is told first, and waits for them.
     fn end_part(&mut self) -> Result<(), AllocError> {
         let Some(told) = self.told.take() else {
             return Ok(());
         };
-        self.end_pack()?;
-        let packs = mem::replace(&mut self.packs, Vec::new(self.alloc));
         let (sender, coming) = bounded(self.alloc, 1)?;
         if told.send(&self.rt, coming).is_err() {
             return Ok(());
         }
         self.told = Some(told);
+        self.end_pack()?;
+        let packs = mem::replace(&mut self.packs, Vec::new(self.alloc));
         let hashed = hashed_pieces(self.alloc, packs, &mut self.hashing)?;
         let _sent = sender.send(&self.rt, hashed);
         Ok(())
@@ -99,22 +104,28 @@ impl<R: Wait + Drop, H: Hashing + Drop> Receives for PacksAhead<R, H> {
         Ok(())
     }
 
-    fn write(&mut self, bytes: &[u8]) -> Result<(), Stop> {
-        self.held = self.held.saturating_add(bytes.len() as u64);
+    fn write(&mut self, _bytes: &[u8]) -> Result<(), Stop> {
+        self.rest = None;
         let pieces = self.last.replace(Vec::new(self.alloc));
-        if self.told.is_some() {
-            for piece in pieces {
+        for piece in pieces {
+            if piece.bytes.len() == self.cut {
                 self.add(piece)?;
+            } else if !piece.bytes.is_empty() {
+                self.rest = Some(piece);
             }
         }
         Ok(())
     }
 
     fn end_file(&mut self, _name: &str, _sight: &Stat) -> Result<(), Stop> {
+        if let Some(rest) = self.rest.take() {
+            self.add(rest)?;
+        }
         Ok(())
     }
 
     fn drop_file(&mut self) -> Result<(), Stop> {
+        self.rest = None;
         Ok(())
     }
 

@@ -53,6 +53,8 @@ where
         rt: rt.clone()?,
         hashing,
         last: last.clone()?,
+        cut,
+        rest: None,
         seen: BTreeSet::new(alloc),
         open: OpenPack::new(alloc),
         packs: Vec::new(alloc),
