@@ -1,7 +1,12 @@
-ghost use Rattle.std.specs.Prelude.{◌≡◌, false, Err};
+ghost use Rattle.std.specs.Prelude.{◌≡◌, ◌≢◌, ℕ, List, false, Err, IfErr, IfOk, None, OnOk, map};
+ghost use Rattle.keep_backups.specs.Known as spec;
+ghost use Rattle.keep_backups.specs.Known.{known_at, known_behind, known_with};
+ghost use Rattle.keep_catalog.specs.declared.reach_error.ReachError.TheVariants.{Memory};
+ghost use Rattle.keep_nodes.specs.Entries.{entry_view};
+ghost use Rattle.keep_nodes.specs.Listed.{nodes_due};
 ghost use Rattle.keep_repo.specs.Repository.{is_filled};
 ghost use Rattle.keep_read.specs.Restored.{snapshot_facet};
-ghost use Rattle.keep_read.specs.declared.restore_error.RestoreError.TheVariants.{NoSnapshot};
+ghost use Rattle.keep_read.specs.declared.restore_error.RestoreError.TheVariants.{NoSnapshot, Reach};
 
 use crate::known_file::known_file;
 use crate::source_paths::source_path;
@@ -20,7 +25,10 @@ pub fn known_of(
     view: &View,
     snapshot: Id,
 ) -> Result<HashMap<String, Known>, RestoreError>
-    ensures { is_filled view.now.repo (snapshot_facet snapshot) ≡ false → result ≡ Err NoSnapshot }
+    ensures none { is_filled view.now.repo (snapshot_facet snapshot) ≡ false → result ≡ Err NoSnapshot }
+    ensures known { IfOk result (λ known. (path : List ℕ)
+        → known_at known path ≡ spec.known_of view.now.repo snapshot path) }
+    ensures refused { IfErr result (λ why. why ≢ Reach Memory → nodes_due view.now.repo snapshot ≡ Err why) }
 {
     let entries = nodes_of(alloc, view, snapshot)?;
     let known = known_in(alloc, &entries)?;
@@ -28,7 +36,10 @@ pub fn known_of(
 }
 
 /// The files of these nodes by their paths, as far as enough is known of them.
-fn known_in(alloc: Global, entries: &[PathNode]) -> Result<HashMap<String, Known>, AllocError> {
+fn known_in(alloc: Global, entries: &[PathNode]) -> Result<HashMap<String, Known>, AllocError>
+    ensures { IfOk result (λ known. (path : List ℕ)
+        → known_at known path ≡ known_behind None path (map entry_view entries.now)) }
+{
     let mut all = HashMap::new(alloc);
     for entry in entries {
         add(alloc, entry, &mut all)?;
@@ -37,11 +48,10 @@ fn known_in(alloc: Global, entries: &[PathNode]) -> Result<HashMap<String, Known
 }
 
 /// Adds a node, if it is a file of which enough is known.
-fn add(
-    alloc: Global,
-    entry: &PathNode,
-    all: &mut HashMap<String, Known>,
-) -> Result<(), AllocError> {
+fn add(alloc: Global, entry: &PathNode, all: &mut HashMap<String, Known>) -> Result<(), AllocError>
+    ensures { OnOk result ((path : List ℕ)
+        → known_at all.new path ≡ known_with (known_at all.old path) path (entry_view entry.now)) }
+{
     let Some(known) = known_file(&entry.node)? else {
         return Ok(());
     };
