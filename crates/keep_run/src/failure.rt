@@ -1,4 +1,5 @@
-ghost use Rattle.std.specs.Prelude.{⊤};
+ghost use Rattle.std.specs.Prelude.{◌≡◌, ⊤};
+ghost use Rattle.keep_run.specs.Status.{status_of};
 
 use std::alloc::{AllocError, AllocFailed, Global};
 use std::fmt;
@@ -41,7 +42,9 @@ impl Failure {
 
     /// The exit status: 1 where the command was refused or failed, 2 where its words are bad, 3 where it is done but for
     /// some files.
-    fn code(&self) -> u8 {
+    fn code(&self) -> u8
+        ensures { result ≡ status_of self.now }
+    {
         match self {
             Failure::BadWords | Failure::Unmeant(_) => 2,
             Failure::Partly => 3,
@@ -67,7 +70,9 @@ impl<T: Drop> From<AllocFailed<T>> for Failure {
 }
 
 /// Says on standard error why the command wasn't done, and answers the exit status.
-pub fn report_failure(rt: &HostRuntime, failure: Failure) -> u8 {
+pub fn report_failure(rt: &HostRuntime, failure: Failure) -> u8
+    ensures { result ≡ status_of failure }
+{
     let code = failure.code();
     let _said = match failure {
         Failure::Unmeant(cause) | Failure::Refused(cause) => eprintln!(rt; "keep: {cause}"),

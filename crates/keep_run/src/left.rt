@@ -1,3 +1,5 @@
+ghost use Rattle.std.specs.Prelude.{◌≡◌, [], OnOk};
+
 use crate::failure::Failure;
 use crate::run::Run;
 use keep_tables::shown;
@@ -11,7 +13,9 @@ pub struct Left {
 }
 
 /// Names each on standard error. There is none where it is done whole.
-pub fn name_left(run: &Run<'_>, left: &[Left]) -> Result<(), Failure> {
+pub fn name_left(run: &Run<'_>, left: &[Left]) -> Result<(), Failure>
+    ensures { OnOk result (left.now ≡ []) }
+{
     for one in left {
         let path = shown(run.alloc, one.path.as_str())?;
         let _said = eprintln!(run.rt; "keep: {path}: {}", one.why);
@@ -23,7 +27,7 @@ pub fn name_left(run: &Run<'_>, left: &[Left]) -> Result<(), Failure> {
     }
 }
 
-/// They as a list of JSON objects.
+/// What is left out, and why, as a list of JSON objects.
 pub fn left_value(run: &Run<'_>, left: &[Left]) -> Result<Value, Failure> {
     let mut values = Vec::new(run.alloc);
     for one in left {

@@ -1,3 +1,9 @@
+ghost use Rattle.std.specs.Prelude.{◌≡◌, IfOk, Ok, Some, map};
+ghost use Rattle.keep_acts.specs.Shown.{shown_by};
+ghost use Rattle.keep_book.specs.Armed.{ledger_of};
+ghost use Rattle.keep_looks.specs.Shown.{IsNamed};
+ghost use Rattle.keep_patterns.specs.Parsing.{pattern_of as pattern_due, pattern_view};
+
 use crate::failure::Failure;
 use crate::run::Run;
 use keep_book::Book;
@@ -8,7 +14,10 @@ use keep_patterns::{Pattern, PatternError, parse_pattern};
 use keep_shelf::Shelf;
 
 /// The snapshot that the text means: a first part of its id, `latest`, or `@N`.
-pub fn meant<S: Shelf>(run: &Run<'_>, book: &Book<S>, text: &str) -> Result<Id, Failure> {
+pub fn meant<S: Shelf>(run: &Run<'_>, book: &Book<S>, text: &str) -> Result<Id, Failure>
+    ensures { IfOk result (λ id. let b = ledger_of book.now in
+        ∥ IsNamed b.events (shown_by b).repo text.now (Ok id) ∥₁) }
+{
     let view = book.ledger().view();
     match snapshot_named(run.alloc, &view, book.ledger().history(), text) {
         Ok(id) => Ok(id),
@@ -18,7 +27,10 @@ pub fn meant<S: Shelf>(run: &Run<'_>, book: &Book<S>, text: &str) -> Result<Id, 
 }
 
 /// The patterns that the words are.
-pub fn patterns_of(run: &Run<'_>, words: &[&str]) -> Result<Vec<Pattern>, Failure> {
+pub fn patterns_of(run: &Run<'_>, words: &[&str]) -> Result<Vec<Pattern>, Failure>
+    ensures { IfOk result (λ patterns. map (λ pattern. Some (pattern_view pattern)) patterns.items
+        ≡ map (λ word. pattern_due word.now) words.now) }
+{
     let mut patterns = Vec::new(run.alloc);
     for word in words {
         patterns.push(pattern_of(run, word)?)?;
@@ -27,7 +39,9 @@ pub fn patterns_of(run: &Run<'_>, words: &[&str]) -> Result<Vec<Pattern>, Failur
 }
 
 /// The pattern that the word is.
-pub fn pattern_of(run: &Run<'_>, word: &str) -> Result<Pattern, Failure> {
+pub fn pattern_of(run: &Run<'_>, word: &str) -> Result<Pattern, Failure>
+    ensures { IfOk result (λ pattern. pattern_due word.now ≡ Some (pattern_view pattern)) }
+{
     match parse_pattern(run.alloc, word) {
         Ok(pattern) => Ok(pattern),
         Err(PatternError::Memory) => Err(Failure::Memory),

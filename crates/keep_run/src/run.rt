@@ -1,3 +1,6 @@
+ghost use Rattle.std.specs.Prelude.{◌≡◌};
+ghost use Rattle.keep_run.specs.Cutting.{piece_length};
+
 use crate::failure::Failure;
 use keep_docs::write_doc;
 use keep_jobs::{Cut, Settings};
@@ -27,7 +30,10 @@ pub struct Run<'a> {
 
 impl Run<'_> {
     /// What planners go by.
-    pub fn settings(&self) -> Settings {
+    pub fn settings(&self) -> Settings
+        ensures cut { result.cut.bytes ≡ piece_length }
+        ensures now { result.now ≡ self.entry.now.now }
+    {
         Settings {
             cut: Cut::after(CUT),
             now: self.now,
