@@ -1,8 +1,11 @@
 //! The command `backup`, of files of the machine.
 #![tactic(auto)]
 
+mod asked;
 mod backing;
 mod places;
+mod printing;
 mod unchanged;
 
-pub use backing::{Asked, asked_for, backup};
+pub use asked::{Asked, asked_for};
+pub use backing::backup;
