@@ -12,7 +12,7 @@ pub fn planned_desks_lose_nothing<B: Naming>()
     planned_histories_lose_nothing();
 }
 
-/// So does a crew whose operators work at once.
+/// A crew whose operators work at once leaves a planned history too, so no snapshot loses a blob by what they do.
 pub fn planned_crews_lose_nothing()
     ensures { CrewsLoseNothing }
 {
