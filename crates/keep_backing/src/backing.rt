@@ -1,8 +1,9 @@
-ghost use Rattle.std.specs.Prelude.{◌≡◌, IfErr, IfOk, IfSome, None, map, string_bytes};
+ghost use Rattle.std.specs.Prelude.{◌≡◌, [], IfErr, IfOk, IfSome, None, map, string_bytes};
 ghost use Rattle.keep_backing.specs.Asked.{IsAskedAnew, facts_of as asked_facts, job_of as asked_job};
-ghost use Rattle.keep_backing.specs.Backed.{IsBackedUp, MayBeBackedUp};
-ghost use Rattle.keep_backups.specs.Parts.{StoresParts};
+ghost use Rattle.keep_backing.specs.Backed.{MayBeBackedUp};
+ghost use Rattle.keep_backups.specs.Parts.{BacksUp, StoresParts};
 ghost use Rattle.keep_book.specs.Armed.{HasSums, ledger_of};
+ghost use Rattle.keep_run.specs.Cutting.{piece_length};
 
 use crate::asked::Asked;
 use crate::printing::print_end;
@@ -20,7 +21,7 @@ use std::collections::HashMap;
 /// `keep backup` of what is asked for of this source. Where it is tried alone, the book is one over a copy in memory. This
 /// hashes what can be hashed together.
 ///
-/// Where a file that was known lacks a piece by now there is no snapshot, and what is handed back is to be asked for: of
+/// Where it ends well nothing was left out. Where a file that was known lacks a piece by now there is no snapshot, and what is handed back is to be asked for: of
 /// it no file is known.
 pub fn backup<S: Shelf, R: Source, H: Hashing + Copy>(
     run: &Run<'_>,
@@ -31,8 +32,8 @@ pub fn backup<S: Shelf, R: Source, H: Hashing + Copy>(
     asked: Asked,
 ) -> Result<Option<Asked>, Failure>
     requires { HasSums book.old }
-    ensures added { IfOk result (λ again. again ≡ None → ∥ IsBackedUp R.told (asked_job asked) (asked_facts asked)
-        (map (λ tag. tag.now) words.now.tags.items) (ledger_of book.old) (ledger_of book.new) ∥₁) }
+    ensures added { IfOk result (λ again. again ≡ None → ∥ BacksUp R.told (asked_job asked) piece_length (asked_facts asked)
+        (map (λ tag. tag.now) words.now.tags.items) (ledger_of book.old) (ledger_of book.new) [] ∥₁) }
     ensures again { IfOk result (λ again. IfSome again (λ anew. IsAskedAnew asked anew)) }
     ensures parts { IfOk result (λ again. IfSome again (λ _. ∥ StoresParts (ledger_of book.old) (ledger_of book.new) ∥₁)) }
     ensures failed { IfErr result (λ _. ∥ MayBeBackedUp R.told (asked_job asked) (asked_facts asked)
@@ -60,8 +61,9 @@ fn walked<S: Shelf, R: Source, H: Hashing + Copy>(
     asked: &Asked,
 ) -> Result<Result<BackedUp, NotBackedUp>, Failure>
     requires { HasSums book.old }
-    ensures added { IfOk result (λ came. IfOk came (λ _. ∥ IsBackedUp R.told (asked_job asked.now) (asked_facts asked.now)
-        (map (λ tag. tag.now) words.now.tags.items) (ledger_of book.old) (ledger_of book.new) ∥₁)) }
+    ensures added { IfOk result (λ came. IfOk came (λ done. ∥ BacksUp R.told (asked_job asked.now) piece_length
+        (asked_facts asked.now) (map (λ tag. tag.now) words.now.tags.items) (ledger_of book.old) (ledger_of book.new)
+        done.skipped.items ∥₁)) }
     ensures parts { IfOk result (λ came. IfErr came (λ _. ∥ StoresParts (ledger_of book.old) (ledger_of book.new) ∥₁)) }
     ensures failed { IfErr result (λ _. ∥ MayBeBackedUp R.told (asked_job asked.now) (asked_facts asked.now)
         (map (λ tag. tag.now) words.now.tags.items) (ledger_of book.old) (ledger_of book.new) ∥₁) }

@@ -1,4 +1,5 @@
-ghost use Rattle.std.specs.Prelude.{IsOk, OnOk};
+ghost use Rattle.std.specs.Prelude.{◌≡◌, [], IfOk, OnOk, length};
+ghost use Rattle.std.specs.Result.{IsOkAnd};
 
 use keep_acts::PlanAdvice;
 use keep_backups::{BackedUp, NotBackedUp};
@@ -13,7 +14,7 @@ pub(crate) fn print_end(
     came: Result<BackedUp, NotBackedUp>,
     is_dry: bool,
 ) -> Result<(), Failure>
-    ensures { OnOk result (IsOk came) }
+    ensures { OnOk result (IsOkAnd came (λ done. done.skipped.items ≡ [])) }
 {
     match came {
         Ok(done) => print_backup(run, &done, is_dry),
@@ -30,7 +31,9 @@ pub(crate) fn print_end(
 }
 
 /// Prints what the backup came to, and names what isn't in it.
-fn print_backup(run: &Run<'_>, done: &BackedUp, is_dry: bool) -> Result<(), Failure> {
+fn print_backup(run: &Run<'_>, done: &BackedUp, is_dry: bool) -> Result<(), Failure>
+    ensures { OnOk result (done.now.skipped.items ≡ []) }
+{
     let left = left_of(run, done)?;
     let left = left.as_slice();
     let number = done.made.number;
@@ -62,7 +65,9 @@ fn print_backup(run: &Run<'_>, done: &BackedUp, is_dry: bool) -> Result<(), Fail
 }
 
 /// What isn't in the backup, or not as it was seen, in words.
-fn left_of(run: &Run<'_>, done: &BackedUp) -> Result<Vec<Left>, Failure> {
+fn left_of(run: &Run<'_>, done: &BackedUp) -> Result<Vec<Left>, Failure>
+    ensures { IfOk result (λ left. length left.items ≡ length done.now.skipped.items) }
+{
     let mut left = Vec::new(run.alloc);
     for one in &done.skipped {
         let path = format!(in run.alloc; "/{}", one.path)?;
