@@ -1,4 +1,6 @@
-ghost use Rattle.keep_book.specs.Armed.{HasSums};
+ghost use Rattle.std.specs.Prelude.{◌≡◌, [], OnOk};
+ghost use Rattle.keep_book.specs.Armed.{HasSums, ledger_of};
+ghost use Rattle.keep_read.specs.Findings.{findings_in};
 
 use keep_book::Book;
 use keep_catalog::Hashing;
@@ -16,22 +18,32 @@ pub fn check<S: Shelf, H: Hashing + Drop>(
     mut hashing: H,
 ) -> Result<(), Failure>
     requires { HasSums book.old }
+    ensures well { OnOk result (findings_in (ledger_of book.new).live ≡ []) }
+    ensures same { ledger_of book.new ≡ ledger_of book.old }
 {
     book.hash_all(&mut hashing);
     let findings = audit_with(run.alloc, &book.ledger().view(), &mut hashing)?;
     drop(hashing);
+    print_findings(run, &findings)
+}
+
+/// Prints what is wrong. There is something where it fails.
+fn print_findings(run: &Run<'_>, findings: &[Finding]) -> Result<(), Failure>
+    ensures { OnOk result (findings.now ≡ []) }
+{
+    if findings.is_empty() && !run.is_json {
+        return run.print(b"nothing is wrong\n");
+    }
     let mut rows = Vec::new(run.alloc);
-    for finding in &findings {
+    for finding in findings {
         rows.push(row_of(run, *finding)?)?;
     }
-    if !rows.is_empty() {
-        print_rows(run, rows.as_slice())?;
-        return Err(Failure::Told);
+    print_rows(run, rows.as_slice())?;
+    if findings.is_empty() {
+        Ok(())
+    } else {
+        Err(Failure::Told)
     }
-    if run.is_json {
-        return print_rows(run, rows.as_slice());
-    }
-    run.print(b"nothing is wrong\n")
 }
 
 /// The row of something that is wrong.
