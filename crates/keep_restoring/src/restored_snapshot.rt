@@ -1,3 +1,5 @@
+ghost use Rattle.std.specs.Prelude.{◌≡◌, [], IfOk, OnOk, length};
+
 use keep_book::Book;
 use keep_host_target::{caller, open_target};
 use keep_progress::{CountedTarget, Meter};
@@ -52,9 +54,16 @@ pub fn restore_snapshot<S: Shelf>(
 }
 
 /// Prints what was put back, and names what isn't as the snapshot says.
-fn print_restored(run: &Run<'_>, restored: &Restored) -> Result<(), Failure> {
+fn print_restored(run: &Run<'_>, restored: &Restored) -> Result<(), Failure>
+    ensures { OnOk result (restored.now.left_out.items ≡ []) }
+{
     let left = left_of(run, restored)?;
-    let left = left.as_slice();
+    print_counts(run, restored, left.as_slice())?;
+    name_left(run, left.as_slice())
+}
+
+/// Prints how much was put back.
+fn print_counts(run: &Run<'_>, restored: &Restored, left: &[Left]) -> Result<(), Failure> {
     let Restored {
         files,
         folders,
@@ -75,8 +84,7 @@ fn print_restored(run: &Run<'_>, restored: &Restored) -> Result<(), Failure> {
             "links": *links,
             "owners": *owners
         })?;
-        run.print_value(&value)?;
-        return name_left(run, left);
+        return run.print_value(&value);
     }
     let bytes = size(run.alloc, *bytes)?;
     let text = format!(in run.alloc;
@@ -87,11 +95,13 @@ fn print_restored(run: &Run<'_>, restored: &Restored) -> Result<(), Failure> {
         let text = format!(in run.alloc; "of another owner than in the snapshot: {owners}\n")?;
         run.print(text.as_bytes())?;
     }
-    name_left(run, left)
+    Ok(())
 }
 
 /// What isn't as the snapshot says, in words.
-fn left_of(run: &Run<'_>, restored: &Restored) -> Result<Vec<Left>, Failure> {
+fn left_of(run: &Run<'_>, restored: &Restored) -> Result<Vec<Left>, Failure>
+    ensures { IfOk result (λ left. length left.items ≡ length restored.now.left_out.items) }
+{
     let mut left = Vec::new(run.alloc);
     for one in &restored.left_out {
         let path = one.path.clone()?;
